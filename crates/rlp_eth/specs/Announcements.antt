@@ -1,6 +1,6 @@
 -- How announcements are written and read.
 use Rattle.std.specs.Vec.{vec_items}
-use Rattle.rlp_reading.specs.Codec.{Codec, Fields, byte_string, end, field, list_type, number, struct_of, uint}
+use Rattle.rlp.specs.Codec.{Codec, Fields, byte_string, end, field, list_type, number, struct_of, uint}
 use Rattle.rlp_eth.specs.declared.announcements.NewBlockHash.{NewBlockHash}
 use Rattle.rlp_eth.specs.declared.announcements.NewBlockHashes.{NewBlockHashes}
 use Rattle.rlp_eth.specs.declared.announcements.NewPooledTransactionHashes.{NewPooledTransactionHashes}

@@ -11,7 +11,7 @@ use Rattle.rlp.specs.Values.RoundTrip.{ReadsBack}
 use Rattle.rlp.specs.Values.Value.{FitsBytes}
 use Rattle.rlp.specs.Values.ValueReading.{FaultsAsNumber, GivesNumber, GivesValue, IsLengthFault}
 use Rattle.rlp.specs.Views.View.{View, HoldsItem, strict_view_of, view_of}
-use Rattle.rlp_reading.specs.Codec.{Codec}
+use Rattle.rlp.specs.Codec.{Codec}
 use Rattle.rlp_records.specs.declared.hash.Hash.{Hash as BlockHash}
 use Rattle.rlp_eth.specs.declared.hash_or_number.HashOrNumber.{HashOrNumber}
 use Rattle.rlp_eth.specs.declared.hash_or_number.HashOrNumber.TheVariants.{Hash, Number}

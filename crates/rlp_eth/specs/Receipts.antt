@@ -1,6 +1,6 @@
 -- How answers with receipts are written and read.
 use Rattle.std.specs.Vec.{vec_items}
-use Rattle.rlp_reading.specs.Codec.{Codec, list_type}
+use Rattle.rlp.specs.Codec.{Codec, list_type}
 use Rattle.rlp_eth.specs.declared.receipts.BlockReceipts.{BlockReceipts}
 use Rattle.rlp_eth.specs.declared.receipts.Receipts.{Receipts}
 use Rattle.rlp_headers.specs.TypedReceipt.{typed_receipt}

@@ -1,6 +1,6 @@
 -- How answers with receipts are written and read since eth/69.
 use Rattle.std.specs.Vec.{vec_items}
-use Rattle.rlp_reading.specs.Codec.{Codec, Fields, end, field, list_type, number, struct_of}
+use Rattle.rlp.specs.Codec.{Codec, Fields, end, field, list_type, number, struct_of}
 use Rattle.rlp_eth.specs.declared.receipts69.BlockReceipts69.{BlockReceipts69}
 use Rattle.rlp_eth.specs.declared.receipts69.Receipt69.{Receipt69}
 use Rattle.rlp_eth.specs.declared.receipts69.Receipts69.{Receipts69}

@@ -1,6 +1,6 @@
 -- How requests and their answers are written and read.
 use Rattle.std.specs.Vec.{vec_items}
-use Rattle.rlp_reading.specs.Codec.{Codec, Fields, end, field, list_type, number, struct_of, truth_value}
+use Rattle.rlp.specs.Codec.{Codec, Fields, end, field, list_type, number, struct_of, truth_value}
 use Rattle.rlp_eth.specs.declared.requests.GetBlockHeaders.{GetBlockHeaders}
 use Rattle.rlp_eth.specs.declared.requests.BlockHeaders.{BlockHeaders}
 use Rattle.rlp_eth.specs.declared.requests.GetBlockBodies.{GetBlockBodies}

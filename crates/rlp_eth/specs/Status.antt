@@ -1,5 +1,5 @@
 -- How messages that say what a client knows are written and read.
-use Rattle.rlp_reading.specs.Codec.{Codec, Fields, byte_array, end, field, newtype, number, struct_of, uint}
+use Rattle.rlp.specs.Codec.{Codec, Fields, byte_array, end, field, newtype, number, struct_of, uint}
 use Rattle.rlp_eth.specs.declared.status.ForkHash.{ForkHash}
 use Rattle.rlp_eth.specs.declared.status.ForkId.{ForkId}
 use Rattle.rlp_eth.specs.declared.status.Status68.{Status68}

@@ -5,7 +5,7 @@ use Rattle.rlp.specs.Views.View.{View, item_count}
 use Rattle.rlp.specs.Values.ListReading.{GivesAt, GivesSomeAt, MayLackAt}
 use Rattle.rlp.specs.Values.ValueReading.{FaultsAsNumber, GivesNumber}
 use Rattle.rlp.specs.Values.FieldReading.{FaultsAsStruct, MayLackAsStruct, NoMore, by_place}
-use Rattle.rlp_reading.specs.Codec.{Codec, Fields, end, field, number, struct_of}
+use Rattle.rlp.specs.Codec.{Codec, Fields, end, field, number, struct_of}
 use Rattle.rlp_eth.specs.declared.with_request_id.WithRequestId.{WithRequestId}
 
 -- EIP-2481: [request-id: P, content]

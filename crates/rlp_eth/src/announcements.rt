@@ -3,8 +3,7 @@
 
 ghost use Rattle.rlp_eth.specs.Announcements.{new_block_hash, new_block_hashes, new_pooled_transaction_hashes, block_range_update, new_block, transactions};
 
-use rlp::{DecoderError, Each, Encodable, ListOf, Rlp, RlpStream, Uint};
-use rlp_reading::{Decodable, RoundTrip, StrictRead};
+use rlp::{Decodable, DecoderError, Each, Encodable, ListOf, Rlp, RlpStream, RoundTrip, StrictRead, Uint};
 use rlp_ethereum::{AnyTransaction, Block, Hash};
 use std::alloc::{AllocError, Global};
 
@@ -31,7 +30,7 @@ impl Decodable for NewBlockHash {
     ghost reading = { new_block_hash.reading };
 
     fn decode(alloc: Global, rlp: &Rlp<'_>) -> Result<NewBlockHash, DecoderError> {
-        rlp_reading::decode_fields!(alloc, rlp, NewBlockHash { hash, number })
+        rlp::decode_fields!(alloc, rlp, NewBlockHash { hash, number })
     }
 }
 
@@ -61,7 +60,7 @@ impl Decodable for NewBlockHashes {
     ghost reading = { new_block_hashes.reading };
 
     fn decode(alloc: Global, rlp: &Rlp<'_>) -> Result<NewBlockHashes, DecoderError> {
-        let blocks = rlp_reading::as_list(alloc, rlp)?;
+        let blocks = rlp::as_list(alloc, rlp)?;
         Ok(NewBlockHashes(blocks))
     }
 }
@@ -100,7 +99,7 @@ impl Decodable for NewPooledTransactionHashes {
     ghost reading = { new_pooled_transaction_hashes.reading };
 
     fn decode(alloc: Global, rlp: &Rlp<'_>) -> Result<NewPooledTransactionHashes, DecoderError> {
-        rlp_reading::decode_fields!(
+        rlp::decode_fields!(
             alloc,
             rlp,
             NewPooledTransactionHashes {
@@ -151,7 +150,7 @@ impl Decodable for BlockRangeUpdate {
     ghost reading = { block_range_update.reading };
 
     fn decode(alloc: Global, rlp: &Rlp<'_>) -> Result<BlockRangeUpdate, DecoderError> {
-        rlp_reading::decode_fields!(
+        rlp::decode_fields!(
             alloc,
             rlp,
             BlockRangeUpdate {
@@ -194,7 +193,7 @@ impl Decodable for NewBlock {
     ghost reading = { new_block.reading };
 
     fn decode(alloc: Global, rlp: &Rlp<'_>) -> Result<NewBlock, DecoderError> {
-        rlp_reading::decode_fields!(
+        rlp::decode_fields!(
             alloc,
             rlp,
             NewBlock {
@@ -232,7 +231,7 @@ impl Decodable for Transactions {
     ghost reading = { transactions.reading };
 
     fn decode(alloc: Global, rlp: &Rlp<'_>) -> Result<Transactions, DecoderError> {
-        let transactions = rlp_reading::as_list(alloc, rlp)?;
+        let transactions = rlp::as_list(alloc, rlp)?;
         Ok(Transactions(transactions))
     }
 }

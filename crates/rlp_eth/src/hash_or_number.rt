@@ -2,8 +2,7 @@
 
 ghost use Rattle.rlp_eth.specs.HashOrNumber.{hash_or_number};
 
-use rlp::{DecoderError, Encodable, Rlp, RlpStream};
-use rlp_reading::{Decodable, RoundTrip, StrictRead};
+use rlp::{Decodable, DecoderError, Encodable, Rlp, RlpStream, RoundTrip, StrictRead};
 use rlp_ethereum::Hash;
 use std::alloc::{AllocError, Global};
 

@@ -2,8 +2,7 @@
 
 ghost use Rattle.rlp_eth.specs.Receipts.{block_receipts, receipts};
 
-use rlp::{DecoderError, Each, Encodable, Rlp, RlpStream};
-use rlp_reading::{Decodable, RoundTrip, StrictRead};
+use rlp::{Decodable, DecoderError, Each, Encodable, Rlp, RlpStream, RoundTrip, StrictRead};
 use rlp_ethereum::TypedReceipt;
 use std::alloc::{AllocError, Global};
 
@@ -25,7 +24,7 @@ impl Decodable for BlockReceipts {
     ghost reading = { block_receipts.reading };
 
     fn decode(alloc: Global, rlp: &Rlp<'_>) -> Result<BlockReceipts, DecoderError> {
-        let receipts = rlp_reading::as_list(alloc, rlp)?;
+        let receipts = rlp::as_list(alloc, rlp)?;
         Ok(BlockReceipts(receipts))
     }
 }
@@ -57,7 +56,7 @@ impl Decodable for Receipts {
     ghost reading = { receipts.reading };
 
     fn decode(alloc: Global, rlp: &Rlp<'_>) -> Result<Receipts, DecoderError> {
-        let blocks = rlp_reading::as_list(alloc, rlp)?;
+        let blocks = rlp::as_list(alloc, rlp)?;
         Ok(Receipts(blocks))
     }
 }

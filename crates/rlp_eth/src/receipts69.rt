@@ -2,8 +2,7 @@
 
 ghost use Rattle.rlp_eth.specs.Receipts69.{block_receipts69, receipt69, receipts69};
 
-use rlp::{DecoderError, Each, Encodable, ListOf, Rlp, RlpStream};
-use rlp_reading::{Decodable, RoundTrip, StrictRead};
+use rlp::{Decodable, DecoderError, Each, Encodable, ListOf, Rlp, RlpStream, RoundTrip, StrictRead};
 use rlp_ethereum::{Log, ReceiptStatus};
 use std::alloc::{AllocError, Global};
 
@@ -41,7 +40,7 @@ impl Decodable for Receipt69 {
     ghost reading = { receipt69.reading };
 
     fn decode(alloc: Global, rlp: &Rlp<'_>) -> Result<Receipt69, DecoderError> {
-        rlp_reading::decode_fields!(
+        rlp::decode_fields!(
             alloc,
             rlp,
             Receipt69 {
@@ -80,7 +79,7 @@ impl Decodable for BlockReceipts69 {
     ghost reading = { block_receipts69.reading };
 
     fn decode(alloc: Global, rlp: &Rlp<'_>) -> Result<BlockReceipts69, DecoderError> {
-        let receipts = rlp_reading::as_list(alloc, rlp)?;
+        let receipts = rlp::as_list(alloc, rlp)?;
         Ok(BlockReceipts69(receipts))
     }
 }
@@ -112,7 +111,7 @@ impl Decodable for Receipts69 {
     ghost reading = { receipts69.reading };
 
     fn decode(alloc: Global, rlp: &Rlp<'_>) -> Result<Receipts69, DecoderError> {
-        let blocks = rlp_reading::as_list(alloc, rlp)?;
+        let blocks = rlp::as_list(alloc, rlp)?;
         Ok(Receipts69(blocks))
     }
 }

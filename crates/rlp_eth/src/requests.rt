@@ -3,8 +3,7 @@
 ghost use Rattle.rlp_eth.specs.Requests.{get_block_headers, block_headers, get_block_bodies, block_bodies, get_pooled_transactions, get_receipts, pooled_transactions};
 
 use crate::HashOrNumber;
-use rlp::{DecoderError, Each, Encodable, Rlp, RlpStream};
-use rlp_reading::{Decodable, RoundTrip, StrictRead};
+use rlp::{Decodable, DecoderError, Each, Encodable, Rlp, RlpStream, RoundTrip, StrictRead};
 use rlp_ethereum::{AnyTransaction, Body, Hash, Header};
 use std::alloc::{AllocError, Global};
 
@@ -35,7 +34,7 @@ impl Decodable for GetBlockHeaders {
     ghost reading = { get_block_headers.reading };
 
     fn decode(alloc: Global, rlp: &Rlp<'_>) -> Result<GetBlockHeaders, DecoderError> {
-        rlp_reading::decode_fields!(
+        rlp::decode_fields!(
             alloc,
             rlp,
             GetBlockHeaders {
@@ -74,7 +73,7 @@ impl Decodable for BlockHeaders {
     ghost reading = { block_headers.reading };
 
     fn decode(alloc: Global, rlp: &Rlp<'_>) -> Result<BlockHeaders, DecoderError> {
-        let headers = rlp_reading::as_list(alloc, rlp)?;
+        let headers = rlp::as_list(alloc, rlp)?;
         Ok(BlockHeaders(headers))
     }
 }
@@ -105,7 +104,7 @@ impl Decodable for GetBlockBodies {
     ghost reading = { get_block_bodies.reading };
 
     fn decode(alloc: Global, rlp: &Rlp<'_>) -> Result<GetBlockBodies, DecoderError> {
-        let hashes = rlp_reading::as_list(alloc, rlp)?;
+        let hashes = rlp::as_list(alloc, rlp)?;
         Ok(GetBlockBodies(hashes))
     }
 }
@@ -136,7 +135,7 @@ impl Decodable for BlockBodies {
     ghost reading = { block_bodies.reading };
 
     fn decode(alloc: Global, rlp: &Rlp<'_>) -> Result<BlockBodies, DecoderError> {
-        let bodies = rlp_reading::as_list(alloc, rlp)?;
+        let bodies = rlp::as_list(alloc, rlp)?;
         Ok(BlockBodies(bodies))
     }
 }
@@ -168,7 +167,7 @@ impl Decodable for GetPooledTransactions {
     ghost reading = { get_pooled_transactions.reading };
 
     fn decode(alloc: Global, rlp: &Rlp<'_>) -> Result<GetPooledTransactions, DecoderError> {
-        let transactions = rlp_reading::as_list(alloc, rlp)?;
+        let transactions = rlp::as_list(alloc, rlp)?;
         Ok(GetPooledTransactions(transactions))
     }
 }
@@ -201,7 +200,7 @@ impl Decodable for PooledTransactions {
     ghost reading = { pooled_transactions.reading };
 
     fn decode(alloc: Global, rlp: &Rlp<'_>) -> Result<PooledTransactions, DecoderError> {
-        let transactions = rlp_reading::as_list(alloc, rlp)?;
+        let transactions = rlp::as_list(alloc, rlp)?;
         Ok(PooledTransactions(transactions))
     }
 }
@@ -232,7 +231,7 @@ impl Decodable for GetReceipts {
     ghost reading = { get_receipts.reading };
 
     fn decode(alloc: Global, rlp: &Rlp<'_>) -> Result<GetReceipts, DecoderError> {
-        let blocks = rlp_reading::as_list(alloc, rlp)?;
+        let blocks = rlp::as_list(alloc, rlp)?;
         Ok(GetReceipts(blocks))
     }
 }

@@ -2,8 +2,7 @@
 
 ghost use Rattle.rlp_eth.specs.Status.{fork_hash, fork_id, status68, status69};
 
-use rlp::{DecoderError, Encodable, Rlp, RlpStream, Uint};
-use rlp_reading::{Decodable, RoundTrip, StrictRead};
+use rlp::{Decodable, DecoderError, Encodable, Rlp, RlpStream, RoundTrip, StrictRead, Uint};
 use rlp_ethereum::Hash;
 use std::alloc::{AllocError, Global};
 
@@ -64,7 +63,7 @@ impl Decodable for ForkId {
     ghost reading = { fork_id.reading };
 
     fn decode(alloc: Global, rlp: &Rlp<'_>) -> Result<ForkId, DecoderError> {
-        rlp_reading::decode_fields!(
+        rlp::decode_fields!(
             alloc,
             rlp,
             ForkId {
@@ -122,7 +121,7 @@ impl Decodable for Status68 {
     ghost reading = { status68.reading };
 
     fn decode(alloc: Global, rlp: &Rlp<'_>) -> Result<Status68, DecoderError> {
-        rlp_reading::decode_fields!(
+        rlp::decode_fields!(
             alloc,
             rlp,
             Status68 {
@@ -187,7 +186,7 @@ impl Decodable for Status69 {
     ghost reading = { status69.reading };
 
     fn decode(alloc: Global, rlp: &Rlp<'_>) -> Result<Status69, DecoderError> {
-        rlp_reading::decode_fields!(
+        rlp::decode_fields!(
             alloc,
             rlp,
             Status69 {

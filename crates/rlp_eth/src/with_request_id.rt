@@ -6,8 +6,7 @@ ghost use Rattle.rlp.specs.Values.Value.{FitsBytes, number_item};
 ghost use Rattle.rlp.specs.Codec.{codec_of};
 ghost use Rattle.rlp_eth.specs.WithRequestId.{FaultsWithRequestId, GivesWithRequestId, MayLackWithRequestId, with_request_id};
 
-use rlp::{DecoderError, Encodable, Rlp, RlpStream};
-use rlp_reading::{Decodable, RoundTrip, StrictRead};
+use rlp::{Decodable, DecoderError, Encodable, Rlp, RlpStream, RoundTrip, StrictRead};
 use std::alloc::{AllocError, Global};
 
 /// A request or its answer, with the number that they share: the list of both fields, as in
@@ -35,7 +34,7 @@ impl<T: Decodable> Decodable for WithRequestId<T> {
     ghost reading = { GivesWithRequestId T.reading };
 
     fn decode(alloc: Global, rlp: &Rlp<'_>) -> Result<WithRequestId<T>, DecoderError> {
-        rlp_reading::decode_fields!(
+        rlp::decode_fields!(
             alloc,
             rlp,
             WithRequestId {

@@ -1,5 +1,5 @@
 -- How messages that keep a connection are written and read.
-use Rattle.rlp_reading.specs.Codec.{Codec, end, struct_of}
+use Rattle.rlp.specs.Codec.{Codec, end, struct_of}
 use Rattle.rlp_p2p.specs.declared.session.Ping.{Ping}
 use Rattle.rlp_p2p.specs.declared.session.Pong.{Pong}
 

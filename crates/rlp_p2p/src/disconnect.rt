@@ -3,8 +3,7 @@
 ghost use Rattle.std.specs.Prelude.{◌≡◌};
 ghost use Rattle.rlp_p2p.specs.Disconnect.{NamedIfPossible, disconnect, reason, reason_number, told_reason};
 
-use rlp::{DecoderError, Encodable, Rlp, RlpStream};
-use rlp_reading::{Decodable, RoundTrip, StrictRead};
+use rlp::{Decodable, DecoderError, Encodable, Rlp, RlpStream, RoundTrip, StrictRead};
 use std::alloc::{AllocError, Global};
 
 /// Why a client ends a connection: a number of one byte, by its name in RLPx.
@@ -158,7 +157,7 @@ impl Decodable for Disconnect {
 
     fn decode(alloc: Global, rlp: &Rlp<'_>) -> Result<Disconnect, DecoderError> {
         if rlp.is_list() {
-            return match rlp_reading::decode_struct(alloc, rlp) {
+            return match rlp::decode_struct(alloc, rlp) {
                 Ok(fields) => {
                     let (Field(reason), no_more) = fields;
                     let () = no_more;

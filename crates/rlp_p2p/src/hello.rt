@@ -3,8 +3,7 @@
 ghost use Rattle.std.specs.Prelude.{refl};
 ghost use Rattle.rlp_p2p.specs.Hello.{node_id, capability, further_fields, hello};
 
-use rlp::{AppendFields, DecoderError, Encodable, Flattened, ListOf, RawItem, Rlp, RlpStream};
-use rlp_reading::{Decodable, DecodeFields, FieldFault, Fields, FixedFields, RoundTrip, StrictRead};
+use rlp::{AppendFields, Decodable, DecodeFields, DecoderError, Encodable, FieldFault, Fields, FixedFields, Flattened, ListOf, RawItem, Rlp, RlpStream, RoundTrip, StrictRead};
 use std::alloc::{AllocError, Global};
 
 /// The public key of a client: 64 bytes.
@@ -65,7 +64,7 @@ impl Decodable for Capability {
     ghost reading = { capability.reading };
 
     fn decode(alloc: Global, rlp: &Rlp<'_>) -> Result<Capability, DecoderError> {
-        rlp_reading::decode_fields!(alloc, rlp, Capability { name, version })
+        rlp::decode_fields!(alloc, rlp, Capability { name, version })
     }
 }
 
@@ -110,7 +109,7 @@ impl DecodeFields for FurtherItem {
         fields: &mut Fields<'_>,
         len: usize,
     ) -> Result<FurtherItem, FieldFault> {
-        rlp_reading::decode_fields!(alloc, fields, len, FurtherItem { item })
+        rlp::decode_fields!(alloc, fields, len, FurtherItem { item })
     }
 }
 
@@ -166,7 +165,7 @@ impl Decodable for Hello {
     ghost reading = { hello.reading };
 
     fn decode(alloc: Global, rlp: &Rlp<'_>) -> Result<Hello, DecoderError> {
-        rlp_reading::decode_fields!(
+        rlp::decode_fields!(
             alloc,
             rlp,
             Hello {

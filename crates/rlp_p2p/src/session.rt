@@ -2,8 +2,7 @@
 
 ghost use Rattle.rlp_p2p.specs.Session.{ping, pong};
 
-use rlp::{DecoderError, Encodable, Rlp, RlpStream};
-use rlp_reading::{Decodable, RoundTrip, StrictRead};
+use rlp::{Decodable, DecoderError, Encodable, Rlp, RlpStream, RoundTrip, StrictRead};
 use std::alloc::{AllocError, Global};
 
 /// Asks for a [`Pong`], message 0x02 of `p2p`: the list of no items.
@@ -26,7 +25,7 @@ impl Decodable for Ping {
     ghost reading = { ping.reading };
 
     fn decode(alloc: Global, rlp: &Rlp<'_>) -> Result<Ping, DecoderError> {
-        match rlp_reading::decode_struct(alloc, rlp) {
+        match rlp::decode_struct(alloc, rlp) {
             Ok(()) => Ok(Ping),
             Err(fault) => Err(fault.fault),
         }
@@ -61,7 +60,7 @@ impl Decodable for Pong {
     ghost reading = { pong.reading };
 
     fn decode(alloc: Global, rlp: &Rlp<'_>) -> Result<Pong, DecoderError> {
-        match rlp_reading::decode_struct(alloc, rlp) {
+        match rlp::decode_struct(alloc, rlp) {
             Ok(()) => Ok(Pong),
             Err(fault) => Err(fault.fault),
         }

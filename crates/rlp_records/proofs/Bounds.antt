@@ -5,7 +5,7 @@ use Rattle.rlp.specs.Format.Item.{Item}
 use Rattle.rlp.specs.Format.Encoding.{encoding}
 use Rattle.rlp.specs.Format.Strict.{IsCanonicalWithin}
 use Rattle.rlp.specs.Lemmas.Encodings.{encoding_same}
-use Rattle.rlp.specs.Values.ValueReading.{IsCustom}
+use Rattle.rlp.specs.Form.{custom, fault_of}
 use Rattle.rlp_values.specs.Format.Walk.{IsWalked}
 use Rattle.rlp_values.specs.declared.flat.FlatItem.{FlatItem}
 use Rattle.rlp_records.specs.Bounded.{IsBoundFault, IsBounded, IsWithinBounds, items_in, items_in_envelopes, no_item, too_deep, too_many}
@@ -28,8 +28,8 @@ read_within item fits most b (Err e) short within read = tt
 
 module _ (most n : ℕ) (b : List ℕ) (old new : List FlatItem) (walked : IsWalked (λ item. item) b 0 0 256 old 0 new n) (short : length b < 2 ^ 64) where
   -- more rows were counted than an item may have
-  pub more_items : most < n → (e : DecoderError) → IsCustom (codes "too many items") e → IsBoundFault most b e
-  more_items more e custom = too_many walked.x walked.is (let total = walked.total in omega (arith, total, more)) custom
+  pub more_items : most < n → (e : DecoderError) → fault_of e ≡ custom (codes "too many items") → IsBoundFault most b e
+  more_items more e told = too_many walked.x walked.is (let total = walked.total in omega (arith, total, more)) told
 
   pub not_more : most < n → ¬ IsWithinBounds most b
   not_more more within =
@@ -48,9 +48,9 @@ module _ (most n : ℕ) (b : List ℕ) (old new : List FlatItem) (walked : IsWal
     }
 
     -- with those in envelopes there are more
-    pub more_inside : n ≤ most → most - n < k → (e : DecoderError) → IsCustom (codes "too many items") e → IsBoundFault most b e
-    more_inside few more e custom =
-        too_many walked.x walked.is (let total = walked.total in omega (arith, total, few, more, inside walked.x walked.is)) custom
+    pub more_inside : n ≤ most → most - n < k → (e : DecoderError) → fault_of e ≡ custom (codes "too many items") → IsBoundFault most b e
+    more_inside few more e told =
+        too_many walked.x walked.is (let total = walked.total in omega (arith, total, few, more, inside walked.x walked.is)) told
 
     pub not_more_inside : n ≤ most → most - n < k → ¬ IsWithinBounds most b
     not_more_inside few more within =

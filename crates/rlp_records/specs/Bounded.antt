@@ -9,7 +9,7 @@ use Rattle.rlp.specs.Format.Split.{begins_as_list}
 use Rattle.rlp.specs.Format.Strict.{strict_fault}
 use Rattle.rlp.specs.Format.TreeFaults.{tree_fault}
 use Rattle.rlp.specs.Values.RawItem.{raw_item_of}
-use Rattle.rlp.specs.Values.ValueReading.{IsCustom}
+use Rattle.rlp.specs.Form.{custom, fault_of}
 use Rattle.rlp_values.specs.declared.flat.TreeFault.TheVariants.{Decoding, TooDeep}
 
 -- the number of strings and lists in an item: itself, and the items in it at every depth
@@ -68,6 +68,6 @@ pub record IsWithinBounds (most : ℕ) (b : List ℕ) : Type 0 where
 -- Why bytes are refused before a value is read: they are the encoding of an item with more items, or lists nest too deep, or they aren't the encoding of an
 -- item, and the fault is the first in the order of the bytes.
 pub data IsBoundFault (most : ℕ) (b : List ℕ) (e : DecoderError) : Type 0 where
-  too_many : (x : Item) → b ≡ encoding x → most < items_in x + items_in_envelopes x → IsCustom (codes "too many items") e → IsBoundFault most b e
-  too_deep : tree_fault 256 b ≡ Some TooDeep → IsCustom (codes "nested too deep") e → IsBoundFault most b e
+  too_many : (x : Item) → b ≡ encoding x → most < items_in x + items_in_envelopes x → fault_of e ≡ custom (codes "too many items") → IsBoundFault most b e
+  too_deep : tree_fault 256 b ≡ Some TooDeep → fault_of e ≡ custom (codes "nested too deep") → IsBoundFault most b e
   no_item : tree_fault 256 b ≡ Some (Decoding e) → IsBoundFault most b e

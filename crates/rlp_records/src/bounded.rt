@@ -1,16 +1,15 @@
 //! Reading with a bound on the number of items, for bytes of strangers.
 
-ghost use Rattle.std.specs.Prelude.{◌≡◌, ◌⊎◌, IfErr, IfOk, MatchResult};
+ghost use Rattle.std.specs.Prelude.{◌≡◌, ◌⊎◌, IfErr, IfOk, IsTrue, MatchResult};
 ghost use Rattle.rlp.specs.DecoderError.TheVariants.{OutOfMemory};
 ghost use Rattle.rlp.specs.Format.Encoding.{encoding};
-ghost use Rattle.rlp.specs.Format.WrittenHeader.{AreBytes};
 ghost use Rattle.rlp.specs.Values.Value.{AreAlike};
 ghost use Rattle.rlp.specs.Views.View.{strict_view_of};
+ghost use Rattle.rlp.specs.Form.{Faults};
 ghost use Rattle.rlp_records.specs.Bounded.{IsBounded, IsBoundFault, IsWithinBounds};
 
-use crate::Record;
 use crate::envelope_items::{GREATEST_DEPTH, items_in_envelopes};
-use rlp::{DecoderError, FlatItem, TreeFault};
+use rlp::{DecoderError, FlatItem, StrictRead, TreeFault};
 use rlp_values::walking::walk_whole;
 use std::alloc::Global;
 
@@ -27,7 +26,7 @@ use std::alloc::Global;
 /// Fails with the first fault of the bytes if they aren't the encoding of an item, with
 /// `Custom("nested too deep")` for more than 256 lists in one another, with
 /// `Custom("too many items")`, and else with the strict fault of the record.
-pub fn decode_at_most<R: Record>(
+pub fn decode_at_most<R: StrictRead>(
     alloc: Global,
     bytes: &[u8],
     most: usize,
@@ -36,8 +35,8 @@ pub fn decode_at_most<R: Record>(
     ensures bounded { IfOk result (λ w. IsBounded most (R.item w)) }
     ensures fault { IfErr result (λ e. IsBoundFault most bytes.now e
         ⊎ (IsWithinBounds most bytes.now
-        × ((AreBytes bytes.now × R.faults (strict_view_of bytes.now) e)
-        ⊎ ((e ≡ OutOfMemory) × R.may_lack_memory (strict_view_of bytes.now))))) }
+        × (Faults R.reading (strict_view_of bytes.now) e
+        ⊎ ((e ≡ OutOfMemory) × IsTrue R.reading.takes_memory)))) }
     ensures alike { (v : R) → R.fits v → bytes.now ≡ encoding (R.item v)
         → IfOk result (λ w. R.fits w × AreAlike R.item w v) }
     ensures memory { (v : R) → R.fits v → IsBounded most (R.item v)

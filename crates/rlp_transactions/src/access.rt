@@ -2,9 +2,7 @@
 
 ghost use Rattle.rlp_transactions.specs.Access.{access_list_item, access_list};
 
-use rlp::{
-    Decodable, DecoderError, Each, Encodable, ListOf, Rlp, RlpStream, RoundTrip, StrictRead,
-};
+use rlp::{Decodable, DecoderError, Each, Encodable, ListOf, Rlp, RlpStream, RoundTrip, StrictRead};
 use rlp_records::{Address, Hash};
 use std::alloc::{AllocError, Global};
 
@@ -29,11 +27,7 @@ impl Encodable for AccessListItem {
 }
 
 impl Decodable for AccessListItem {
-    ghost gives = { access_list_item.gives };
-
-    ghost faults = { access_list_item.faults };
-
-    ghost may_lack_memory = { access_list_item.may_lack };
+    ghost reading = { access_list_item.reading };
 
     fn decode(alloc: Global, rlp: &Rlp<'_>) -> Result<AccessListItem, DecoderError> {
         rlp::decode_fields!(
@@ -71,14 +65,10 @@ impl Encodable for AccessList {
 }
 
 impl Decodable for AccessList {
-    ghost gives = { access_list.gives };
-
-    ghost faults = { access_list.faults };
-
-    ghost may_lack_memory = { access_list.may_lack };
+    ghost reading = { access_list.reading };
 
     fn decode(alloc: Global, rlp: &Rlp<'_>) -> Result<AccessList, DecoderError> {
-        let items = rlp.as_list(alloc)?;
+        let items = rlp::as_list(alloc, rlp)?;
         Ok(AccessList(items))
     }
 }

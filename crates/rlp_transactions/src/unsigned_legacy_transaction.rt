@@ -9,10 +9,7 @@ ghost use Rattle.rlp_transactions.specs.UnsignedLegacyTransaction.{unsigned_lega
 
 use crate::{Eip155, LegacyTransaction, Payload, SignedLegacyTransaction};
 use bytes::BytesMut;
-use rlp::{
-    AppendFields, Decodable, DecoderError, Encodable, Field, FieldsOf, Joined, OptionalGroup, Rlp,
-    RlpStream, RoundTrip, StrictRead, Uint, write_struct,
-};
+use rlp::{AppendFields, Decodable, DecoderError, Encodable, FieldsOf, Joined, OptionalGroup, Rlp, RlpStream, RoundTrip, StrictRead, Uint, write_struct};
 use std::alloc::{AllocError, Global};
 
 /// A transaction without a type before it is signed: the list of its six fields, as in section 4.2 of
@@ -93,20 +90,17 @@ impl Encodable for UnsignedLegacyTransaction {
 
 /// Fails with `RlpIncorrectListLen` for a list that has neither 6 nor 9 items, and with
 /// `RlpIsTooBig` if one of the last two of nine is a string that isn't empty.
+// The fields of the transaction, and then those that EIP-155 adds: the number of the chain, 0 and 0.
+type UnsignedFields = Joined<LegacyTransaction, OptionalGroup<(u64, ([u8; 0], ([u8; 0], ())))>>;
+
 impl Decodable for UnsignedLegacyTransaction {
-    ghost gives = { unsigned_legacy_transaction.gives };
-
-    ghost faults = { unsigned_legacy_transaction.faults };
-
-    ghost may_lack_memory = { unsigned_legacy_transaction.may_lack };
+    ghost reading = { unsigned_legacy_transaction.reading };
 
     fn decode(alloc: Global, rlp: &Rlp<'_>) -> Result<UnsignedLegacyTransaction, DecoderError> {
-        match rlp::decode_struct(alloc, rlp) {
+        match rlp::decode_struct::<UnsignedFields>(alloc, rlp) {
             Ok(Joined(payload, OptionalGroup(group))) => {
                 let chain_id = match group {
-                    Some((Field(chain_id), (Field::<[u8; 0]>(_), (Field::<[u8; 0]>(_), ())))) => {
-                        Some(chain_id)
-                    }
+                    Some((chain_id, (_, (_, ())))) => { Some(chain_id) }
                     None => None,
                 };
                 Ok(UnsignedLegacyTransaction { payload, chain_id })

@@ -8,7 +8,7 @@ use Rattle.std.specs.List.{starts_with}
 use Rattle.std.specs.Prelude.{nat_eq}
 use Rattle.std.specs.Str.{bytes_eq}
 use Rattle.std.specs.Vec.{vec_items}
-use Rattle.rlp_reading.specs.Codec.{Codec, Fields, byte_string, each, end, field}
+use Rattle.rlp.specs.Codec.{Codec, Fields, byte_string, each, end, field}
 use Rattle.rlp.specs.Format.Item.{Item, string}
 use Rattle.rlp.specs.Format.Item.{Items, items_from, listed, list_of}
 use Rattle.rlp.specs.Lemmas.Encodings.{listed_from}

@@ -17,7 +17,7 @@ use Rattle.rlp.specs.Format.Split.{begins_as_list}
 use Rattle.rlp.specs.Lemmas.RawItems.{string_kind}
 use Rattle.rlp.specs.Values.RawItem.{raw_item_of}
 use Rattle.rlp.specs.Views.View.{strict_view_of}
-use Rattle.rlp_codec.specs.Form.{Faults}
+use Rattle.rlp.specs.Form.{Faults}
 use Rattle.rlp_codec.proofs.Corollaries.{not_both}
 use Rattle.rlp_trie.specs.Child.{child_item}
 use Rattle.rlp_trie.specs.EmptyString.{empty_string}

@@ -6,10 +6,10 @@ use Rattle.rlp.specs.Format.Item.{Item, string}
 use Rattle.rlp.specs.Format.Encoding.{IsSized, encoding}
 use Rattle.rlp.specs.Format.WrittenHeader.{AreBytes}
 use Rattle.rlp_codec.specs.FirstItems.{item_type}
-use Rattle.rlp_codec.specs.Form.{Fault, here, map_value}
+use Rattle.rlp.specs.Form.{Fault, here, map_value}
 use Rattle.rlp_codec.proofs.FirstItemLaws.{ReadsItems, items_lawful}
 use Rattle.rlp_codec.proofs.ListLaws.{is_mapped}
-use Rattle.rlp_reading.specs.Codec.{Codec, lawful, newtype}
+use Rattle.rlp.specs.Codec.{Codec, lawful, newtype}
 use Rattle.rlp_trie.specs.Child.{IsChild, child_item, child_of, seen_child}
 use Rattle.rlp_trie.specs.ChildLaws.{child_back, child_only, child_some, child_told}
 use Rattle.rlp_trie.specs.EmptyString.{empty_found, empty_only, is_empty_string, other_item}

@@ -5,7 +5,7 @@ use Rattle.rlp.specs.Format.Item.{Item, string}
 use Rattle.rlp.specs.Format.Split.{begins_as_list}
 use Rattle.rlp.specs.Values.RawItem.{raw_item_of}
 use Rattle.rlp.specs.Views.View.{strict_view_of}
-use Rattle.rlp_codec.specs.Form.{Fault, and_then, fixed_of, is_too_big, map_value, raw_item, raw_of, string_of}
+use Rattle.rlp.specs.Form.{Fault, and_then, fixed_of, is_too_big, map_value, raw_item, raw_of, string_of}
 use Rattle.rlp_trie.specs.declared.child.Child.{Child}
 use Rattle.rlp_trie.specs.declared.child.Child.TheVariants.{Node, Inline}
 

@@ -9,12 +9,12 @@ use Rattle.rlp.specs.Format.WrittenHeader.{AreBytes}
 use Rattle.rlp.specs.Values.RawItem.{raw_item_of}
 use Rattle.rlp.specs.Lemmas.RawItems.{string_kind}
 use Rattle.rlp_codec.specs.FirstItems.{item_type}
-use Rattle.rlp_codec.specs.Form.{Fault, here, is_too_big, map_value, raw_of}
+use Rattle.rlp.specs.Form.{Fault, here, is_too_big, map_value, raw_of}
 use Rattle.rlp_codec.proofs.FirstItemLaws.{ReadsItems, items_lawful}
 use Rattle.rlp_codec.proofs.ListLaws.{is_mapped}
 use Rattle.rlp_codec.proofs.RawLaws.{raw_of-fit, raw_of-only}
 use Rattle.rlp_codec.proofs.StringLaws.{array_lawful}
-use Rattle.rlp_reading.specs.Codec.{Codec, lawful}
+use Rattle.rlp.specs.Codec.{Codec, lawful}
 use Rattle.rlp_trie.specs.Child.{IsChild, child_item, child_of, hash_of, inline_of, seen_child}
 use Rattle.rlp_trie.specs.declared.child.Child.{Child}
 use Rattle.rlp_trie.specs.declared.child.Child.TheVariants.{Node, Inline}

@@ -4,7 +4,7 @@ use Rattle.std.proofs.Common.{refl, sym, ap, ◌∙◌}
 use Rattle.std.specs.Vec.{vec_items}
 use mathlib.Core.Bool.{beq}
 use Rattle.rlp_codec.proofs.StringLaws.{ReadsStrings}
-use Rattle.rlp_reading.specs.Codec.{Codec, string_type}
+use Rattle.rlp.specs.Codec.{Codec, string_type}
 use Rattle.rlp_trie.specs.HexPrefix.{ends_in_leaf, is_empty_extension, is_leaf_flag, path_of, path_of_kind}
 use Rattle.rlp_trie.specs.declared.path.Path.{Path}
 

@@ -7,7 +7,7 @@ use Rattle.rlp.specs.Format.Encoding.{encoding}
 use Rattle.rlp.specs.Format.Item.{Item, list, string}
 use Rattle.rlp.specs.Views.Text.{error_name}
 use Rattle.rlp.specs.Views.View.{strict_view_of}
-use Rattle.rlp_codec.specs.Form.{Faults}
+use Rattle.rlp.specs.Form.{Faults}
 use Rattle.rlp_trie.specs.HexPrefix.{nibbles_of}
 use Rattle.rlp_trie.specs.Lookup.{Encodes, ends, goes, step}
 use Rattle.rlp_trie.specs.TrieNodeLaws.{trie_node}

@@ -1,7 +1,7 @@
 -- How nodes of the trie are written and read.
 use Rattle.std.specs.Prelude.{ℕ, None, get_or}
 use Rattle.std.specs.Vec.{vec_items}
-use Rattle.rlp_reading.specs.Codec.{Codec, Fields, byte_string, each, end, field, struct_of}
+use Rattle.rlp.specs.Codec.{Codec, Fields, byte_string, each, end, field, struct_of}
 use Rattle.rlp_trie.specs.declared.branch.Branch.{Branch}
 use Rattle.rlp_trie.specs.declared.branch_child.BranchChild.{BranchChild}
 use Rattle.rlp_trie.specs.declared.extension.Extension.{Extension}

@@ -4,7 +4,7 @@ use Rattle.std.proofs.Common.{inl, inr}
 use Rattle.rlp.specs.DecoderError.{DecoderError}
 use Rattle.rlp.specs.Format.Item.{Item, string}
 use Rattle.rlp.specs.Views.View.{View, item_at, item_count, strict_view_of, view_string}
-use Rattle.rlp_codec.specs.Form.{Answer, Fault, go_on, here, incorrect_list_len, map_answer, seen_fault}
+use Rattle.rlp.specs.Form.{Answer, Fault, go_on, here, incorrect_list_len, map_answer, seen_fault}
 use Rattle.rlp_trie.specs.EmptyString.{is_empty_string}
 use Rattle.rlp_trie.specs.HexPrefix.{is_leaf_path}
 use Rattle.rlp_trie.specs.Trie.{branch, extension, leaf}

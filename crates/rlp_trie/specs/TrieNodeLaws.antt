@@ -10,10 +10,10 @@ use Rattle.rlp.specs.Lemmas.StringsHeld.{held_only}
 use Rattle.rlp.specs.Lemmas.WholeLists.{strict_first, strict_item_count, strict_items, strict_list_told}
 use Rattle.rlp.specs.Views.View.{item_at, item_count, strict_view_of}
 use Rattle.rlp_codec.specs.FirstItems.{item_type}
-use Rattle.rlp_codec.specs.Form.{Answer, Fault, and_then, incorrect_list_len, map_value, seen_fault}
+use Rattle.rlp.specs.Form.{Answer, Fault, and_then, incorrect_list_len, map_value, seen_fault}
 use Rattle.rlp_codec.proofs.FirstItemLaws.{ReadsItems, items_lawful}
 use Rattle.rlp_codec.proofs.ListLaws.{goes_on, is_mapped, items_sized}
-use Rattle.rlp_reading.specs.Codec.{Codec, lawful}
+use Rattle.rlp.specs.Codec.{Codec, lawful}
 use Rattle.rlp_trie.specs.Child.{child_item}
 use Rattle.rlp_trie.specs.EmptyString.{empty_found, empty_only, is_empty_string, other_item}
 use Rattle.rlp_trie.specs.HexPrefix.{is_leaf_flag}

@@ -3,8 +3,7 @@
 ghost use Rattle.rlp_trie.specs.Trie.{branch};
 
 use crate::BranchChild;
-use rlp::{DecoderError, Each, Encodable, Rlp, RlpStream};
-use rlp_reading::{Decodable, RoundTrip, StrictRead};
+use rlp::{Decodable, DecoderError, Each, Encodable, Rlp, RlpStream, RoundTrip, StrictRead};
 use std::alloc::{AllocError, Global};
 
 /// A node of the trie with a child for each next digit of the path to the base 16: the list of the
@@ -39,7 +38,7 @@ impl Decodable for Branch {
     ghost reading = { branch.reading };
 
     fn decode(alloc: Global, rlp: &Rlp<'_>) -> Result<Branch, DecoderError> {
-        rlp_reading::decode_fields!(
+        rlp::decode_fields!(
             alloc,
             rlp,
             Branch {

@@ -5,8 +5,7 @@ ghost use Rattle.rlp_trie.specs.BranchChild.{branch_child};
 use crate::Child;
 use crate::child::child_of;
 use crate::empty::is_empty_string;
-use rlp::{DecoderError, Encodable, Rlp, RlpStream};
-use rlp_reading::{Decodable, RoundTrip, StrictRead};
+use rlp::{Decodable, DecoderError, Encodable, Rlp, RlpStream, RoundTrip, StrictRead};
 use std::alloc::{AllocError, Global};
 
 /// The child of a branch for one digit of the path, or `None`, which is written as the empty string.

@@ -2,13 +2,12 @@
 
 ghost use Rattle.std.specs.Prelude.{◌≡◌, ◌⊎◌, Err, IfErr, IfOk, Ok};
 ghost use Rattle.rlp.specs.DecoderError.TheVariants.{OutOfMemory};
-ghost use Rattle.rlp_codec.specs.Form.{fault_of};
+ghost use Rattle.rlp.specs.Form.{fault_of};
 ghost use Rattle.rlp_trie.specs.Child.{child_of, seen_child};
 ghost use Rattle.rlp_trie.specs.ChildLaws.{child};
 
 use crate::InlineNode;
-use rlp::{DecoderError, Encodable, RawItem, Rlp, RlpStream};
-use rlp_reading::{Decodable, RoundTrip, StrictRead};
+use rlp::{Decodable, DecoderError, Encodable, RawItem, Rlp, RlpStream, RoundTrip, StrictRead};
 use rlp_records::Hash;
 use std::alloc::{AllocError, Global};
 

@@ -3,8 +3,7 @@
 ghost use Rattle.rlp_trie.specs.Trie.{extension};
 
 use crate::{Child, ExtensionPath};
-use rlp::{DecoderError, Encodable, Rlp, RlpStream};
-use rlp_reading::{Decodable, RoundTrip, StrictRead};
+use rlp::{Decodable, DecoderError, Encodable, Rlp, RlpStream, RoundTrip, StrictRead};
 use std::alloc::{AllocError, Global};
 
 /// A node of the trie with one child: the list of a part of the path and the child.
@@ -32,7 +31,7 @@ impl Decodable for Extension {
     ghost reading = { extension.reading };
 
     fn decode(alloc: Global, rlp: &Rlp<'_>) -> Result<Extension, DecoderError> {
-        rlp_reading::decode_fields!(alloc, rlp, Extension { path, child })
+        rlp::decode_fields!(alloc, rlp, Extension { path, child })
     }
 }
 

@@ -3,8 +3,7 @@
 ghost use Rattle.rlp_trie.specs.Trie.{leaf};
 
 use crate::LeafPath;
-use rlp::{DecoderError, Encodable, Rlp, RlpStream};
-use rlp_reading::{Decodable, RoundTrip, StrictRead};
+use rlp::{Decodable, DecoderError, Encodable, Rlp, RlpStream, RoundTrip, StrictRead};
 use std::alloc::{AllocError, Global};
 
 /// A node of the trie that ends a path: the list of the rest of the path and the value.
@@ -32,7 +31,7 @@ impl Decodable for Leaf {
     ghost reading = { leaf.reading };
 
     fn decode(alloc: Global, rlp: &Rlp<'_>) -> Result<Leaf, DecoderError> {
-        rlp_reading::decode_fields!(alloc, rlp, Leaf { path, value })
+        rlp::decode_fields!(alloc, rlp, Leaf { path, value })
     }
 }
 

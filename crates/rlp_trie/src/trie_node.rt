@@ -3,7 +3,7 @@
 ghost use Rattle.std.specs.Prelude.{◌≡◌, ◌⊎◌, Err, IfErr, IfOk, Ok, OnOk};
 ghost use Rattle.rlp.specs.DecoderError.TheVariants.{OutOfMemory};
 ghost use Rattle.rlp.specs.Format.Encoding.{encoding};
-ghost use Rattle.rlp_codec.specs.Form.{fault_of};
+ghost use Rattle.rlp.specs.Form.{fault_of};
 ghost use Rattle.rlp_records.specs.Hashing.{IsHashOf};
 ghost use Rattle.rlp_trie.specs.TrieNode.{begins_as_leaf, node_of, seen_node};
 ghost use Rattle.rlp_trie.specs.TrieNodeLaws.{trie_node};
@@ -11,8 +11,7 @@ ghost use Rattle.rlp_trie.specs.TrieNodeLaws.{trie_node};
 use crate::empty::is_empty_string;
 use crate::hex_prefix::ends_in_leaf;
 use crate::{Branch, Extension, Leaf};
-use rlp::{DecoderError, Encodable, Rlp, RlpStream};
-use rlp_reading::{Decodable, RoundTrip, StrictRead};
+use rlp::{Decodable, DecoderError, Encodable, Rlp, RlpStream, RoundTrip, StrictRead};
 use rlp_records::{Hash, encoding_hash};
 use std::alloc::{AllocError, Global};
 
@@ -82,9 +81,9 @@ fn node_of(alloc: Global, bytes: &[u8]) -> Result<TrieNode, DecoderError>
         return Ok(TrieNode::Empty);
     }
     match Rlp::new_strict(bytes).item_count()? {
-        2 if is_leaf(bytes) => Ok(TrieNode::Leaf(rlp_reading::decode_strict(alloc, bytes)?)),
-        2 => Ok(TrieNode::Extension(rlp_reading::decode_strict(alloc, bytes)?)),
-        17 => Ok(TrieNode::Branch(rlp_reading::decode_strict(alloc, bytes)?)),
+        2 if is_leaf(bytes) => Ok(TrieNode::Leaf(rlp::decode_strict(alloc, bytes)?)),
+        2 => Ok(TrieNode::Extension(rlp::decode_strict(alloc, bytes)?)),
+        17 => Ok(TrieNode::Branch(rlp::decode_strict(alloc, bytes)?)),
         _ => Err(DecoderError::RlpIncorrectListLen),
     }
 }

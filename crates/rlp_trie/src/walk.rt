@@ -121,7 +121,7 @@ fn read_node(alloc: Global, bytes: &[u8]) -> Result<TrieNode, ProofFault>
     ensures value { IfOk result (λ n. Encodes bytes.now n) }
     ensures fault { IfErr result (λ e. IsUnread bytes.now e ⊎ (e ≡ OutOfMemory)) }
 {
-    match rlp_reading::decode_whole(alloc, bytes) {
+    match rlp::decode_whole(alloc, bytes) {
         Ok(node) => Ok(node),
         Err(fault) => Err(read_fault(fault)),
     }

@@ -1,6 +1,6 @@
 use Rattle.std.proofs.Common.{◌≡◌, None, List, ◌++◌, length, map, ap, sym, ◌∙◌, rules}
 use Rattle.std.specs.Vec.{vec_items}
-use Rattle.rlp_reading.specs.Codec.{byte_string, end, field, plain, plain_fields}
+use Rattle.rlp.specs.Codec.{byte_string, end, field, plain, plain_fields}
 use Rattle.rlp.specs.Format.Item.{Item, list_of}
 use Rattle.rlp.specs.Streams.Stream.{put_item}
 use Rattle.rlp_trie.specs.declared.branch.Branch.{Branch}
