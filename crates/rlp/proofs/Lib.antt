@@ -2,16 +2,14 @@
 
 -- the items that calls describe
 pub mod Streams
+-- the items of a view
+pub mod Readers
 -- the first item of a view
 mod Splitting
 -- what is written for raw items
 pub mod RawWriting
 -- for authors of types: the rules for bodies that write and that read
 pub mod Writing
-pub mod Reading
-pub mod Envelopes
-pub mod Tagged
 -- the same rules in smaller sets, passed on from `rlp_values` and `rlp_write`
-pub mod OneString
 pub mod Growth
 pub mod Filling

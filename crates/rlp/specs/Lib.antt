@@ -10,10 +10,16 @@ pub use Rattle.rlp_values.specs.Values
 pub mod Streams
 -- lemmas for the laws of traits and for authors of types; readers of definitions don't need them
 pub use Rattle.rlp_values.specs.Lemmas
--- the codec of a custom type, from those of its fields
-pub use Rattle.rlp_values.specs.Codec
--- codecs of raw items, and of types whose values are of several types
-pub use Rattle.rlp_values.specs.Codecs
+-- how the values of types are written and read
+pub use Rattle.rlp_codec.specs.Form
+-- values of several types
+pub use Rattle.rlp_codec.specs.Sums
+-- the laws of codecs
+pub use Rattle.rlp_codec.specs.Laws
+-- the codec of a custom type, from those of its fields, with its laws
+pub mod Codec
+-- what a reader of items has left
+pub mod Left
 -- the faults of decoding
 pub use Rattle.rlp_values.specs.declared.error.DecoderError
 -- the lengths that a header announces

@@ -11,12 +11,12 @@ use Rattle.rlp_format.specs.Values.Value.{AreAlike}
 use Rattle.rlp_values.specs.Values.RoundTrip.{AlwaysReadsBack, AlwaysReadsStrictly}
 use Rattle.rlp_values.specs.Values.RoundTrip as words
 use Rattle.rlp_values.specs.Values.ValueReading.{GivesValue}
-use Rattle.rlp_values.specs.Views.View.{View, strict_view_of, view_of}
+use Rattle.rlp_values.specs.Views.View.{View, item_at, strict_view_of, view_of}
 use Rattle.std.proofs.lemmas.List.Elements.{All-from_recursion, recursion_from_All}
 use Rattle.rlp_codec.proofs.ListLaws.{each_told, item_back, items_sized, list_back, list_type_only}
-use Rattle.rlp_values.specs.Values.ListReading.{FaultsAt, GivesAt, GivesEach, GivesList}
+use Rattle.rlp_values.specs.Values.ListReading.{GivesEach, GivesList}
 use Rattle.rlp_values.specs.Lemmas.ListRoundTrips.{list_item_reads_back}
-use Rattle.rlp_codec.specs.Form.{Form, Fault, Faults, Gives, Reading, fault_of, list_reading}
+use Rattle.rlp_codec.specs.Form.{Form, Fault, Faults, Gives, Reading, and_then, fault_of, list_reading, reading_at, seen_fault}
 use Rattle.std.specs.List.{AllByRecursion}
 use Rattle.rlp_format.specs.Lemmas.Encodings.{front_sized}
 use Rattle.rlp_values.specs.Lemmas.Numbered.{item_views-list}
@@ -38,6 +38,12 @@ one_fault r v e f bad also = let same = sym bad ∙ also in cc
 -- a view that gives a value has no fault
 pub not_both : {A : Type 0} (r : Reading A) (v : View) (x : A) (e : DecoderError) → Gives r v x → ¬ Faults r v e
 not_both r v x e given bad = let same = sym given ∙ bad in cc
+
+-- the value that an item gives, if there is one
+given_at : {A : Type 0} (r : Reading A) (x : A) (found : Result View DecoderError) → IsOkAnd found (λ item. (r.read item).result ≡ Ok (r.seen x))
+    ↔ (and_then (seen_fault found) (λ item. (r.read item).result) ≡ Ok (r.seen x))
+given_at r x (Ok item) = (λ given. given, λ given. given)
+given_at r x (Err e) = (λ none. absurd none, λ is. absurd (let no : ⊥ = cc in no))
 
 module _ {A : Type 0} (c : Form A) where
   alike_by : IsSeen c → (v : View) (x : A) → c.Fits x → Gives c.reading v x → (w : A) → Gives c.reading v w → c.Fits w × AreAlike c.item w x
@@ -168,8 +174,14 @@ module _ {A : Type 0} (c : Form A) where
   -- item i of the encoding of a list gives the values that fit and are alike to value i, and has no fault
   pub list_item_back : IsReadBack c → (before after : List A) (x : A) (b : List ℕ) → length b < 2 ^ 64 → c.Fits x
       → BeginsWith b (encoding (list_of (map c.item (before ++ x ∷ after))))
-      → words.ReadsBack c.Fits c.item (λ v w. GivesAt (Gives c.reading) v (length before) w) (λ v e. FaultsAt (Faults c.reading) v (length before) e) (view_of b) x
-  list_item_back law = list_item_reads_back c.Fits c.item (Gives c.reading) (Faults c.reading) (gives_back c law)
+      → words.ReadsBack c.Fits c.item (Gives (reading_at (length before) c.reading)) (Faults (reading_at (length before) c.reading)) (view_of b) x
+  list_item_back law before after x b fits fit begins =
+      let h = list_item_reads_back c.Fits c.item (Gives c.reading) (Faults c.reading) (gives_back c law) before after x b fits fit begins in
+      let found = item_at (view_of b) (length before) in
+      record {
+        alike = λ w. let at = given_at c.reading w found in (λ given. (h.alike w).0 (at.1 given), λ same. at.0 ((h.alike w).1 same));
+        no_fault = λ e. not_both (reading_at (length before) c.reading) (view_of b) x e ((given_at c.reading x found).0 ((h.alike x).1 (fit, refl)));
+      }
 
   -- ---- read strictly
 

@@ -13,18 +13,18 @@ use Rattle.rlp_format.specs.Values.Value.{option_item}
 use Rattle.rlp_format.specs.Lemmas.Encodings.{encoding_list, front_sized, small_payload}
 use Rattle.rlp_values.specs.Format.Split.{items}
 use Rattle.rlp_values.specs.Format.Strict.{strict_list_fault}
-use Rattle.rlp_values.specs.Views.View.{View, Holds, item_count, item_views, strict_view_of, view_of}
-use Rattle.rlp_values.specs.Lemmas.Numbered.{item_count-list, item_count-told, item_views-list, length-views}
+use Rattle.rlp_values.specs.Views.View.{View, Holds, item_count, item_views, items_fault, strict_view_of, view_of}
+use Rattle.rlp_values.specs.Lemmas.Numbered.{item_count-fault, item_count-list, item_count-told, item_views-list}
 use Rattle.rlp_values.specs.Lemmas.StrictLists.{IsPart, item_parts}
 use Rattle.rlp_values.specs.Lemmas.StrictReads.{counted_told, told_whole}
 use Rattle.rlp_values.specs.Lemmas.WholeLists.{strict_item_count, strict_items, whole_list, whole_sized}
 use Rattle.rlp_codec.specs.Form.{Form, Fault, and_then, holding, items_of, list_of_views, list_type, map_fault, map_value, newtype, option, read_each, read_option}
-use Rattle.rlp_codec.specs.Form.{seen_fault}
+use Rattle.rlp_codec.specs.Form.{fault_of, seen_fault}
 use Rattle.rlp_codec.specs.Laws.{ReadsBack, GivesOnly, IsLawful, IsReadBack, IsSeen, IsStrictPart, viewed, views_of}
 
 -- ---- the items of a view
 
-held_sized : (is_strict : Bool) (b : List ℕ) (x : Item) → length b < 2 ^ 64 → Holds is_strict b (encoding x) → IsSized x
+pub held_sized : (is_strict : Bool) (b : List ℕ) (x : Item) → length b < 2 ^ 64 → Holds is_strict b (encoding x) → IsSized x
 held_sized false b x fits (more, is) = front_sized x b more fits is
 held_sized true b x fits is = whole_sized x b fits is
 
@@ -121,12 +121,13 @@ is_mapped (Err e) f y is = absurd (let no : ⊥ = cc in no)
 
 -- ---- for bodies of `decode`
 
--- a view that has a number of items has as many views of them
-pub counted_length : (v : View) (n : ℕ) → Ok n ≡ item_count v → n ≡ length (item_views v)
-counted_length v n is =
-    let count : item_count v ≡ Ok (length (items v.bytes)) = item_count-told v (counted_told v n (sym is)) in
-    let same : n ≡ length (items v.bytes) = cc in
-    same ∙ sym (length-views v)
+-- the items of a view that has items by number
+pub items_told : (v : View) → items_fault v ≡ None → items_of v ≡ Ok (item_views v)
+items_told v told = ap (λ r. map_value (λ (n : ℕ). item_views v) (seen_fault r)) (item_count-told v told)
+
+-- a view that has no items by number
+pub items_faulty : (v : View) (e : DecoderError) → items_fault v ≡ Some e → items_of v ≡ Err (fault_of e)
+items_faulty v e fault = ap (λ r. map_value (λ (n : ℕ). item_views v) (seen_fault r)) (item_count-fault v e fault)
 
 -- one more value, after those that were read
 pub pushed : {A M : Type 0} (seen : A → M) (xs : List A) (x : A) (r : Result (List M) Fault)

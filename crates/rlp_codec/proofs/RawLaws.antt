@@ -48,13 +48,13 @@ held_by b f (Some e) faulty is = absurd (let no : ⊥ = cc in no)
 held_by b f None faulty is = let front = front_is b f is in sym (front.is ∙ take_all front.many b (front.all faulty))
 
 -- a view holds the bytes of its first item
-frame_held : (is_strict : Bool) (b f : List ℕ) → view_frame (viewed is_strict b) ≡ Ok f → Holds is_strict b f
+pub frame_held : (is_strict : Bool) (b f : List ℕ) → view_frame (viewed is_strict b) ≡ Ok f → Holds is_strict b f
 frame_held false b f is =
     let front = front_is b f is in
     (drop front.many b, sym (ap (λ s. s ++ drop front.many b) front.is ∙ take-append-drop front.many b))
 frame_held true b f is = held_by b f (strict_fault b) refl is
 
-held_short : (is_strict : Bool) (b f : List ℕ) → length b < 2 ^ 64 → Holds is_strict b f → length f < 2 ^ 64
+pub held_short : (is_strict : Bool) (b f : List ℕ) → length b < 2 ^ 64 → Holds is_strict b f → length f < 2 ^ 64
 held_short false b f fits (rest, is) = omega (arith, ap length is, length-append f rest)
 held_short true b f fits is = omega (arith, ap length is)
 

@@ -17,6 +17,7 @@ use Rattle.rlp_format.specs.Lemmas.Digits.{big_endian_first, big_endian_value, b
 use Rattle.rlp_format.specs.Lemmas.Encodings.{front_sized}
 use Rattle.rlp_values.specs.Format.StringReading.{IsString}
 use Rattle.rlp_values.specs.Views.View.{View, HoldsString, view_string}
+use Rattle.rlp_values.specs.Values.ValueReading.{GivesNumber}
 use Rattle.rlp_values.specs.Lemmas.OneReading.{front_bytes, back_bytes, few_digits}
 use Rattle.rlp_values.specs.Lemmas.Reading.{Bytes}
 use Rattle.rlp_values.specs.Lemmas.StringsHeld.{ReadsHeld, held_begins, held_only, held_reads}
@@ -204,6 +205,10 @@ array_strings n = record {
 -- digits of at most `width` bytes write a number of this width
 pub number_fits : (width : ℕ) (d : List ℕ) → ((i : ℕ) → Fits w8 (get_or d i 0)) → length d ≤ width → FitsBytes width (number_from_digits 256 d)
 number_fits width d bytes few = digits_fit width d (bytes_held d bytes) few
+
+-- a view that holds the digits of a number gives the number
+pub number_given : (width n : ℕ) (v : View) → length v.bytes < 2 ^ 64 → GivesNumber width v n → and_then (string_of v) (number_of width) ≡ Ok n
+number_given width n v fits given = (string_back _ _ _ _ false (number_strings width) v.is_strict).back v.bytes n fits given.fits given.begins
 
 other_bit : (n : ℕ) → n ≢ 0 → n ≢ 1 → bit_of n ≡ Err (custom (codes "invalid boolean value"))
 other_bit zero none one = absurd (none refl)

@@ -14,7 +14,7 @@ use Rattle.rlp_values.specs.declared.error.DecoderError.TheVariants.{RlpIncorrec
 use Rattle.rlp_values.specs.declared.error.DecoderError.TheVariants.{RlpInvalidIndirection, RlpInconsistentLengthAndData, RlpInvalidLength, Custom}
 use Rattle.rlp_values.specs.declared.error.DecoderError.TheVariants.{OutOfMemory}
 use Rattle.rlp_values.specs.Views.Depth.{depth}
-use Rattle.rlp_values.specs.Views.View.{View, item_count, item_views, view_string}
+use Rattle.rlp_values.specs.Views.View.{View, item_at, item_count, item_views, view_string}
 use Rattle.rlp_values.specs.Values.RawItem.{deepest_raw_item, raw_item_of, view_frame}
 
 -- ---- faults and answers
@@ -193,6 +193,15 @@ list_reading values r = record {
 -- The reading of a type that holds one value.
 abbrev pub held_reading : {A B : Type 0} → Bool → (B → A) → Reading A → Reading B
 held_reading takes_memory value r = record { M = r.M; seen = λ b. r.seen (value b); read = r.read; takes_memory = takes_memory }
+
+-- The reading of item i of a list.
+abbrev pub reading_at : {A : Type 0} → ℕ → Reading A → Reading A
+reading_at i r = record {
+  M = r.M;
+  seen = r.seen;
+  read = λ v. go_on (here (seen_fault (item_at v i))) (λ item. within i (r.read item));
+  takes_memory = r.takes_memory;
+}
 
 -- ---- codecs of types
 

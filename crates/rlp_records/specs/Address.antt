@@ -1,5 +1,5 @@
 -- How addresses are written and read.
-use Rattle.rlp_reading.specs.Codec.{Codec, byte_array, newtype}
+use Rattle.rlp.specs.Codec.{Codec, byte_array, newtype}
 use Rattle.rlp_records.specs.declared.address.Address.{Address}
 
 -- the string of its 20 bytes

@@ -1,5 +1,5 @@
 -- How hashes are written and read.
-use Rattle.rlp_reading.specs.Codec.{Codec, byte_array, newtype}
+use Rattle.rlp.specs.Codec.{Codec, byte_array, newtype}
 use Rattle.rlp_records.specs.declared.hash.Hash.{Hash}
 
 -- the string of its 32 bytes

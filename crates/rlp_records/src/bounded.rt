@@ -8,8 +8,7 @@ ghost use Rattle.rlp_codec.specs.Form.{fault_of};
 ghost use Rattle.rlp_records.specs.Bounded.{IsBounded, IsWithinBounds, bound_fault, read_bounded};
 
 use crate::envelope_items::{GREATEST_DEPTH, items_in_envelopes};
-use rlp::{DecoderError, FlatItem, TreeFault};
-use rlp_reading::StrictRead;
+use rlp::{DecoderError, FlatItem, StrictRead, TreeFault};
 use rlp_values::walking::walk_whole;
 use std::alloc::Global;
 
@@ -44,7 +43,7 @@ pub fn decode_at_most<R: StrictRead>(
         → bytes.now ≡ encoding (R.item v) → IfErr result (λ e. e ≡ OutOfMemory) }
 {
     match test_bounds(bytes, most) {
-        Ok(()) => rlp_reading::decode_whole(alloc, bytes),
+        Ok(()) => rlp::decode_whole(alloc, bytes),
         Err(fault) => Err(fault),
     }
 }

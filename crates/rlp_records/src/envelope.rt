@@ -11,8 +11,7 @@ ghost use Rattle.rlp_codec.specs.Form.{fault_of};
 ghost use Rattle.rlp_records.specs.Envelope.{another_type, read_after};
 
 use bytes::{BufMut, BytesMut};
-use rlp::{AppendFields, DecoderError, Encodable, RlpStream, write_struct};
-use rlp_reading::StrictRead;
+use rlp::{AppendFields, DecoderError, Encodable, RlpStream, StrictRead, write_struct};
 use std::alloc::{AllocError, Global};
 
 /// The type of a transaction with an access list: EIP-2930.
@@ -91,7 +90,7 @@ pub fn from_envelope<T: StrictRead>(
         → IfErr result (λ e. e ≡ OutOfMemory) }
 {
     match bytes {
-        [first, payload @ ..] if *first == kind => rlp_reading::decode_whole(alloc, payload),
+        [first, payload @ ..] if *first == kind => rlp::decode_whole(alloc, payload),
         _ => Err(DecoderError::Custom("another type")),
     }
 }

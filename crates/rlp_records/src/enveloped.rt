@@ -8,8 +8,7 @@ ghost use Rattle.rlp_records.specs.Envelope.{another_type, read_after};
 
 use crate::envelope::{from_envelope, to_envelope};
 use bytes::BytesMut;
-use rlp::DecoderError;
-use rlp_reading::StrictRead;
+use rlp::{DecoderError, StrictRead};
 use std::alloc::{AllocError, Global};
 
 /// A value that is sent as a byte that says its type, and its encoding, as in EIP-2718.

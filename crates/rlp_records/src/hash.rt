@@ -2,8 +2,7 @@
 
 ghost use Rattle.rlp_records.specs.Hash.{hash};
 
-use rlp::{DecoderError, Encodable, Rlp, RlpStream};
-use rlp_reading::{Decodable, RoundTrip, StrictRead};
+use rlp::{Decodable, DecoderError, Encodable, Rlp, RlpStream, RoundTrip, StrictRead};
 use std::alloc::{AllocError, Global};
 
 /// A Keccak-256 hash, or the root of a trie: 32 bytes.

@@ -10,8 +10,7 @@ ghost use Rattle.rlp.specs.Views.View.{strict_view_of};
 ghost use Rattle.rlp_codec.specs.Form.{Faults};
 
 use bytes::BytesMut;
-use rlp::{DecoderError, Encodable};
-use rlp_reading::StrictRead;
+use rlp::{DecoderError, Encodable, StrictRead};
 use std::alloc::{AllocError, Global};
 
 /// The bytes of a record. The record fits, and they are the encoding of its item.
@@ -35,7 +34,7 @@ pub fn record_is_read<R: StrictRead>(alloc: Global, bytes: &[u8]) -> Result<R, D
     ensures memory { (v : R) → R.fits v → bytes.now ≡ encoding (R.item v)
         → IfErr result (λ e. (e ≡ OutOfMemory) × IsTrue R.reading.takes_memory) }
 {
-    rlp_reading::decode_whole(alloc, bytes)
+    rlp::decode_whole(alloc, bytes)
 }
 
 /// The record that is read from what is written of a record: it has the same fields. The call fails
@@ -62,7 +61,7 @@ pub fn reading_without_memory_is_total<R: StrictRead>(
     ensures fault { R.reading.takes_memory ≡ false
         → IfErr result (λ e. Faults R.reading (strict_view_of bytes.now) e) }
 {
-    rlp_reading::decode_whole(alloc, bytes)
+    rlp::decode_whole(alloc, bytes)
 }
 
 /// Two records whose encodings are shorter than 2^64 bytes have equal encodings if and only if they

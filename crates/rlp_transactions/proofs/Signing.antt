@@ -3,7 +3,7 @@ use Rattle.std.proofs.Common.{◌≡◌, ℕ, ◌^◌, ◌<◌, List, ◌∷◌,
 use Rattle.rlp.specs.Format.Item.{list_of}
 use Rattle.rlp.specs.Format.Encoding.{encoding}
 use Rattle.rlp_codec.specs.Form.{custom}
-use Rattle.rlp_reading.specs.Codec.{plain, struct_of}
+use Rattle.rlp.specs.Codec.{plain, struct_of}
 use Rattle.rlp_records.proofs.AfterByte.{after_strings}
 use Rattle.rlp_records.proofs.Bytes.{bytes_tell}
 use Rattle.rlp_records.specs.Alone.{unknown_type}

@@ -5,7 +5,7 @@ use Rattle.rlp.specs.Format.Split.{begins_as_list}
 use Rattle.rlp.specs.Values.Sums.{sum_item}
 use Rattle.rlp_codec.specs.Sums.{envelope}
 use Rattle.rlp_codec.proofs.StringLaws.{ReadsStrings}
-use Rattle.rlp_reading.specs.Codec.{plain}
+use Rattle.rlp.specs.Codec.{plain}
 use Rattle.rlp_records.proofs.Alone.{alone_strings, list_alone_begins}
 use Rattle.rlp_records.proofs.Bytes.{strings_held}
 use Rattle.rlp_records.specs.Alone.{bytes_alone}

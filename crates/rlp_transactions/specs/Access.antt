@@ -1,6 +1,6 @@
 -- How access lists are written and read.
 use Rattle.std.specs.Vec.{vec_items}
-use Rattle.rlp_reading.specs.Codec.{Codec, Fields, end, field, list_type, struct_of}
+use Rattle.rlp.specs.Codec.{Codec, Fields, end, field, list_type, struct_of}
 use Rattle.rlp_transactions.specs.declared.access.AccessList.{AccessList}
 use Rattle.rlp_transactions.specs.declared.access.AccessListItem.{AccessListItem}
 use Rattle.rlp_records.specs.Address.{address}

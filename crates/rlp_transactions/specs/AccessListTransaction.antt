@@ -1,7 +1,7 @@
 -- How transactions of type 1 are written and read.
 use Rattle.std.specs.Prelude.{Bool, refl}
 use Rattle.std.specs.Vec.{vec_items}
-use Rattle.rlp_reading.specs.Codec.{Codec, Fields, byte_string, end, field, number, truth_value, uint}
+use Rattle.rlp.specs.Codec.{Codec, Fields, byte_string, end, field, number, truth_value, uint}
 use Rattle.rlp_transactions.specs.declared.access_list_transaction.AccessListTransaction.{AccessListTransaction}
 use Rattle.rlp_transactions.specs.Access.{access_list}
 use Rattle.rlp_transactions.specs.Recipient.{recipient}

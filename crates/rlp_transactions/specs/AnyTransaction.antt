@@ -5,7 +5,7 @@ use Rattle.rlp.specs.Format.Item.{is_list, string}
 use Rattle.rlp.specs.Values.Sums.{sum_item}
 use Rattle.rlp_codec.specs.Form.{Answer, Fault}
 use Rattle.rlp_codec.specs.Sums.{envelope}
-use Rattle.rlp_reading.specs.Codec.{Codec, lawful, newtype, plain}
+use Rattle.rlp.specs.Codec.{Codec, lawful, newtype, plain}
 use Rattle.rlp_transactions.specs.OtherStrings.{or_lawful, or_string, same_string, string_or}
 use Rattle.rlp_transactions.specs.LegacyTransaction.{signed_legacy_transaction}
 use Rattle.rlp_transactions.specs.OtherTransaction.{IsOther, is_other, is_other_type, other_type}

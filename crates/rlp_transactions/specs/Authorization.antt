@@ -1,6 +1,6 @@
 -- How authorizations of transactions of type 4 are written and read.
 use Rattle.std.specs.Prelude.{ℕ, refl}
-use Rattle.rlp_reading.specs.Codec.{Codec, Fields, end, field, number, uint}
+use Rattle.rlp.specs.Codec.{Codec, Fields, end, field, number, uint}
 use Rattle.rlp_transactions.specs.declared.authorization.Authorization.{Authorization}
 use Rattle.rlp_records.specs.Address.{address}
 use Rattle.rlp_transactions.specs.Signed.{signed}

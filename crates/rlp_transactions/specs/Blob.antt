@@ -4,7 +4,7 @@ use Rattle.std.proofs.Common.{sym}
 use Rattle.std.specs.Vec.{vec_items}
 use Rattle.rlp_codec.specs.Form.{fixed_of}
 use Rattle.rlp_codec.proofs.StringLaws.{array_strings}
-use Rattle.rlp_reading.specs.Codec.{Codec, string_type}
+use Rattle.rlp.specs.Codec.{Codec, string_type}
 use Rattle.rlp_transactions.specs.declared.blob.Blob.{Blob}
 
 -- the string of the bytes of EIP-4844's "Vector[BLSFieldElement, FIELD_ELEMENTS_PER_BLOB]": 4096 elements of 32 bytes

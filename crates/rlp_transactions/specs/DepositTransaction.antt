@@ -1,6 +1,6 @@
 -- How deposits of the OP stack are written and read.
 use Rattle.std.specs.Vec.{vec_items}
-use Rattle.rlp_reading.specs.Codec.{Codec, Fields, byte_string, end, field, number, struct_of, truth_value, uint}
+use Rattle.rlp.specs.Codec.{Codec, Fields, byte_string, end, field, number, struct_of, truth_value, uint}
 use Rattle.rlp_transactions.specs.declared.deposit_transaction.DepositTransaction.{DepositTransaction}
 use Rattle.rlp_records.specs.Address.{address}
 use Rattle.rlp_records.specs.Hash.{hash}

@@ -1,7 +1,7 @@
 -- How legacy transactions are written and read.
 use Rattle.std.specs.Prelude.{refl}
 use Rattle.std.specs.Vec.{vec_items}
-use Rattle.rlp_reading.specs.Codec.{Codec, Fields, byte_string, end, field, number, struct_of, uint}
+use Rattle.rlp.specs.Codec.{Codec, Fields, byte_string, end, field, number, struct_of, uint}
 use Rattle.rlp_transactions.specs.declared.legacy_transaction.LegacyTransaction.{LegacyTransaction}
 use Rattle.rlp_transactions.specs.Recipient.{recipient}
 use Rattle.rlp.specs.Uint.{Uint}

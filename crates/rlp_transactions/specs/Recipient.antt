@@ -4,7 +4,7 @@ use Rattle.std.proofs.Common.{refl, sym, ap, ◌∙◌, arith}
 use Rattle.rlp.specs.Format.WrittenHeader.{AreBytes}
 use Rattle.rlp_codec.specs.Form.{Fault, fixed_of, map_value}
 use Rattle.rlp_codec.proofs.StringLaws.{ReadsStrings, array_strings}
-use Rattle.rlp_reading.specs.Codec.{Codec, string_type}
+use Rattle.rlp.specs.Codec.{Codec, string_type}
 use Rattle.rlp_transactions.specs.declared.recipient.Recipient.{Recipient}
 use Rattle.rlp_transactions.specs.declared.recipient.Recipient.TheVariants.{Creation, Account}
 

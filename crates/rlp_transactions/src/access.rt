@@ -2,8 +2,9 @@
 
 ghost use Rattle.rlp_transactions.specs.Access.{access_list_item, access_list};
 
-use rlp::{DecoderError, Each, Encodable, ListOf, Rlp, RlpStream};
-use rlp_reading::{Decodable, RoundTrip, StrictRead};
+use rlp::{
+    Decodable, DecoderError, Each, Encodable, ListOf, Rlp, RlpStream, RoundTrip, StrictRead,
+};
 use rlp_records::{Address, Hash};
 use std::alloc::{AllocError, Global};
 
@@ -31,7 +32,7 @@ impl Decodable for AccessListItem {
     ghost reading = { access_list_item.reading };
 
     fn decode(alloc: Global, rlp: &Rlp<'_>) -> Result<AccessListItem, DecoderError> {
-        rlp_reading::decode_fields!(
+        rlp::decode_fields!(
             alloc,
             rlp,
             AccessListItem {
@@ -69,7 +70,7 @@ impl Decodable for AccessList {
     ghost reading = { access_list.reading };
 
     fn decode(alloc: Global, rlp: &Rlp<'_>) -> Result<AccessList, DecoderError> {
-        let items = rlp_reading::as_list(alloc, rlp)?;
+        let items = rlp::as_list(alloc, rlp)?;
         Ok(AccessList(items))
     }
 }

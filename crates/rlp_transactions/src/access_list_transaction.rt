@@ -4,8 +4,7 @@ ghost use Rattle.std.specs.Prelude.{refl};
 ghost use Rattle.rlp_transactions.specs.AccessListTransaction.{access_list_transaction_fields};
 
 use crate::{AccessList, Payload, Recipient, Tagged, TypedTransaction};
-use rlp::{AppendFields, DecoderError, RlpStream, Uint};
-use rlp_reading::{DecodeFields, Fields, FixedFields};
+use rlp::{AppendFields, DecodeFields, DecoderError, Fields, FixedFields, RlpStream, Uint};
 use rlp_records::ACCESS_LIST_TYPE;
 use std::alloc::{AllocError, Global};
 
@@ -67,7 +66,7 @@ impl DecodeFields for AccessListTransaction {
         alloc: Global,
         fields: &mut Fields<'_>,
     ) -> Result<AccessListTransaction, DecoderError> {
-        rlp_reading::decode_fields!(
+        rlp::decode_fields!(
             fields alloc,
             fields,
             AccessListTransaction {

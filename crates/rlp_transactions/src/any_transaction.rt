@@ -11,8 +11,7 @@ use crate::other_transaction::is_other;
 use crate::{OtherTransaction, Transaction};
 use bytes::BytesMut;
 use keccak::keccak256;
-use rlp::{DecoderError, Encodable, Rlp, RlpStream};
-use rlp_reading::{Decodable, RoundTrip, StrictRead};
+use rlp::{Decodable, DecoderError, Encodable, Rlp, RlpStream, RoundTrip, StrictRead};
 use rlp_records::Hash;
 use std::alloc::{AllocError, Global};
 

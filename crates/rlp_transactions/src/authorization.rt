@@ -4,8 +4,7 @@ ghost use Rattle.std.specs.Prelude.{refl};
 ghost use Rattle.rlp_transactions.specs.Authorization.{authorization_fields};
 
 use crate::{Payload, Signed, Tagged};
-use rlp::{AppendFields, DecoderError, RlpStream, Uint};
-use rlp_reading::{DecodeFields, Fields, FixedFields};
+use rlp::{AppendFields, DecodeFields, DecoderError, Fields, FixedFields, RlpStream, Uint};
 use rlp_records::Address;
 use std::alloc::{AllocError, Global};
 
@@ -53,7 +52,7 @@ impl DecodeFields for Authorization {
         alloc: Global,
         fields: &mut Fields<'_>,
     ) -> Result<Authorization, DecoderError> {
-        rlp_reading::decode_fields!(
+        rlp::decode_fields!(
             fields alloc,
             fields,
             Authorization {

@@ -4,8 +4,7 @@ ghost use Rattle.std.specs.Prelude.{refl};
 ghost use Rattle.rlp_transactions.specs.BlobTransaction.{blob_transaction_fields};
 
 use crate::{AccessList, Payload, Tagged, TypedTransaction};
-use rlp::{AppendFields, DecoderError, ListOf, RlpStream, Uint};
-use rlp_reading::{DecodeFields, Fields, FixedFields};
+use rlp::{AppendFields, DecodeFields, DecoderError, Fields, FixedFields, ListOf, RlpStream, Uint};
 use rlp_records::{Address, BLOB_TYPE, Hash};
 use std::alloc::{AllocError, Global};
 
@@ -78,7 +77,7 @@ impl DecodeFields for BlobTransaction {
         alloc: Global,
         fields: &mut Fields<'_>,
     ) -> Result<BlobTransaction, DecoderError> {
-        rlp_reading::decode_fields!(
+        rlp::decode_fields!(
             fields alloc,
             fields,
             BlobTransaction {

@@ -5,8 +5,7 @@ ghost use Rattle.rlp_codec.specs.Form.{fault_of};
 ghost use Rattle.rlp_transactions.specs.BlobWrapper.{version_of, with_cell_proofs, with_proofs, wrapper_version};
 
 use crate::{Blob, BlobTransaction, Signed};
-use rlp::{DecoderError, Encodable, ListOf, Rlp, RlpStream};
-use rlp_reading::{Decodable, RoundTrip, StrictRead};
+use rlp::{Decodable, DecoderError, Encodable, ListOf, Rlp, RlpStream, RoundTrip, StrictRead};
 use rlp_records::{BLOB_TYPE, Enveloped};
 use std::alloc::{AllocError, Global};
 
@@ -72,7 +71,7 @@ impl Decodable for BlobTransactionWithProofs {
     ghost reading = { with_proofs.reading };
 
     fn decode(alloc: Global, rlp: &Rlp<'_>) -> Result<BlobTransactionWithProofs, DecoderError> {
-        rlp_reading::decode_fields!(
+        rlp::decode_fields!(
             alloc,
             rlp,
             BlobTransactionWithProofs {
@@ -120,7 +119,7 @@ impl Decodable for BlobTransactionWithCellProofs {
     ghost reading = { with_cell_proofs.reading };
 
     fn decode(alloc: Global, rlp: &Rlp<'_>) -> Result<BlobTransactionWithCellProofs, DecoderError> {
-        rlp_reading::decode_fields!(
+        rlp::decode_fields!(
             alloc,
             rlp,
             BlobTransactionWithCellProofs {

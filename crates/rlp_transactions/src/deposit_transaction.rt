@@ -3,8 +3,7 @@
 ghost use Rattle.rlp_transactions.specs.DepositTransaction.{deposit_transaction};
 
 use crate::Recipient;
-use rlp::{DecoderError, Encodable, Rlp, RlpStream, Uint};
-use rlp_reading::{Decodable, RoundTrip, StrictRead};
+use rlp::{Decodable, DecoderError, Encodable, Rlp, RlpStream, RoundTrip, StrictRead, Uint};
 use rlp_records::{Address, Enveloped, Hash};
 use std::alloc::{AllocError, Global};
 
@@ -57,7 +56,7 @@ impl Decodable for DepositTransaction {
     ghost reading = { deposit_transaction.reading };
 
     fn decode(alloc: Global, rlp: &Rlp<'_>) -> Result<DepositTransaction, DecoderError> {
-        rlp_reading::decode_fields!(
+        rlp::decode_fields!(
             alloc,
             rlp,
             DepositTransaction {

@@ -4,8 +4,7 @@ ghost use Rattle.std.specs.Prelude.{refl};
 ghost use Rattle.rlp_transactions.specs.FeeMarketTransaction.{fee_market_transaction_fields};
 
 use crate::{AccessList, Payload, Recipient, Tagged, TypedTransaction};
-use rlp::{AppendFields, DecoderError, RlpStream, Uint};
-use rlp_reading::{DecodeFields, Fields, FixedFields};
+use rlp::{AppendFields, DecodeFields, DecoderError, Fields, FixedFields, RlpStream, Uint};
 use rlp_records::FEE_MARKET_TYPE;
 use std::alloc::{AllocError, Global};
 
@@ -70,7 +69,7 @@ impl DecodeFields for FeeMarketTransaction {
         alloc: Global,
         fields: &mut Fields<'_>,
     ) -> Result<FeeMarketTransaction, DecoderError> {
-        rlp_reading::decode_fields!(
+        rlp::decode_fields!(
             fields alloc,
             fields,
             FeeMarketTransaction {

@@ -7,8 +7,7 @@ ghost use Rattle.rlp_transactions.specs.LegacyTransaction.{legacy_transaction_fi
 ghost use Rattle.rlp_transactions.specs.Signatures.{IsNoV, SaysChain, number_of};
 
 use crate::{Eip155, Payload, Recipient, Signed};
-use rlp::{AppendFields, DecoderError, RlpStream, Uint};
-use rlp_reading::{DecodeFields, Fields, FixedFields};
+use rlp::{AppendFields, DecodeFields, DecoderError, Fields, FixedFields, RlpStream, Uint};
 use std::alloc::{AllocError, Global};
 
 /// A transaction without a type, with its signature: the list of nine fields. `v` is any number.
@@ -102,7 +101,7 @@ impl DecodeFields for LegacyTransaction {
         alloc: Global,
         fields: &mut Fields<'_>,
     ) -> Result<LegacyTransaction, DecoderError> {
-        rlp_reading::decode_fields!(
+        rlp::decode_fields!(
             fields alloc,
             fields,
             LegacyTransaction {

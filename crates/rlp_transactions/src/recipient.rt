@@ -4,8 +4,7 @@ ghost use Rattle.std.specs.Prelude.{◌≡◌, Err, IfErr, IfOk, Ok};
 ghost use Rattle.rlp_codec.specs.Form.{fault_of};
 ghost use Rattle.rlp_transactions.specs.Recipient.{recipient, recipient_of, seen_recipient};
 
-use rlp::{DecoderError, Encodable, Rlp, RlpStream};
-use rlp_reading::{Decodable, RoundTrip, StrictRead};
+use rlp::{Decodable, DecoderError, Encodable, Rlp, RlpStream, RoundTrip, StrictRead};
 use rlp_records::Address;
 use std::alloc::{AllocError, Global};
 

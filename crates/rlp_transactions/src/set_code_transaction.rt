@@ -4,8 +4,7 @@ ghost use Rattle.std.specs.Prelude.{refl};
 ghost use Rattle.rlp_transactions.specs.SetCodeTransaction.{set_code_transaction_fields};
 
 use crate::{AccessList, Payload, SignedAuthorization, Tagged, TypedTransaction};
-use rlp::{AppendFields, DecoderError, ListOf, RlpStream, Uint};
-use rlp_reading::{DecodeFields, Fields, FixedFields};
+use rlp::{AppendFields, DecodeFields, DecoderError, Fields, FixedFields, ListOf, RlpStream, Uint};
 use rlp_records::{Address, SET_CODE_TYPE};
 use std::alloc::{AllocError, Global};
 
@@ -76,7 +75,7 @@ impl DecodeFields for SetCodeTransaction {
         alloc: Global,
         fields: &mut Fields<'_>,
     ) -> Result<SetCodeTransaction, DecoderError> {
-        rlp_reading::decode_fields!(
+        rlp::decode_fields!(
             fields alloc,
             fields,
             SetCodeTransaction {

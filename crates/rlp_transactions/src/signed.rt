@@ -6,14 +6,16 @@ ghost use Rattle.rlp.specs.Format.Encoding.{encoding};
 ghost use Rattle.rlp.specs.Format.Item.{list_of};
 ghost use Rattle.rlp_codec.specs.Form.{fault_of, held_reading, struct_reading};
 ghost use Rattle.rlp_codec.specs.Laws.{AreLawful, fields_of};
-ghost use Rattle.rlp_reading.specs.Codec.{codec_of, lawful_fields};
+ghost use Rattle.rlp.specs.Codec.{codec_of, lawful_fields};
 ghost use Rattle.rlp_records.specs.Envelope.{another_type, read_after};
 ghost use Rattle.rlp_transactions.specs.Signed.{SignedFits, listed, signed, signed_item, signed_reading};
 ghost use Rattle.rlp_transactions.specs.declared.signed.Signed.{Signed};
 
 use bytes::BytesMut;
-use rlp::{AppendFields, DecoderError, Encodable, FieldsOf, Rlp, RlpStream, Uint};
-use rlp_reading::{Decodable, FixedFields, RoundTrip, StrictRead};
+use rlp::{
+    AppendFields, Decodable, DecoderError, Encodable, FieldsOf, FixedFields, Rlp, RlpStream,
+    RoundTrip, StrictRead, Uint,
+};
 use rlp_records::{from_envelope, to_envelope, typed_list};
 use std::alloc::{AllocError, Global};
 
@@ -163,7 +165,7 @@ impl<T: Payload, V: Decodable> Decodable for Signed<T, V> {
     ghost reading = { signed_reading T.reading V.reading };
 
     fn decode(alloc: Global, rlp: &Rlp<'_>) -> Result<Signed<T, V>, DecoderError> {
-        rlp_reading::decode_fields!(
+        rlp::decode_fields!(
             alloc,
             rlp,
             Signed {
@@ -204,7 +206,7 @@ impl<T: Payload> Decodable for Listed<T> {
     ghost reading = { held_reading T.reading.takes_memory (λ u. u.0) (struct_reading T.reading) };
 
     fn decode(alloc: Global, rlp: &Rlp<'_>) -> Result<Listed<T>, DecoderError> {
-        match rlp_reading::decode_struct(alloc, rlp) {
+        match rlp::decode_struct(alloc, rlp) {
             Ok(payload) => Ok(Listed(payload)),
             Err(fault) => Err(fault.fault),
         }

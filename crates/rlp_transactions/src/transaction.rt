@@ -17,8 +17,10 @@ use crate::{
     SignedLegacyTransaction,
 };
 use bytes::BytesMut;
-use rlp::{DecoderError, Encodable, Envelope, Rlp, RlpStream, write_envelope};
-use rlp_reading::{Decodable, RoundTrip, StrictRead, envelope_in};
+use rlp::{
+    Decodable, DecoderError, Encodable, Envelope, Rlp, RlpStream, RoundTrip, StrictRead,
+    envelope_in, write_envelope,
+};
 use rlp_records::{ACCESS_LIST_TYPE, BLOB_TYPE, FEE_MARKET_TYPE, SET_CODE_TYPE, to_envelope};
 use std::alloc::{AllocError, Global};
 
@@ -86,7 +88,7 @@ fn read_alone(alloc: Global, bytes: &[u8]) -> Result<Transaction, DecoderError>
         ⊎ ((e ≡ OutOfMemory) × IsTrue transaction.reading.takes_memory)) }
 {
     if Rlp::new(bytes).is_list() {
-        return match rlp_reading::decode_strict(alloc, bytes) {
+        return match rlp::decode_strict(alloc, bytes) {
             Ok(legacy) => Ok(Transaction::Legacy(legacy)),
             Err(fault) => Err(fault),
         };

@@ -10,7 +10,7 @@
 macro_rules! decode_typed {
     ($alloc:expr, $envelope:expr, $unknown:literal, $($kind:path => $variant:path $([$listed:path])?),+ $(,)?) => {
         match $envelope.tag {
-            $($kind => match rlp_reading::decode_strict($alloc, $envelope.payload) {
+            $($kind => match rlp::decode_strict($alloc, $envelope.payload) {
                 Ok($($listed)?(payload)) => Ok($variant(payload)),
                 Err(fault) => Err(fault),
             },)+

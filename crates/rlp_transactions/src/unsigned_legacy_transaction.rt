@@ -9,8 +9,10 @@ ghost use Rattle.rlp_transactions.specs.UnsignedLegacyTransaction.{unsigned_lega
 
 use crate::{Eip155, LegacyTransaction, Payload, SignedLegacyTransaction};
 use bytes::BytesMut;
-use rlp::{AppendFields, DecoderError, Encodable, FieldsOf, Rlp, RlpStream, Uint, write_struct};
-use rlp_reading::{Decodable, Joined, OptionalGroup, RoundTrip, StrictRead};
+use rlp::{
+    AppendFields, Decodable, DecoderError, Encodable, FieldsOf, Joined, OptionalGroup, Rlp,
+    RlpStream, RoundTrip, StrictRead, Uint, write_struct,
+};
 use std::alloc::{AllocError, Global};
 
 /// A transaction without a type before it is signed: the list of its six fields, as in section 4.2 of
@@ -98,7 +100,7 @@ impl Decodable for UnsignedLegacyTransaction {
     ghost reading = { unsigned_legacy_transaction.reading };
 
     fn decode(alloc: Global, rlp: &Rlp<'_>) -> Result<UnsignedLegacyTransaction, DecoderError> {
-        match rlp_reading::decode_struct::<UnsignedFields>(alloc, rlp) {
+        match rlp::decode_struct::<UnsignedFields>(alloc, rlp) {
             Ok(Joined(payload, OptionalGroup(group))) => {
                 let chain_id = match group {
                     Some((chain_id, (_, (_, ())))) => { Some(chain_id) }

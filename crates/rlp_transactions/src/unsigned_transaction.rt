@@ -110,7 +110,7 @@ fn read_alone(alloc: Global, bytes: &[u8]) -> Result<UnsignedTransaction, Decode
         ⊎ ((e ≡ OutOfMemory) × IsTrue unsigned_transaction.reading.takes_memory)) }
 {
     if Rlp::new(bytes).is_list() {
-        return match rlp_reading::decode_strict(alloc, bytes) {
+        return match rlp::decode_strict(alloc, bytes) {
             Ok(legacy) => Ok(UnsignedTransaction::Legacy(legacy)),
             Err(fault) => Err(fault),
         };

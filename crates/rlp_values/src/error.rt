@@ -3,6 +3,7 @@
 ghost use Rattle.std.specs.Prelude.{◌≡◌, ◌++◌, codes, Some, MatchResult};
 ghost use Rattle.rlp_values.specs.Views.Text.{error_name};
 
+use std::alloc::{AllocError, AllocFailed};
 use std::error::Error;
 use std::fmt;
 
@@ -101,3 +102,25 @@ impl fmt::Display for DecoderError {
 }
 
 impl Error for DecoderError {}
+
+/// Memory was refused, for anything.
+impl From<AllocError> for DecoderError {
+    ghost use Rattle.rlp_values.specs.declared.error.DecoderError.TheVariants.{OutOfMemory};
+
+    ghost from_gives = { λ _ e. e ≡ OutOfMemory };
+
+    fn from(_refused: AllocError) -> DecoderError {
+        DecoderError::OutOfMemory
+    }
+}
+
+/// Memory was refused for a value that is dropped.
+impl<T: Drop> From<AllocFailed<T>> for DecoderError {
+    ghost use Rattle.rlp_values.specs.declared.error.DecoderError.TheVariants.{OutOfMemory};
+
+    ghost from_gives = { λ _ e. e ≡ OutOfMemory };
+
+    fn from(_refused: AllocFailed<T>) -> DecoderError {
+        DecoderError::OutOfMemory
+    }
+}

@@ -126,7 +126,10 @@ pub(crate) fn may_end_at(bytes: &[u8], strict: bool, len: usize) -> bool
 /// then stay in registers.
 #[inline(always)]
 pub(crate) fn short_string(bytes: &[u8], strict: bool) -> Option<&[u8]>
-    ensures { IfSome result (λ d. HoldsString (record { bytes = bytes.now; is_strict = strict }) d.now) }
+    ensures held { IfSome result
+        (λ d. HoldsString (record { bytes = bytes.now; is_strict = strict }) d.now) }
+    ensures exact { IfSome result
+        (λ d. view_string (record { bytes = bytes.now; is_strict = strict }) ≡ Ok d.now) }
 {
     match bytes {
         [0x00..=0x7f, ..] if may_end_at(bytes, strict, 1) => Some(&bytes[..1]),

@@ -1,7 +1,0 @@
-use Rattle.std.proofs.Common.{arith}
-use Rattle.rlp_format.specs.Lemmas.Digits.{bytes_held}
-use Rattle.rlp_values.specs.Lemmas.OneReading.{bytes_reading}
-use Rattle.rlp.proofs.laws.reading.bytes_are_read.Goals as goal
-
-pub returns : goal.returns
-returns c = bytes_reading _ (bytes_held _ c.type_inv.bytes) (omega arith)

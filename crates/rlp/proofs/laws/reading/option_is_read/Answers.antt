@@ -1,7 +1,0 @@
-use Rattle.std.proofs.Common.{arith}
-use Rattle.rlp_format.specs.Lemmas.Digits.{bytes_held}
-use Rattle.rlp_values.proofs.Values.ListReadings.{option_reading}
-use Rattle.rlp.proofs.laws.reading.option_is_read.Goals as goal
-
-pub returns : goal.returns
-returns g c = λ law. option_reading _ _ _ law _ (bytes_held _ c.type_inv.bytes) (omega arith)

@@ -1,2 +1,0 @@
--- codecs with their laws
-pub mod Codec
