@@ -18,5 +18,7 @@ pub mod RawLaws
 pub mod EachField
 -- the paths of faults
 pub mod Places
+-- types whose values are strings of several kinds
+pub mod KindLaws
 -- types that are read from the whole first item of a view
 pub mod FirstItemLaws

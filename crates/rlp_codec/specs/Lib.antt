@@ -4,5 +4,7 @@ pub mod Form
 pub mod Sums
 -- the laws of codecs
 pub mod Laws
+-- strings of several kinds
+pub mod Kinds
 -- types that are read from the whole first item of a view
 pub mod FirstItems

@@ -7,7 +7,6 @@
 mod block;
 mod body;
 pub mod laws;
-mod record;
 
 pub use block::Block;
 pub use body::Body;

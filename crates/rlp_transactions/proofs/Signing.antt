@@ -2,7 +2,7 @@
 use Rattle.std.proofs.Common.{◌≡◌, ℕ, ◌^◌, ◌<◌, List, ◌∷◌, [], length, refl, sym, ap, ◌∙◌, arith, Ok, Err}
 use Rattle.rlp.specs.Format.Item.{list_of}
 use Rattle.rlp.specs.Format.Encoding.{encoding}
-use Rattle.rlp.specs.Form.{custom}
+use Rattle.rlp_codec.specs.Form.{custom}
 use Rattle.rlp.specs.Codec.{plain, struct_of}
 use Rattle.rlp_records.proofs.AfterByte.{after_strings}
 use Rattle.rlp_records.proofs.Bytes.{bytes_tell}

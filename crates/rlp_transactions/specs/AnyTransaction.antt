@@ -3,8 +3,8 @@ use Rattle.std.specs.Prelude.{ℕ, ◌≡◌, ◌⊎◌, List, Ok, false, true}
 use Rattle.std.proofs.Common.{inl, inr, refl, sym, ap, ◌∙◌}
 use Rattle.rlp.specs.Format.Item.{is_list, string}
 use Rattle.rlp.specs.Values.Sums.{sum_item}
-use Rattle.rlp.specs.Form.{Answer, Fault}
-use Rattle.rlp.specs.Sums.{envelope}
+use Rattle.rlp_codec.specs.Form.{Answer, Fault}
+use Rattle.rlp_codec.specs.Sums.{envelope}
 use Rattle.rlp.specs.Codec.{Codec, lawful, newtype, plain}
 use Rattle.rlp_transactions.specs.OtherStrings.{or_lawful, or_string, same_string, string_or}
 use Rattle.rlp_transactions.specs.LegacyTransaction.{signed_legacy_transaction}

@@ -3,7 +3,7 @@ use Rattle.std.specs.Prelude.{Bool, ℕ, List, ◌⊎◌, refl}
 use Rattle.std.proofs.Common.{inl, inr}
 use Rattle.rlp.specs.Uint.{Uint}
 use Rattle.rlp.specs.Codec.{Cases, Codec, and_case, enveloped, last_case, list_or_string, newtype}
-use Rattle.rlp.specs.Form.{Answer, Fault}
+use Rattle.rlp_codec.specs.Form.{Answer, Fault}
 use Rattle.rlp_records.specs.Alone.{read_alone, unknown_type}
 use Rattle.rlp_transactions.specs.declared.access_list_transaction.AccessListTransaction.{AccessListTransaction}
 use Rattle.rlp_transactions.specs.declared.blob_transaction.BlobTransaction.{BlobTransaction}

@@ -2,7 +2,9 @@
 
 ghost use Rattle.rlp_transactions.specs.Access.{access_list_item, access_list};
 
-use rlp::{Decodable, DecoderError, Each, Encodable, ListOf, Rlp, RlpStream, RoundTrip, StrictRead};
+use rlp::{
+    Decodable, DecoderError, Each, Encodable, ListOf, Rlp, RlpStream, RoundTrip, StrictRead,
+};
 use rlp_records::{Address, Hash};
 use std::alloc::{AllocError, Global};
 

@@ -4,15 +4,18 @@ ghost use Rattle.std.specs.Prelude.{◌≡◌, ◌∷◌, ◌⊎◌, ℕ, true, 
 ghost use Rattle.rlp.specs.DecoderError.TheVariants.{OutOfMemory};
 ghost use Rattle.rlp.specs.Format.Encoding.{encoding};
 ghost use Rattle.rlp.specs.Format.Item.{list_of};
-ghost use Rattle.rlp.specs.Form.{fault_of, held_reading, struct_reading};
-ghost use Rattle.rlp.specs.Laws.{AreLawful, fields_of};
+ghost use Rattle.rlp_codec.specs.Form.{fault_of, held_reading, struct_reading};
+ghost use Rattle.rlp_codec.specs.Laws.{AreLawful, fields_of};
 ghost use Rattle.rlp.specs.Codec.{codec_of, lawful_fields};
 ghost use Rattle.rlp_records.specs.Envelope.{another_type, read_after};
 ghost use Rattle.rlp_transactions.specs.Signed.{SignedFits, listed, signed, signed_item, signed_reading};
 ghost use Rattle.rlp_transactions.specs.declared.signed.Signed.{Signed};
 
 use bytes::BytesMut;
-use rlp::{AppendFields, Decodable, DecoderError, Encodable, FieldsOf, FixedFields, Rlp, RlpStream, RoundTrip, StrictRead, Uint};
+use rlp::{
+    AppendFields, Decodable, DecoderError, Encodable, FieldsOf, FixedFields, Rlp, RlpStream,
+    RoundTrip, StrictRead, Uint,
+};
 use rlp_records::{from_envelope, to_envelope, typed_list};
 use std::alloc::{AllocError, Global};
 

@@ -4,7 +4,7 @@ ghost use Rattle.std.specs.Prelude.{◌≡◌, ◌⊎◌, Err, IfErr, IfOk, IsTr
 ghost use Rattle.std.proofs.Common.{inr};
 ghost use Rattle.rlp.specs.DecoderError.TheVariants.{OutOfMemory};
 ghost use Rattle.rlp.specs.Views.View.{strict_view_of};
-ghost use Rattle.rlp.specs.Form.{fault_of, map_value};
+ghost use Rattle.rlp_codec.specs.Form.{fault_of, map_value};
 ghost use Rattle.rlp_records.specs.Alone.{bytes_alone};
 ghost use Rattle.rlp_transactions.specs.Transaction.{transaction, transaction_alone, typed_transactions};
 
@@ -17,7 +17,10 @@ use crate::{
     SignedLegacyTransaction,
 };
 use bytes::BytesMut;
-use rlp::{Decodable, DecoderError, Encodable, Envelope, Rlp, RlpStream, RoundTrip, StrictRead, envelope_in, write_envelope};
+use rlp::{
+    Decodable, DecoderError, Encodable, Envelope, Rlp, RlpStream, RoundTrip, StrictRead,
+    envelope_in, write_envelope,
+};
 use rlp_records::{ACCESS_LIST_TYPE, BLOB_TYPE, FEE_MARKET_TYPE, SET_CODE_TYPE, to_envelope};
 use std::alloc::{AllocError, Global};
 

@@ -9,7 +9,10 @@ ghost use Rattle.rlp_transactions.specs.UnsignedLegacyTransaction.{unsigned_lega
 
 use crate::{Eip155, LegacyTransaction, Payload, SignedLegacyTransaction};
 use bytes::BytesMut;
-use rlp::{AppendFields, Decodable, DecoderError, Encodable, FieldsOf, Joined, OptionalGroup, Rlp, RlpStream, RoundTrip, StrictRead, Uint, write_struct};
+use rlp::{
+    AppendFields, Decodable, DecoderError, Encodable, FieldsOf, Joined, OptionalGroup, Rlp,
+    RlpStream, RoundTrip, StrictRead, Uint, write_struct,
+};
 use std::alloc::{AllocError, Global};
 
 /// A transaction without a type before it is signed: the list of its six fields, as in section 4.2 of
