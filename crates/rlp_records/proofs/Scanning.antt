@@ -19,23 +19,10 @@ use Rattle.rlp.specs.Lemmas.Frames.{encoding_item, frame_front, framed_same, fra
 use Rattle.rlp.specs.Lemmas.RawItems.{list_by, raw_item_of-encoding, shallow_within}
 use Rattle.rlp.specs.Values.RawItem.{raw_item_of}
 use Rattle.rlp_records.proofs.AfterByte.{with_first}
-use Rattle.rlp_records.proofs.Bounds.{one_item}
+use Rattle.rlp_records.proofs.Bounds.{one_item, told_encoding, told_no_encoding}
 use Rattle.rlp_records.specs.Bounded.{bytes_counted, is_encoding, is_read_type, items_in, items_in_all_envelopes, items_in_envelopes, items_in_string, payload_items}
 
 -- ---- payloads
-
--- bytes that are the encoding of an item are told to be one
-pub told_encoding : (b : List ℕ) → length b < 2 ^ 64 → IsCanonicalWithin 256 b → is_encoding b ≡ true
-told_encoding b short (x, is, deep) =
-    (bytes_eq-Decides (encoding (raw_item_of b)) b).1 (ap encoding (raw_item_of-encoding b x short is deep) ∙ sym is)
-
-told_by : (b : List ℕ) (t : Bool) → is_encoding b ≡ t → ¬ IsCanonicalWithin 256 b → t ≡ false
-told_by b false is none = refl
-told_by b true is none = absurd (none (raw_item_of b, sym ((bytes_eq-Decides (encoding (raw_item_of b)) b).0 is), shallow_within 256 b))
-
--- and other bytes are told not to be one
-pub told_no_encoding : (b : List ℕ) → ¬ IsCanonicalWithin 256 b → is_encoding b ≡ false
-told_no_encoding b none = told_by b (is_encoding b) refl none
 
 pub no_list_counted : (b : List ℕ) → begins_as_list b ≡ false → 0 ≡ payload_items b
 no_list_counted b kind =

@@ -1,12 +1,11 @@
 //! Reading with a bound on the number of items, for bytes of strangers.
 
-ghost use Rattle.std.specs.Prelude.{◌≡◌, ◌⊎◌, IfErr, IfOk, IsTrue, MatchResult};
+ghost use Rattle.std.specs.Prelude.{◌≡◌, ◌⊎◌, Err, IfErr, IfOk, IsTrue, MatchResult, None, Ok, Some};
 ghost use Rattle.rlp.specs.DecoderError.TheVariants.{OutOfMemory};
 ghost use Rattle.rlp.specs.Format.Encoding.{encoding};
 ghost use Rattle.rlp.specs.Values.Value.{AreAlike};
-ghost use Rattle.rlp.specs.Views.View.{strict_view_of};
-ghost use Rattle.rlp_codec.specs.Form.{Faults};
-ghost use Rattle.rlp_records.specs.Bounded.{IsBounded, IsBoundFault, IsWithinBounds};
+ghost use Rattle.rlp_codec.specs.Form.{fault_of};
+ghost use Rattle.rlp_records.specs.Bounded.{IsBounded, IsWithinBounds, bound_fault, read_bounded};
 
 use crate::envelope_items::{GREATEST_DEPTH, items_in_envelopes};
 use rlp::{DecoderError, FlatItem, StrictRead, TreeFault};
@@ -33,10 +32,11 @@ pub fn decode_at_most<R: StrictRead>(
 ) -> Result<R, DecoderError>
     ensures whole { IfOk result (λ w. R.fits w × (bytes.now ≡ encoding (R.item w))) }
     ensures bounded { IfOk result (λ w. IsBounded most (R.item w)) }
-    ensures fault { IfErr result (λ e. IsBoundFault most bytes.now e
-        ⊎ (IsWithinBounds most bytes.now
-        × (Faults R.reading (strict_view_of bytes.now) e
-        ⊎ ((e ≡ OutOfMemory) × IsTrue R.reading.takes_memory)))) }
+    ensures value { IfOk result
+        (λ w. (read_bounded most R.reading.read bytes.now).result ≡ Ok (R.reading.seen w)) }
+    ensures fault { IfErr result
+        (λ e. ((read_bounded most R.reading.read bytes.now).result ≡ Err (fault_of e))
+        ⊎ (IsWithinBounds most bytes.now × ((e ≡ OutOfMemory) × IsTrue R.reading.takes_memory))) }
     ensures alike { (v : R) → R.fits v → bytes.now ≡ encoding (R.item v)
         → IfOk result (λ w. R.fits w × AreAlike R.item w v) }
     ensures memory { (v : R) → R.fits v → IsBounded most (R.item v)
@@ -53,7 +53,8 @@ pub fn decode_at_most<R: StrictRead>(
 fn test_bounds(bytes: &[u8], most: usize) -> Result<(), DecoderError>
     ensures within { MatchResult result (λ _. IsWithinBounds most bytes.now)
         (λ _. ¬ IsWithinBounds most bytes.now) }
-    ensures fault { IfErr result (λ e. IsBoundFault most bytes.now e) }
+    ensures fault { MatchResult result (λ _. bound_fault most bytes.now ≡ None)
+        (λ e. bound_fault most bytes.now ≡ Some (fault_of e)) }
 {
     let count = match walk_whole::<FlatItem>(bytes, GREATEST_DEPTH, &mut []) {
         Ok(count) => count,
