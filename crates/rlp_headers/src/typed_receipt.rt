@@ -12,7 +12,7 @@ use crate::Receipt;
 use bytes::BytesMut;
 use rlp::{
     Decodable, DecoderError, Encodable, Envelope, Rlp, RlpStream, RoundTrip, StrictRead,
-    write_envelope,
+    decode_strict, write_envelope,
 };
 use rlp_records::{ACCESS_LIST_TYPE, BLOB_TYPE, FEE_MARKET_TYPE, SET_CODE_TYPE, to_envelope};
 use std::alloc::{AllocError, Global};
@@ -60,11 +60,8 @@ impl TypedReceipt {
         ensures whole { IfOk result (λ r. typed_receipt.Fits r
             × (bytes.now ≡ bytes_alone (typed_receipt.item r))) }
         ensures value { IfOk result
-            (λ r. (receipt_alone bytes.now).result
-            ≡ Ok (typed_receipt.reading.seen r)) }
-        ensures fault { IfErr result (λ e.
-            ((receipt_alone bytes.now).result
-            ≡ Err (fault_of e))
+            (λ r. (receipt_alone bytes.now).result ≡ Ok (typed_receipt.reading.seen r)) }
+        ensures fault { IfErr result (λ e. ((receipt_alone bytes.now).result ≡ Err (fault_of e))
             ⊎ ((e ≡ OutOfMemory) × IsTrue typed_receipt.reading.takes_memory)) }
         ensures memory { (r : TypedReceipt) → typed_receipt.Fits r
             → bytes.now ≡ bytes_alone (typed_receipt.item r) → IfErr result (λ e. e ≡ OutOfMemory) }
@@ -76,15 +73,12 @@ impl TypedReceipt {
 // Reads a receipt from its bytes. The clauses of `from_bytes` are about the receipt and its bytes.
 fn read_alone(alloc: Global, bytes: &[u8]) -> Result<TypedReceipt, DecoderError>
     ensures value { IfOk result
-        (λ r. (receipt_alone bytes.now).result
-        ≡ Ok (typed_receipt.reading.seen r)) }
-    ensures fault { IfErr result
-        (λ e. ((receipt_alone bytes.now).result
-        ≡ Err (fault_of e))
+        (λ r. (receipt_alone bytes.now).result ≡ Ok (typed_receipt.reading.seen r)) }
+    ensures fault { IfErr result (λ e. ((receipt_alone bytes.now).result ≡ Err (fault_of e))
         ⊎ ((e ≡ OutOfMemory) × IsTrue typed_receipt.reading.takes_memory)) }
 {
     if Rlp::new(bytes).is_list() {
-        return Ok(TypedReceipt::Legacy(rlp::decode_strict(alloc, bytes)?));
+        return Ok(TypedReceipt::Legacy(decode_strict(alloc, bytes)?));
     }
     decode_payload(alloc, &Envelope::split(bytes)?)
 }
@@ -97,17 +91,12 @@ fn decode_payload(alloc: Global, envelope: &Envelope<'_>) -> Result<TypedReceipt
     ensures fault { IfErr result (λ e. ((typed_receipts.cases.read envelope.now.tag
         (strict_view_of envelope.now.payload.now)).result ≡ Err (fault_of e)) ⊎ (e ≡ OutOfMemory)) }
 {
+    let payload = envelope.payload;
     match envelope.tag {
-        ACCESS_LIST_TYPE => Ok(TypedReceipt::AccessList(rlp::decode_strict(
-            alloc,
-            envelope.payload,
-        )?)),
-        FEE_MARKET_TYPE => Ok(TypedReceipt::FeeMarket(rlp::decode_strict(
-            alloc,
-            envelope.payload,
-        )?)),
-        BLOB_TYPE => Ok(TypedReceipt::Blob(rlp::decode_strict(alloc, envelope.payload)?)),
-        SET_CODE_TYPE => Ok(TypedReceipt::SetCode(rlp::decode_strict(alloc, envelope.payload)?)),
+        ACCESS_LIST_TYPE => Ok(TypedReceipt::AccessList(decode_strict(alloc, payload)?)),
+        FEE_MARKET_TYPE => Ok(TypedReceipt::FeeMarket(decode_strict(alloc, payload)?)),
+        BLOB_TYPE => Ok(TypedReceipt::Blob(decode_strict(alloc, payload)?)),
+        SET_CODE_TYPE => Ok(TypedReceipt::SetCode(decode_strict(alloc, payload)?)),
         _ => Err(DecoderError::Custom("unknown transaction type")),
     }
 }

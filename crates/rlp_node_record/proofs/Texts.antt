@@ -1,5 +1,5 @@
 -- The text of a record tells the record.
-use Rattle.std.proofs.Common.{◌≡◌, ◌<◌, ◌^◌, ℕ, zero, suc, List, [], ◌∷◌, ◌++◌, ◌⊎◌, inl, inr, Ok, sym, ap, ◌∙◌, codes, length, refl, true, arith}
+use Rattle.std.proofs.Common.{◌≡◌, ◌<◌, ◌^◌, ℕ, zero, suc, List, [], ◌∷◌, ◌++◌, ◌⊎◌, inl, inr, Ok, sym, ap, ◌∙◌, codes, length, refl, subst, true, arith}
 use Rattle.base64.specs.Engines.{url_safe_no_pad}
 use Rattle.base64.specs.GeneralPurpose.{IsBytes, decode_of}
 use Rattle.base64.proofs.EngineFacts.{decode_of-encode_of}
@@ -7,6 +7,7 @@ use Rattle.rlp.specs.DecoderError.{DecoderError}
 use Rattle.rlp.specs.DecoderError.TheVariants.{OutOfMemory}
 use Rattle.rlp.specs.Format.Encoding.{encoding}
 use Rattle.rlp.specs.Format.WrittenHeader.{AreBytes}
+use Rattle.rlp.specs.Lemmas.Reading.{bytes_held}
 use Rattle.rlp.specs.Views.View.{strict_view_of}
 use Rattle.rlp.specs.Form.{Faults, custom, fault_of}
 use Rattle.rlp_codec.proofs.Corollaries.{not_both}
@@ -39,10 +40,11 @@ text_fault t digits e is (inl (not, text)) = inl (not_base64 digits is not text)
 text_fault t digits e is (inr lacks) = inr (lacks, (digits, is))
 
 -- why no record is read from the bytes of a text
-pub bytes_fault : (t digits b c : List ℕ) (e : DecoderError) {M : Type 0} → AreBytes c → t ≡ codes "enr:" ++ digits → digits ≡ base64_of b → c ≡ b
+pub bytes_fault : (t digits b c : List ℕ) (e : DecoderError) {M : Type 0} → IsBytes b → t ≡ codes "enr:" ++ digits → digits ≡ base64_of b → c ≡ b
     → Faults node_record.reading (strict_view_of c) e ⊎ ((e ≡ OutOfMemory) × M) → IsNodeTextFault t e ⊎ ((e ≡ OutOfMemory) × HasPrefix t)
 bytes_fault t digits b c e bytes is same copy (inl bad) =
-    inl (faulty_bytes c bytes (is ∙ ap (λ d. codes "enr:" ++ d) (same ∙ ap base64_of (sym copy))) bad)
+    let held : AreBytes b = bytes_held b (λ i. let fits = bytes i in omega arith) in
+    inl (faulty_bytes c (subst AreBytes (sym copy) held) (is ∙ ap (λ d. codes "enr:" ++ d) (same ∙ ap base64_of (sym copy))) bad)
 bytes_fault t digits b c e bytes is same copy (inr lacks) = inr (lacks.0, (digits, is))
 
 -- texts with the same bytes after `enr:`

@@ -143,8 +143,10 @@ fn record_fields(alloc: Global, bytes: &[u8]) -> Result<NodeFields, DecoderError
         return Err(DecoderError::RlpIsTooBig);
     }
     let fields = rlp::decode_strict::<NodeFields>(alloc, bytes)?;
-    test_keys(fields.pairs.as_slice())?;
-    Ok(fields)
+    match test_keys(fields.pairs.as_slice()) {
+        Ok(()) => Ok(fields),
+        Err(fault) => Err(fault),
+    }
 }
 
 impl Encodable for NodeRecord {

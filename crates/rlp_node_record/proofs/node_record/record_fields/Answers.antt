@@ -1,13 +1,27 @@
-use Rattle.std.proofs.Common.{arith, ap, subst, ◌∙◌, sym}
+use Rattle.std.proofs.Common.{◌≡◌, ◌≤◌, length, Ok, Err, ap, inl, arith, ◌∙◌, sym}
+use Rattle.std.specs.Bool.{⊤}
 use Rattle.std.specs.Vec.{vec_items}
 use Rattle.rlp.specs.Lemmas.Reading.{bytes_held}
+use Rattle.rlp.specs.Form.{fault_of}
+use Rattle.rlp_node_record.specs.NodeFields.{node_fields}
+use Rattle.rlp_node_record.specs.NodeRecord.{keys_of, longest_record, read_record, test_keys}
+use Rattle.rlp_node_record.specs.NodeLaws.{keys_pass, read_tested, record_only}
 use Rattle.rlp_node_record.proofs.node_record.record_fields.Goals as goal
 
-pub returns-in_err-test_keys-clause-fault : goal.returns-in_err-test_keys-clause-fault
-returns-in_err-test_keys-clause-fault c = ?
+pub returns-in-Ok-clause-value : goal.returns-in-Ok-clause-value
+returns-in-Ok-clause-value c =
+    let keys = c.in-Ok.ensures.keys in
+    read_tested c.args.bytes.now c.in_ok-fields.fields (Ok tt) (omega arith) c.in_ok-fields.ensures.value
+    (ap (λ pairs. test_keys (keys_of pairs)) (sym c.as_slice.ensures.value) ∙ keys_pass c.as_slice.result.now keys.0 keys.1)
 
-pub returns-clause-record : goal.returns-clause-record
-returns-clause-record c = ?
+pub returns-in-Ok-clause-record : goal.returns-in-Ok-clause-record
+returns-in-Ok-clause-record c =
+    let keys = c.in-Ok.ensures.keys in
+    (record_only c.args.bytes.now c.in_ok-fields.fields (bytes_held c.args.bytes.now c.type_inv.bytes)
+    (read_tested c.args.bytes.now c.in_ok-fields.fields (Ok tt) (omega arith) c.in_ok-fields.ensures.value
+    (ap (λ pairs. test_keys (keys_of pairs)) (sym c.as_slice.ensures.value) ∙ keys_pass c.as_slice.result.now keys.0 keys.1))).0
 
-pub returns-clause-value : goal.returns-clause-value
-returns-clause-value c = ?
+pub returns-in-Err-clause-fault : goal.returns-in-Err-clause-fault
+returns-in-Err-clause-fault c =
+    inl (read_tested c.args.bytes.now c.in_ok-fields.fields (Err (fault_of c.in-Err.fault)) (omega arith) c.in_ok-fields.ensures.value
+    (ap (λ pairs. test_keys (keys_of pairs)) (sym c.as_slice.ensures.value) ∙ c.in-Err.ensures.fault))
