@@ -31,11 +31,7 @@ impl Encodable for GetBlockHeaders {
 }
 
 impl Decodable for GetBlockHeaders {
-    ghost gives = { get_block_headers.gives };
-
-    ghost faults = { get_block_headers.faults };
-
-    ghost may_lack_memory = { get_block_headers.may_lack };
+    ghost reading = { get_block_headers.reading };
 
     fn decode(alloc: Global, rlp: &Rlp<'_>) -> Result<GetBlockHeaders, DecoderError> {
         rlp::decode_fields!(
@@ -74,14 +70,10 @@ impl Encodable for BlockHeaders {
 }
 
 impl Decodable for BlockHeaders {
-    ghost gives = { block_headers.gives };
-
-    ghost faults = { block_headers.faults };
-
-    ghost may_lack_memory = { block_headers.may_lack };
+    ghost reading = { block_headers.reading };
 
     fn decode(alloc: Global, rlp: &Rlp<'_>) -> Result<BlockHeaders, DecoderError> {
-        let headers = rlp.as_list(alloc)?;
+        let headers = rlp::as_list(alloc, rlp)?;
         Ok(BlockHeaders(headers))
     }
 }
@@ -109,14 +101,10 @@ impl Encodable for GetBlockBodies {
 }
 
 impl Decodable for GetBlockBodies {
-    ghost gives = { get_block_bodies.gives };
-
-    ghost faults = { get_block_bodies.faults };
-
-    ghost may_lack_memory = { get_block_bodies.may_lack };
+    ghost reading = { get_block_bodies.reading };
 
     fn decode(alloc: Global, rlp: &Rlp<'_>) -> Result<GetBlockBodies, DecoderError> {
-        let hashes = rlp.as_list(alloc)?;
+        let hashes = rlp::as_list(alloc, rlp)?;
         Ok(GetBlockBodies(hashes))
     }
 }
@@ -144,14 +132,10 @@ impl Encodable for BlockBodies {
 }
 
 impl Decodable for BlockBodies {
-    ghost gives = { block_bodies.gives };
-
-    ghost faults = { block_bodies.faults };
-
-    ghost may_lack_memory = { block_bodies.may_lack };
+    ghost reading = { block_bodies.reading };
 
     fn decode(alloc: Global, rlp: &Rlp<'_>) -> Result<BlockBodies, DecoderError> {
-        let bodies = rlp.as_list(alloc)?;
+        let bodies = rlp::as_list(alloc, rlp)?;
         Ok(BlockBodies(bodies))
     }
 }
@@ -180,14 +164,10 @@ impl Encodable for GetPooledTransactions {
 }
 
 impl Decodable for GetPooledTransactions {
-    ghost gives = { get_pooled_transactions.gives };
-
-    ghost faults = { get_pooled_transactions.faults };
-
-    ghost may_lack_memory = { get_pooled_transactions.may_lack };
+    ghost reading = { get_pooled_transactions.reading };
 
     fn decode(alloc: Global, rlp: &Rlp<'_>) -> Result<GetPooledTransactions, DecoderError> {
-        let transactions = rlp.as_list(alloc)?;
+        let transactions = rlp::as_list(alloc, rlp)?;
         Ok(GetPooledTransactions(transactions))
     }
 }
@@ -217,14 +197,10 @@ impl Encodable for PooledTransactions {
 }
 
 impl Decodable for PooledTransactions {
-    ghost gives = { pooled_transactions.gives };
-
-    ghost faults = { pooled_transactions.faults };
-
-    ghost may_lack_memory = { pooled_transactions.may_lack };
+    ghost reading = { pooled_transactions.reading };
 
     fn decode(alloc: Global, rlp: &Rlp<'_>) -> Result<PooledTransactions, DecoderError> {
-        let transactions = rlp.as_list(alloc)?;
+        let transactions = rlp::as_list(alloc, rlp)?;
         Ok(PooledTransactions(transactions))
     }
 }
@@ -252,14 +228,10 @@ impl Encodable for GetReceipts {
 }
 
 impl Decodable for GetReceipts {
-    ghost gives = { get_receipts.gives };
-
-    ghost faults = { get_receipts.faults };
-
-    ghost may_lack_memory = { get_receipts.may_lack };
+    ghost reading = { get_receipts.reading };
 
     fn decode(alloc: Global, rlp: &Rlp<'_>) -> Result<GetReceipts, DecoderError> {
-        let blocks = rlp.as_list(alloc)?;
+        let blocks = rlp::as_list(alloc, rlp)?;
         Ok(GetReceipts(blocks))
     }
 }

@@ -31,11 +31,7 @@ impl<T: Encodable> Encodable for WithRequestId<T> {
 }
 
 impl<T: Decodable> Decodable for WithRequestId<T> {
-    ghost gives = { GivesWithRequestId T.gives };
-
-    ghost faults = { FaultsWithRequestId T.gives T.faults };
-
-    ghost may_lack_memory = { MayLackWithRequestId T.gives T.may_lack_memory };
+    ghost reading = { GivesWithRequestId T.reading };
 
     fn decode(alloc: Global, rlp: &Rlp<'_>) -> Result<WithRequestId<T>, DecoderError> {
         rlp::decode_fields!(

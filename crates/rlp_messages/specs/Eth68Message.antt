@@ -1,7 +1,7 @@
 -- How the messages of eth/68 are written and read.
 use Rattle.std.specs.Prelude.{ℕ, ◌⊎◌, List}
 use Rattle.std.proofs.Common.{inl, inr}
-use Rattle.rlp.specs.Codecs.Sums.{Cases, FitsCase, SameCase, and_case}
+use Rattle.rlp.specs.Codec.{Cases, FitsCase, SameCase, and_case}
 use Rattle.rlp_eth.specs.declared.receipts.Receipts.{Receipts}
 use Rattle.rlp_eth.specs.declared.status.Status68.{Status68}
 use Rattle.rlp_messages.specs.declared.eth68_message.Eth68Message.{Eth68Message}

@@ -1,7 +1,7 @@
 -- How the messages of eth/69 are written and read.
 use Rattle.std.specs.Prelude.{ℕ, ◌⊎◌, List}
 use Rattle.std.proofs.Common.{inl, inr}
-use Rattle.rlp.specs.Codecs.Sums.{Cases, FitsCase, SameCase, and_case}
+use Rattle.rlp.specs.Codec.{Cases, FitsCase, SameCase, and_case}
 use Rattle.rlp_eth.specs.declared.announcements.BlockRangeUpdate.{BlockRangeUpdate}
 use Rattle.rlp_eth.specs.declared.receipts69.Receipts69.{Receipts69}
 use Rattle.rlp_eth.specs.declared.status.Status69.{Status69}

@@ -1,6 +1,6 @@
 -- The messages that eth/68 and eth/69 have in common.
 use Rattle.std.specs.Prelude.{◌⊎◌}
-use Rattle.rlp.specs.Codecs.Sums.{Cases, and_case, last_case}
+use Rattle.rlp.specs.Codec.{Cases, and_case, last_case}
 use Rattle.rlp_eth.specs.declared.announcements.NewBlock.{NewBlock}
 use Rattle.rlp_eth.specs.declared.announcements.NewBlockHashes.{NewBlockHashes}
 use Rattle.rlp_eth.specs.declared.announcements.NewPooledTransactionHashes.{NewPooledTransactionHashes}

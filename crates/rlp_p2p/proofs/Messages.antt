@@ -7,7 +7,7 @@ use Rattle.rlp.specs.DecoderError.{DecoderError}
 use Rattle.rlp.specs.DecoderError.TheVariants.{OutOfMemory}
 use Rattle.rlp.specs.Format.Encoding.{IsSized, encoding}
 use Rattle.rlp.specs.Format.WrittenHeader.{AreBytes}
-use Rattle.rlp.specs.Codecs.Sums.{Cases, FitsCase, SameCase, case_item}
+use Rattle.rlp.specs.Codec.{Cases, FitsCase, SameCase, case_item}
 use Rattle.rlp.specs.Lemmas.Encodings.{encoding_same}
 use Rattle.rlp.specs.Lemmas.RoundTrips.{number_held_back}
 use Rattle.rlp.specs.Lemmas.Told.{case_told, number_told}

@@ -2,7 +2,7 @@
 use Rattle.std.specs.Prelude.{refl}
 use Rattle.std.specs.Vec.{vec_items}
 use Rattle.rlp.specs.Codec.{Codec, Fields, byte_array, byte_string, end, field, groups, list_type, newtype, number, struct_of}
-use Rattle.rlp.specs.Codecs.RawItem.{raw_item}
+use Rattle.rlp.specs.Codec.{raw_item}
 use Rattle.rlp_p2p.specs.declared.hello.NodeId.{NodeId}
 use Rattle.rlp_p2p.specs.declared.hello.Capability.{Capability}
 use Rattle.rlp_p2p.specs.declared.hello.FurtherItem.{FurtherItem}

@@ -9,7 +9,7 @@ use Rattle.rlp.specs.Values.Sums.{IsOtherTag}
 use Rattle.rlp.specs.Values.Value.{number_item}
 use Rattle.rlp.specs.Values.ValueReading.{FaultsAsNumber, GivesNumber, IsCustom}
 use Rattle.rlp.specs.Views.View.{strict_view_of, view_of}
-use Rattle.rlp.specs.Codecs.Sums.{Cases, case_item}
+use Rattle.rlp.specs.Codec.{Cases, case_item}
 
 -- frame-data = msg-id || msg-data of RLPx: the encoding of the id, and then that of the body
 abbrev pub message_bytes : {B : Type 0} → ℕ → Cases B → B → List ℕ

@@ -1,7 +1,7 @@
 -- How the messages of `p2p` are written and read.
 use Rattle.std.specs.Prelude.{ℕ, ◌⊎◌, List}
 use Rattle.std.proofs.Common.{inl, inr}
-use Rattle.rlp.specs.Codecs.Sums.{Cases, FitsCase, SameCase, and_case, last_case}
+use Rattle.rlp.specs.Codec.{Cases, FitsCase, SameCase, and_case, last_case}
 use Rattle.rlp_p2p.specs.declared.disconnect.Disconnect.{Disconnect}
 use Rattle.rlp_p2p.specs.declared.hello.Hello.{Hello}
 use Rattle.rlp_p2p.specs.declared.p2p_message.P2pMessage.{P2pMessage}

@@ -3,7 +3,7 @@
 ghost use Rattle.std.specs.Prelude.{◌≡◌};
 ghost use Rattle.rlp_p2p.specs.Disconnect.{NamedIfPossible, disconnect, reason, reason_number, told_reason};
 
-use rlp::{Decodable, DecoderError, Encodable, Field, Rlp, RlpStream, RoundTrip, StrictRead};
+use rlp::{Decodable, DecoderError, Encodable, Rlp, RlpStream, RoundTrip, StrictRead};
 use std::alloc::{AllocError, Global};
 
 /// Why a client ends a connection: a number of one byte, by its name in RLPx.
@@ -99,14 +99,10 @@ impl Encodable for DisconnectReason {
 
 /// Read as its number is. It doesn't allocate.
 impl Decodable for DisconnectReason {
-    ghost gives = { reason.gives };
-
-    ghost faults = { reason.faults };
-
-    ghost may_lack_memory = { reason.may_lack };
+    ghost reading = { reason.reading };
 
     fn decode(alloc: Global, rlp: &Rlp<'_>) -> Result<DisconnectReason, DecoderError> {
-        let number = rlp.as_val(alloc)?;
+        let number = Decodable::decode(alloc, rlp)?;
         Ok(DisconnectReason::of(number))
     }
 }
@@ -157,11 +153,7 @@ impl Encodable for Disconnect {
 
 /// Reading a list fails as reading a struct of one field does, and else as reading a number does.
 impl Decodable for Disconnect {
-    ghost gives = { disconnect.gives };
-
-    ghost faults = { disconnect.faults };
-
-    ghost may_lack_memory = { disconnect.may_lack };
+    ghost reading = { disconnect.reading };
 
     fn decode(alloc: Global, rlp: &Rlp<'_>) -> Result<Disconnect, DecoderError> {
         if rlp.is_list() {
@@ -174,7 +166,7 @@ impl Decodable for Disconnect {
                 Err(fault) => Err(fault.fault),
             };
         }
-        let reason = rlp.as_val(alloc)?;
+        let reason = Decodable::decode(alloc, rlp)?;
         Ok(Disconnect::Bare(reason))
     }
 }

@@ -3,10 +3,7 @@
 ghost use Rattle.std.specs.Prelude.{refl};
 ghost use Rattle.rlp_p2p.specs.Hello.{node_id, capability, further_fields, hello};
 
-use rlp::{
-    AppendFields, Decodable, DecodeFields, DecoderError, Encodable, FieldFault, Fields,
-    FixedFields, Flattened, ListOf, RawItem, Rlp, RlpStream, RoundTrip, StrictRead,
-};
+use rlp::{AppendFields, Decodable, DecodeFields, DecoderError, Encodable, FieldFault, Fields, FixedFields, Flattened, ListOf, RawItem, Rlp, RlpStream, RoundTrip, StrictRead};
 use std::alloc::{AllocError, Global};
 
 /// The public key of a client: 64 bytes.
@@ -27,14 +24,10 @@ impl Encodable for NodeId {
 /// Read as the array of the bytes is. Fails with `RlpIsTooShort` if the string is shorter, and with
 /// `RlpIsTooBig` if it is longer. It doesn't allocate.
 impl Decodable for NodeId {
-    ghost gives = { node_id.gives };
-
-    ghost faults = { node_id.faults };
-
-    ghost may_lack_memory = { node_id.may_lack };
+    ghost reading = { node_id.reading };
 
     fn decode(alloc: Global, rlp: &Rlp<'_>) -> Result<NodeId, DecoderError> {
-        let bytes = rlp.as_val(alloc)?;
+        let bytes = Decodable::decode(alloc, rlp)?;
         Ok(NodeId(bytes))
     }
 }
@@ -68,11 +61,7 @@ impl Encodable for Capability {
 }
 
 impl Decodable for Capability {
-    ghost gives = { capability.gives };
-
-    ghost faults = { capability.faults };
-
-    ghost may_lack_memory = { capability.may_lack };
+    ghost reading = { capability.reading };
 
     fn decode(alloc: Global, rlp: &Rlp<'_>) -> Result<Capability, DecoderError> {
         rlp::decode_fields!(alloc, rlp, Capability { name, version })
@@ -173,11 +162,7 @@ impl Encodable for Hello {
 }
 
 impl Decodable for Hello {
-    ghost gives = { hello.gives };
-
-    ghost faults = { hello.faults };
-
-    ghost may_lack_memory = { hello.may_lack };
+    ghost reading = { hello.reading };
 
     fn decode(alloc: Global, rlp: &Rlp<'_>) -> Result<Hello, DecoderError> {
         rlp::decode_fields!(
