@@ -18,3 +18,5 @@ pub mod RawLaws
 pub mod EachField
 -- the paths of faults
 pub mod Places
+-- each view gives one value or has one fault
+pub mod Readings
