@@ -19,7 +19,7 @@ use crate::{
 use bytes::BytesMut;
 use rlp::{
     Decodable, DecoderError, Encodable, Envelope, Rlp, RlpStream, RoundTrip, StrictRead,
-    envelope_in, write_envelope,
+    write_envelope,
 };
 use rlp_records::{ACCESS_LIST_TYPE, BLOB_TYPE, FEE_MARKET_TYPE, SET_CODE_TYPE, to_envelope};
 use std::alloc::{AllocError, Global};
@@ -144,7 +144,7 @@ impl Decodable for Transaction {
                 Err(fault) => Err(fault),
             };
         }
-        match envelope_in(rlp) {
+        match Envelope::of(rlp) {
             Ok(envelope) => decode_payload(alloc, &envelope),
             Err(fault) => Err(fault),
         }
