@@ -78,14 +78,17 @@ function firstHeaderOf(bytes) {
 }
 
 /** The block that some bytes are, by its shape: a header and lists of transactions, of ommers, and since Shanghai of withdrawals. */
-function blockOf(bytes) {
+function* blockOf(bytes) {
   const header = bytes[0] >= 0xc0 ? firstHeaderOf(bytes) : null;
+  yield;
   const parts = header && orNull(() => [...codec.tree(bytes)]);
+  yield;
   if (!parts || parts.length < 3 || parts.length > 4 || !parts.every(({ isList }) => isList)) return null;
   const names = new Map(header.items.map(({ name, offset }) => [parts[0].offset + offset, name]));
   for (const { isList, offset, headerLength, payloadLength } of [...parts[1]].slice(0, MOST_NAMED)) {
     const found = isList ? orNull(() => codec.transaction(bytes.subarray(offset, offset + headerLength + payloadLength))) : null;
     for (const { name, offset: inner } of found?.items ?? []) names.set(offset + inner, name);
+    yield;
   }
   const told = ({ length }, at) => (at === 0 ? `block ${header.fields.number}, as since ${header.fork}` : counted(length, "entry", "entries"));
   const items = parts.map(({ offset, headerLength, payloadLength }, at) => ({ name: PARTS_OF_BLOCK[at], kind: "told", offset, headerLength, payloadLength }));

@@ -225,7 +225,8 @@ export class Codec {
   tree(bytes: Bytes, options?: Options): Tree;
   /** The items up to the first fault, which is null if there is none. */
   inspect(bytes: Bytes, options?: Options): Inspected;
-  /** The same in steps of some thousands of items, so that a page stays at work. Other calls of the codec end it by an Error. */
+  /** The same in steps of a call of the library or some thousands of items, between which a page can answer. It yields how many bytes have
+   * been looked at. Other calls of the codec end it by an Error. */
   inspectInSteps(bytes: Bytes, options?: Options): Generator<number, Inspected, void>;
   /** The item that the bytes begin with. Others may follow it. */
   header(bytes: Bytes): Item;

@@ -14,7 +14,7 @@ const NO_ROOM = 13;
 const TOO_DEEP = 14;
 export const DEPTH_LIMIT = 256;
 // How many items a walk looks at before others have a turn.
-const STEP = 1 << 14;
+const STEP = 1 << 12;
 
 function depthOf(depth) {
   if (!Number.isInteger(depth) || depth < 0) throw new RangeError("maxDepth isn't a whole number from 0");
@@ -57,28 +57,33 @@ export class Codec {
     return wordsAt(words, result / 4 + HEADER_LEN) + wordsAt(words, result / 4 + PAYLOAD_LEN);
   }
 
-  /** Calls a function that fills rows behind the bytes, with all the room that there is, and once more with what it needs. */
+  /** Calls a function that fills rows behind the bytes, with all the room that there is. */
+  #ask(call, length, rows) {
+    const { start, size, result } = this.#arena;
+    return call(BigInt(start), BigInt(length), BigInt(rows), BigInt(Math.floor((size - rows) / ROW)), BigInt(result));
+  }
+
+  /** The same, and once more with the room that it needs. */
   #fill(bytes, call, isFirst = false) {
     const arena = this.#arena;
     const rows = arena.begin(bytes);
     const length = isFirst ? this.#firstEnd(bytes.length) : bytes.length;
-    const ask = () => call(BigInt(arena.start), BigInt(length), BigInt(rows), BigInt(Math.floor((arena.size - rows) / ROW)), BigInt(arena.result));
-    let status = ask();
+    let status = this.#ask(call, length, rows);
     if (status === NO_ROOM) {
       arena.reach(rows + arena.count * ROW);
-      status = ask();
+      status = this.#ask(call, length, rows);
     }
     return { status, rows, length, count: arena.count };
   }
 
-  #flattened(bytes, depth, isFirst) {
-    return this.#fill(bytes, (at, len, rows, cap, count) => this.#calls.rlp_flatten(at, len, depth, rows, cap, count), isFirst);
+  #flatten(depth) {
+    return (at, len, rows, cap, count) => this.#calls.rlp_flatten(at, len, depth, rows, cap, count);
   }
 
   /** The rows of all the bytes, or of the item that they begin with. */
   #rowsOf(bytes, maxDepth, isFirst = false) {
     const depth = depthOf(maxDepth);
-    const found = this.#flattened(bytes, depth, isFirst);
+    const found = this.#fill(bytes, this.#flatten(depth), isFirst);
     if (found.status !== OK) throw new RlpError(found.status, { place: this.#walk(found.length, depth) });
     return found;
   }
@@ -87,6 +92,11 @@ export class Codec {
   #view(rows, count, length) {
     const { bytes, words, start } = this.#arena;
     return new Rows(this.#arena, words.subarray(rows / 4, rows / 4 + count * 8), bytes.subarray(start, start + length));
+  }
+
+  /** Throws if there was another call since. */
+  #goOn(call) {
+    if (this.#arena.calls !== call) throw new Error("another call has taken the memory of this one");
   }
 
   /** Where the item begins that rlp_flatten refuses. */
@@ -105,7 +115,7 @@ export class Codec {
     for (let count = 1; place < length || ends.length === 1; count++) {
       if (count % STEP === 0) {
         yield place;
-        if (this.#arena.calls !== call) throw new Error("another call has taken the memory of this one");
+        this.#goOn(call);
       }
       while (ends.length > 1 && place === ends[ends.length - 1]) ends.pop();
       const open = ends.length - 1;
@@ -238,17 +248,30 @@ export class Codec {
     return finished(this.inspectInSteps(input, options));
   }
 
-  /** The same as an iterator, which looks at some thousands of items at a time, and returns what `inspect` does. */
+  /** The same as an iterator. Its steps are a call of the library, or some thousands of items. It returns what `inspect` does. */
   *inspectInSteps(input, { maxDepth = DEPTH_LIMIT } = {}) {
     const bytes = this.#outside(bytesOf(input));
     const depth = depthOf(maxDepth);
     const { length } = bytes;
-    const { status, rows, count } = this.#flattened(bytes, depth);
-    if (status === OK) return { rows: this.#view(rows, count, length).copy(), fault: null };
+    const arena = this.#arena;
+    const rows = arena.begin(bytes);
+    const call = arena.calls;
+    yield 0;
+    this.#goOn(call);
+    let status = this.#ask(this.#flatten(depth), length, rows);
+    if (status === NO_ROOM) {
+      yield 0;
+      this.#goOn(call);
+      arena.reach(rows + arena.count * ROW);
+      status = this.#ask(this.#flatten(depth), length, rows);
+    }
+    yield 0;
+    this.#goOn(call);
+    if (status === OK) return { rows: this.#view(rows, arena.count, length).copy(), fault: null };
     const seen = new WordsOfRows();
     const copy = bytes.slice();
     const place = yield* this.#steps(length, depth, seen);
-    return { rows: new Rows(null, seen.words.slice(0, seen.used), copy), fault: new RlpError(status, { place }) };
+    return { rows: new Rows(null, seen.words.subarray(0, seen.used), copy), fault: new RlpError(status, { place }) };
   }
 
   header(input) {
