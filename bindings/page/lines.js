@@ -1,13 +1,13 @@
 import { fromBase64, load, RlpError, toHex } from "../javascript/src/codec.js";
 
-// The page, of which turns.js, lines.js, records.js, view.js, panes.js and page.js are parts of one script. What it shows of the input is set as
+// The page, of which turns.js, lines.js, records.js, view.js, panes.js, json.js and page.js are parts of one script. What it shows of the input is set as
 // text, never as HTML.
 
 const MOST_BYTES = 4 << 20;
 const MOST_NODES = 1_000_000;
-// Beyond so many characters a text isn't put in a box, and beyond so many bytes no JSON is written unasked.
+// Beyond so many characters a text isn't put in a box, and beyond so many bytes each part of the page is shown in a frame of its own.
 const LARGE_TEXT = 1 << 16;
-const LARGE_JSON = 1 << 15;
+const LARGE = 1 << 13;
 // The height of a line of the dump and of the tree, and the width of a byte.
 const LINE = 22;
 const NODE = 24;

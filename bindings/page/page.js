@@ -1,4 +1,4 @@
-// The fields, the verdict and the JSON, and what is given.
+// The fields and the verdict, and what is given.
 
 // How many letters of a list are shown as the value of a field.
 const MOST_LETTERS = 600;
@@ -87,61 +87,6 @@ function showVerdict() {
   the("verdict").className = `verdict ${fault || recordFault ? "bad" : "good"}`;
 }
 
-/** The digits of bytes, step by step. */
-function* hexOf(bytes) {
-  let text = "0x";
-  for (let from = 0; from < bytes.length; from += ITEMS) {
-    text += toHex(bytes.subarray(from, from + ITEMS)).slice(2);
-    yield;
-  }
-  return text;
-}
-
-/** The JSON of the item, step by step, as JSON.stringify writes it with one space for each list around. */
-function* jsonOf({ bytes, count, children, ranks }) {
-  const parts = [];
-  // How many lists are open.
-  let open = 0;
-  const close = (depth) => {
-    for (; open > depth; open--) parts.push(`\n${" ".repeat(open - 1)}]`);
-  };
-  for (let item = 0; item < count; item++) {
-    if (item % (ITEMS / 8) === 0) yield;
-    const depth = view.depth(item);
-    close(depth);
-    if (depth > 0) parts.push(`${ranks[item] > 1 ? "," : ""}\n${" ".repeat(depth)}`);
-    if (view.isList(item)) {
-      parts.push(children[item] > 0 ? "[" : "[]");
-      if (children[item] > 0) open = depth + 1;
-      continue;
-    }
-    const string = bytes.subarray(view.offset(item) + view.head(item), view.end(item));
-    parts.push('"', string.length > ITEMS ? yield* hexOf(string) : toHex(string), '"');
-  }
-  close(0);
-  return parts.join("");
-}
-
-function* showJson(asked) {
-  const isLarge = view.bytes.length > LARGE_JSON && !asked;
-  const kept = view.start ? " The type byte in front is kept." : "";
-  const note = view.fault
-    ? "Only canonical bytes have a JSON here. What is written in the box becomes the bytes above."
-    : `Nested arrays of hexadecimal strings. A change here is written as bytes above.${kept}`;
-  const text = isLarge || view.fault ? "" : yield* jsonOf(view);
-  the("json-fault").textContent = "";
-  the("json-note").textContent = note;
-  the("json").value = text;
-  the("json-fill").hidden = !isLarge || view.fault !== null;
-}
-
-/** Writes the JSON that nothing wrote unasked. */
-function fillJson() {
-  if (!view) return;
-  const mine = ++turn;
-  inTurns(showJson(true), () => turn === mine);
-}
-
 /** Begins with another input. What is read of an earlier one isn't wanted any more. */
 function begin() {
   the("input-note").textContent = "";
@@ -180,7 +125,7 @@ function* showing(steps, isFromJson) {
 /** Shows what was read, the verdict last. */
 function* showView(made, isFromJson) {
   const wasHidden = the("panes").hidden;
-  const rest = made.bytes.length > LARGE_JSON ? [FRAME] : [];
+  const rest = made.bytes.length > LARGE ? [FRAME] : [];
   view = made;
   the("link").disabled = false;
   the("panes").hidden = false;
@@ -199,7 +144,7 @@ function* showView(made, isFromJson) {
   yield* rest;
   showRecord();
   yield* rest;
-  if (!isFromJson) yield* showJson(false);
+  yield* showJson(isFromJson);
   showVerdict();
 }
 
@@ -348,32 +293,6 @@ function* fromFile(name, bytes) {
   return { bytes: shown, note: `The file “${name}”, read as ${isText ? "hexadecimal digits" : "bytes"}: ${counted(shown.length, "byte")}.` };
 }
 
-/** The strings and lists of a JSON. */
-function checked(value, path) {
-  if (path.length > 256) throw new TypeError("There are more than 256 lists, one in the other.");
-  const where = path.length ? `At [${path.join("][")}]` : "The whole";
-  if (Array.isArray(value)) return value.map((each, at) => checked(each, [...path, at]));
-  if (typeof value !== "string" || !/^0x(?:[0-9a-f]{2})*$/i.test(value)) throw new TypeError(`${where} is neither an array nor a string of 0x and pairs of hexadecimal digits.`);
-  return `0x${value.slice(2)}`;
-}
-
-function readJson() {
-  the("json-fault").textContent = "";
-  try {
-    const item = codec.encode(checked(JSON.parse(the("json").value), []));
-    const front = view ? view.bytes.slice(0, view.start) : new Uint8Array(0);
-    const bytes = new Uint8Array(front.length + item.length);
-    bytes.set(front);
-    bytes.set(item, front.length);
-    const isLarge = bytes.length * 2 > LARGE_TEXT;
-    the("input").value = isLarge ? "" : toHex(bytes);
-    take(given(bytes, `Written from the JSON: ${counted(bytes.length, "byte")}.`), true);
-  } catch (error) {
-    if (!(error instanceof TypeError || error instanceof SyntaxError || error instanceof RlpError)) throw error;
-    the("json-fault").textContent = error instanceof SyntaxError ? `This is no JSON: ${error.message}` : error.message;
-  }
-}
-
 function soon(call) {
   clearTimeout(waiting);
   waiting = setTimeout(call, 150);
@@ -381,14 +300,10 @@ function soon(call) {
 
 function listen() {
   the("input").addEventListener("input", () => soon(() => readText(the("input").value)));
-  the("input").addEventListener("paste", (event) => {
-    const text = event.clipboardData?.getData("text/plain") ?? "";
-    if (text.length <= LARGE_TEXT) return;
-    event.preventDefault();
-    readText(text);
-  });
-  the("json").addEventListener("input", () => soon(readJson));
-  the("json-fill").addEventListener("click", fillJson);
+  the("input").addEventListener("paste", (event) => readWithoutBox(event, readText));
+  the("json").addEventListener("input", () => soon(() => readJson(the("json").value)));
+  the("json").addEventListener("paste", (event) => readWithoutBox(event, readJson));
+  the("json-save").addEventListener("click", saveJson);
   the("kind").addEventListener("change", () => view && take(given(view.bytes, the("input-note").textContent)));
   the("clear").addEventListener("click", () => {
     the("input").value = the("json").value = "";

@@ -32,14 +32,20 @@ function styleOf(byte, item) {
   return `b${kind}${item === NOTHING ? "" : ` c${item % 8} ${view.isHead(item, byte) ? "h" : "p"}`}`;
 }
 
+// A byte that isn't chosen, of which the others are copies.
+const CELL_OF_BYTE = element("span", "b", "00");
+CELL_OF_BYTE.setAttribute("role", "option");
+CELL_OF_BYTE.setAttribute("aria-selected", "false");
+
 function cellOf(byte, from, to) {
   const item = view.itemAt(byte);
-  const cell = element("span", `${styleOf(byte, item)}${byte >= from && byte < to ? " on" : ""}${byte === cursor ? " cursor" : ""}`, PAIRS[view.bytes[byte]]);
+  const cell = CELL_OF_BYTE.cloneNode(true);
+  cell.className = `${styleOf(byte, item)}${byte >= from && byte < to ? " on" : ""}${byte === cursor ? " cursor" : ""}`;
+  cell.firstChild.data = PAIRS[view.bytes[byte]];
   cell.id = `b${byte}`;
   cell.setAttribute("data-byte", byte);
   cell.setAttribute("data-item", item);
-  cell.setAttribute("role", "option");
-  cell.setAttribute("aria-selected", byte === cursor);
+  if (byte === cursor) cell.setAttribute("aria-selected", "true");
   return cell;
 }
 

@@ -1,7 +1,7 @@
 // Long work in turns, between which the page answers.
 
 // How long a turn lasts, in milliseconds, up to the end of the step that it is in. Each step is short.
-const TURN = 8;
+const TURN = 6;
 // What a step yields after which a frame is to be drawn, and how many milliseconds it waits for that where none is drawn.
 const FRAME = Symbol("frame");
 const LONGEST_FRAME = 100;
