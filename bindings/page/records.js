@@ -95,6 +95,8 @@ function* blockOf(bytes) {
   return { what: "block", fork: header.fork, items, names, fields: Object.fromEntries(parts.map((part, at) => [PARTS_OF_BLOCK[at], told(part, at)])) };
 }
 
+const PARTS_OF_LOG = ["address", "topics", "data"];
+
 /** The receipt that some bytes are, by its shape: a status or a root, gas, a bloom filter of 256 bytes, and logs. */
 function receiptOf(bytes) {
   const start = bytes[0] < 0x80 ? 1 : 0;
@@ -108,5 +110,6 @@ function receiptOf(bytes) {
   const number = ({ bytes: digits }) => (digits.length > 0 ? BigInt(toHex(digits)) : 0n);
   const values = parts.map((part, at) => (kinds[at] === "number" ? number(part) : part.value()));
   const items = parts.map(({ offset, headerLength, payloadLength }, at) => ({ name: names[at], kind: kinds[at], offset: offset + start, headerLength, payloadLength }));
-  return { what: "receipt", items, fields: Object.fromEntries(names.map((name, at) => [name, values[at]])) };
+  const ofLogs = [...logs].flatMap((log) => Array.from(log, ({ offset }, at) => [offset + start, PARTS_OF_LOG[at]]));
+  return { what: "receipt", items, names: new Map(ofLogs), fields: Object.fromEntries(names.map((name, at) => [name, values[at]])) };
 }

@@ -96,6 +96,30 @@ async function scrollThrough() {
   }
 }
 
+/** The texts that are seen whose contrast with what is behind them is below 4.5. */
+function faint() {
+  const paint = document.createElement("canvas").getContext("2d", { willReadFrequently: true });
+  // The colours of the layers from the lowest to the highest, as one.
+  const mixed = (colours) => {
+    paint.clearRect(0, 0, 1, 1);
+    for (const colour of colours) {
+      paint.fillStyle = colour;
+      paint.fillRect(0, 0, 1, 1);
+    }
+    return paint.getImageData(0, 0, 1, 1).data;
+  };
+  const light = (data) => [0.2126, 0.7152, 0.0722].reduce((sum, part, at) => sum + part * (data[at] <= 10 ? data[at] / 3294 : ((data[at] / 255 + 0.055) / 1.055) ** 2.4), 0);
+  const behind = (node) => (node ? [...behind(node.parentElement), getComputedStyle(node).backgroundColor] : ["Canvas"]);
+  const texts = [...document.querySelectorAll("body *")].filter((node) => node.checkVisibility() && [...node.childNodes].some((child) => child.nodeType === 3 && child.data.trim()));
+  const pairs = texts.map((node) => [node, getComputedStyle(node).color]);
+  for (const box of document.querySelectorAll("textarea")) pairs.push([box, getComputedStyle(box, "::placeholder").color], [box, getComputedStyle(box).color]);
+  const contrast = ([node, colour]) => {
+    const [low, high] = [light(mixed(behind(node))), light(mixed([...behind(node), colour]))].sort((one, other) => one - other);
+    return (high + 0.05) / (low + 0.05);
+  };
+  return pairs.filter((pair) => contrast(pair) < 4.5).map((pair) => `${pair[0].className} “${pair[0].textContent.slice(0, 20)}” ${contrast(pair).toFixed(2)}`);
+}
+
 const cases = {
   async "the page loads and asks for nothing"() {
     check("verdict", await textOf("verdict"), "Paste bytes, or choose an example.");
@@ -178,6 +202,7 @@ const cases = {
     check("receipt", await give("input", receipt), /^Canonical: 328 bytes, a list of 4 items, 10 items in all, lists 4 deep\. A receipt, by its shape\.$/);
     const found = await fields();
     check("its fields", [found.status, found.cumulativeGasUsed, found.logs], [["1", "0x1"], ["21000", "0x5208"], [`1 entry: [ [ "0x${"11".repeat(20)}", [ "0x${"22".repeat(32)}" ], "0x0102" ] ]`]]);
+    check("names in a log", await ask(`["n6", "n7", "n9"].map((id) => document.querySelector("#" + id + " .what").textContent)`), ["address", "topics", "data"]);
     check("typed receipt", await give("input", `02${receipt}`), /^Canonical: 329 bytes, a list of 4 items, .* A receipt, by its shape\.$/);
   },
   async "a link"() {
@@ -361,13 +386,19 @@ const cases = {
       for (const value of ["light", "dark"]) {
         await scheme(value);
         await see(value, "getComputedStyle(document.body).backgroundColor", value === "dark" ? "rgb(22, 24, 27)" : "rgb(255, 255, 255)");
+        check(`${width} px, ${value}: contrast`, await call(faint), []);
         await draw(`${width}-${value}`);
       }
       await scheme("light");
     }
     await size(1280);
     await give("input", "cd83646f6783676f648105c20102");
-    await draw("1280-fault");
+    for (const value of ["light", "dark"]) {
+      await scheme(value);
+      check(`a fault, ${value}: contrast`, await call(faint), []);
+      await draw(`1280-fault-${value}`);
+    }
+    await scheme("light");
   },
   async "the package in a browser"() {
     const types = { ".js": "text/javascript", ".wasm": "application/wasm" };
