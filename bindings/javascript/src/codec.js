@@ -13,6 +13,8 @@ const OK = 0;
 const NO_ROOM = 13;
 const TOO_DEEP = 14;
 export const DEPTH_LIMIT = 256;
+// A header has at most so many bytes. What the library answers of a header depends on no others, but for how many there are.
+const MOST_OF_HEADER = 9;
 // How many items a walk looks at before others have a turn.
 const STEP = 1 << 12;
 
@@ -20,6 +22,9 @@ function depthOf(depth) {
   if (!Number.isInteger(depth) || depth < 0) throw new RangeError("maxDepth isn't a whole number from 0");
   return Math.min(depth, DEPTH_LIMIT);
 }
+
+/** Whether bytes begin as a string of more than 55 bytes does, which is canonical if its header is. */
+const isLongString = (bytes) => bytes[0] > 0xb7 && bytes[0] < 0xc0;
 
 /** What an iterator returns in the end. */
 function finished(steps) {
@@ -211,11 +216,23 @@ export class Codec {
     return whole;
   }
 
+  /** The long string that bytes are, or that they begin with, and how many bytes its encoding has. There is none if the bytes are refused. */
+  #longString(bytes, isFirst) {
+    const arena = this.#arena;
+    arena.begin(bytes, MOST_OF_HEADER);
+    const status = this.#calls.rlp_header(BigInt(arena.start), BigInt(bytes.length), BigInt(arena.result));
+    const { headerLength, payloadLength } = itemAt(arena.words, arena.result / 4);
+    const length = headerLength + payloadLength;
+    return status === OK && (isFirst || length === bytes.length) ? { data: bytes.slice(headerLength, length), length } : null;
+  }
+
   decode(input, options = false) {
     const { maxDepth = DEPTH_LIMIT, stream = false } = typeof options === "object" && options !== null ? options : { stream: Boolean(options) };
     const bytes = this.#outside(stringOf(input));
-    const found = bytes.length > 0 && this.#rowsOf(bytes, maxDepth, stream);
-    const data = found ? this.#valuesOf(found) : new Uint8Array(0);
+    const depth = depthOf(maxDepth);
+    const string = isLongString(bytes) ? this.#longString(bytes, stream) : null;
+    const found = string ?? (bytes.length > 0 && this.#rowsOf(bytes, depth, stream));
+    const data = string?.data ?? (found ? this.#valuesOf(found) : new Uint8Array(0));
     return stream ? { data, remainder: bytes.slice(found ? found.length : 0) } : data;
   }
 
@@ -232,7 +249,7 @@ export class Codec {
   isCanonical(input, { maxDepth = DEPTH_LIMIT } = {}) {
     const bytes = this.#outside(bytesOf(input));
     const { length } = bytes;
-    this.#arena.begin(bytes);
+    this.#arena.begin(bytes, isLongString(bytes) ? MOST_OF_HEADER : length);
     return this.#calls.rlp_is_canonical(BigInt(this.#arena.start), BigInt(length), depthOf(maxDepth)) === 1;
   }
 
@@ -278,7 +295,7 @@ export class Codec {
     const bytes = this.#outside(bytesOf(input));
     const { length } = bytes;
     const arena = this.#arena;
-    arena.begin(bytes);
+    arena.begin(bytes, MOST_OF_HEADER);
     const status = this.#calls.rlp_header(BigInt(arena.start), BigInt(length), BigInt(arena.result));
     if (status !== OK) throw new RlpError(status, { place: 0 });
     return itemAt(arena.words, arena.result / 4);
