@@ -1,4 +1,4 @@
-import { fromBase64, load, RlpError, toHex } from "../javascript/src/codec.js";
+import { fromBase64, load, RlpError, toHex, Tree } from "../javascript/src/codec.js";
 
 // The page, of which turns.js, lines.js, records.js, view.js, panes.js, json.js and page.js are parts of one script. What it shows of the input is set as
 // text, never as HTML.

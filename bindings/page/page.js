@@ -3,20 +3,21 @@
 // How many letters of a list are shown as the value of a field.
 const MOST_LETTERS = 600;
 
-/** The begin of the text of a value in a list, which is long enough to be cut. */
+/** The text of a value in a list. Of a long one it is the begin, which is long enough to be cut. */
 function shortText(value) {
+  if (value instanceof Tree && !value.isList) return shortText(value.bytes);
   if (value instanceof Uint8Array) return `"${toHex(value.subarray(0, MOST_LETTERS))}"`;
   if (typeof value === "bigint") return `"${value}"`;
-  const isArray = Array.isArray(value);
+  const isStruct = !(Array.isArray(value) || value instanceof Tree);
   const parts = [];
-  let letters = 0;
-  for (const name of isArray ? value.keys() : Object.keys(value)) {
-    if (letters > MOST_LETTERS) break;
-    parts.push(`${isArray ? "" : `"${name}": `}${shortText(value[name])}`);
-    letters += parts.at(-1).length;
+  let length = 0;
+  for (const part of isStruct ? Object.entries(value) : value) {
+    if (length > MOST_LETTERS) break;
+    parts.push(isStruct ? `"${part[0]}": ${shortText(part[1])}` : shortText(part));
+    length += parts.at(-1).length;
   }
-  if (parts.length === 0) return isArray ? "[]" : "{}";
-  return isArray ? `[ ${parts.join(", ")} ]` : `{ ${parts.join(", ")} }`;
+  const [open, shut] = isStruct ? "{}" : "[]";
+  return parts.length === 0 ? `${open}${shut}` : `${open} ${parts.join(", ")} ${shut}`;
 }
 
 function textOf(value) {

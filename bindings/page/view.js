@@ -61,7 +61,8 @@ class View {
       if (depth > 0) this.ranks[item] = ++this.children[open[depth - 1]];
       if (depth > this.deepest) this.deepest = depth;
     }
-    this.names = new Map([...(this.record?.items.map(({ offset, name }) => [offset, name]) ?? []), ...(this.record?.names ?? [])]);
+    this.names = this.record?.names ?? new Map();
+    for (const { offset, name } of this.record?.items ?? []) this.names.set(offset, name);
     const fits = { transaction: [9], header: [15, 16, 17, 20, 21] };
     this.hints = this.hints.filter(({ what }) => !this.fault && fits[what].includes(this.children[0]));
     if (this.recordFault?.error.place !== undefined) this.marks.set(this.recordFault.error.place, toldOf(this.recordFault.error));
@@ -102,7 +103,7 @@ class View {
     const known = isTyped && ofTransaction.error.status !== UNKNOWN_TYPE;
     const isHeader = !known && this.#attempt("header", () => codec.headerFields(bytes));
     yield;
-    if (!isHeader) this.record = (known ? null : nodeRecordOf(bytes) ?? (yield* blockOf(bytes))) ?? receiptOf(bytes);
+    if (!isHeader) this.record = (known ? null : nodeRecordOf(bytes) ?? (yield* blockOf(bytes))) ?? (yield* receiptOf(bytes));
     // A list with the right number of fields may be meant as a record.
     const isMeant = ({ error }) => error.field > 0 && error.status !== MISSING_FIELD;
     this.hints = this.record || known ? [] : [ofTransaction, this.recordFault].filter(isMeant);
