@@ -366,6 +366,16 @@ const cases = {
     await told();
     await ask(`document.getElementById("dump").scrollTop = 1e9`);
     await see("is shown", `[...document.querySelectorAll("#dump .b")].at(-1).id`, "b172003");
+    for (const [id, first, end] of [["dump", "b0", "b172003"], ["tree", "n0", "n172000"]]) {
+      await ask(`document.getElementById("${id}").focus()`);
+      for (const [name, wanted] of [["Home", first], ["End", end]]) {
+        await key(name);
+        await see(`${name} in the ${id}`, `document.getElementById("${id}").getAttribute("aria-activedescendant")`, wanted);
+      }
+    }
+    await key("Home");
+    await key("ArrowLeft");
+    await see("the list closed", `[document.querySelectorAll("#tree .node").length, document.getElementById("tree").scrollTop]`, [1, 0]);
   },
   async "one input after the other"() {
     await hold(digits(large().transactions));
