@@ -90,7 +90,7 @@ function* bytesOfJson(text, front) {
   yield;
   const items = yield* checked(value, []);
   yield;
-  const item = codec.encode(items);
+  const item = yield* codec.encodeInSteps(items);
   const bytes = new Uint8Array(front.length + item.length);
   bytes.set(front);
   bytes.set(item, front.length);

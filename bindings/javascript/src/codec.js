@@ -143,24 +143,44 @@ export class Codec {
   }
 
   encode(input) {
-    const arena = this.#arena;
+    return finished(this.encodeInSteps(input));
+  }
+
+  /** The same as an iterator. Its steps are some thousands of items, or a call of the library. It returns what `encode` does. */
+  *encodeInSteps(input) {
     // For each item its string, or nothing for a list, and its depth.
     const strings = [];
     const depths = [];
     let size = 0;
-    const add = (value, depth) => {
-      depths.push(depth);
+    // The list that is walked, and where, and the same of the lists around it.
+    let [list, at] = [[input], 0];
+    const outer = [];
+    for (let count = 1; at < list.length || outer.length > 0; count++) {
+      if (count % STEP === 0) yield depths.length;
+      if (at === list.length) {
+        [list, at] = outer.pop();
+        continue;
+      }
+      const value = list[at++];
+      depths.push(outer.length);
       if (Array.isArray(value)) {
-        if (depth >= DEPTH_LIMIT) throw new RlpError(TOO_DEEP);
+        if (outer.length >= DEPTH_LIMIT) throw new RlpError(TOO_DEEP);
         strings.push(undefined);
-        for (let at = 0; at < value.length; at++) add(value[at], depth + 1);
-        return;
+        outer.push([list, at]);
+        [list, at] = [value, 0];
+        continue;
       }
       const string = this.#outside(value instanceof Uint8Array ? value : stringOf(value));
       strings.push(string);
       size += string.length;
-    };
-    add(input, 0);
+    }
+    if (depths.length > STEP) yield depths.length;
+    return this.#encoded(strings, depths, size);
+  }
+
+  /** The encoding of items, of which `encodeInSteps` says how they are given. */
+  #encoded(strings, depths, size) {
+    const arena = this.#arena;
     arena.calls++;
     const items = strings.length;
     const from = arena.start + items * ROW;
@@ -380,6 +400,6 @@ export async function load(source) {
 
 /** The functions of a codec, each by itself. */
 export function functionsOf(codec) {
-  const names = ["encode", "decode", "isCanonical", "flatten", "tree", "inspect", "inspectInSteps", "header", "transaction", "headerFields"];
+  const names = ["encode", "encodeInSteps", "decode", "isCanonical", "flatten", "tree", "inspect", "inspectInSteps", "header", "transaction", "headerFields"];
   return Object.fromEntries(names.map((name) => [name, codec[name].bind(codec)]));
 }

@@ -315,6 +315,16 @@ function testSteps() {
   ended.next();
   rlp.isCanonical("0x80");
   check("steps after another call", thrown(() => ended.next()), "Error");
+  const value = Array.from({ length: 10_000 }, (_, at) => (at % 2 ? [at, [], "text"] : at));
+  const given = [];
+  const encoding = rlp.encodeInSteps(value);
+  for (step = encoding.next(); !step.done; step = encoding.next()) {
+    given.push(step.value);
+    rlp.isCanonical("0x80");
+  }
+  check("steps of encode", [given.length, given.at(-1), given.every((count, at) => at === 0 || count > given[at - 1])], [9, 25_001, true]);
+  check("what they give", step.value, rlp.encode(value));
+  check("a fault in a step", thrown(() => [...rlp.encodeInSteps([1, [true]])]), "TypeError");
 }
 
 function testValues() {
