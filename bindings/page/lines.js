@@ -65,7 +65,7 @@ class Lines {
     this.make = make;
     this.spacer = box.querySelector(".spacer");
     this.window = box.querySelector(".window");
-    this.top = this.room = this.count = this.first = this.last = 0;
+    this.top = this.room = this.count = this.first = this.last = this.draws = 0;
     box.addEventListener("scroll", () => {
       this.top = box.scrollTop;
       drawSoon(this);
@@ -80,14 +80,16 @@ class Lines {
 
   /** Takes other lines, of which none is made yet. */
   set(count) {
+    this.draws++;
     this.count = count;
     this.first = this.last = 0;
     this.spacer.style.height = `${count * this.height}px`;
     this.window.replaceChildren();
   }
 
-  /** Makes the lines that are seen, step by step. Lines that were seen before stay in the document. */
+  /** Makes the lines that are seen, step by step, until others are wanted. Lines that were seen before stay in the document. */
   *draw() {
+    const mine = ++this.draws;
     const { height, window, count } = this;
     const first = Math.max(0, Math.min(Math.floor(this.top / height), count) - SPARE);
     const last = Math.min(count, first + Math.ceil(this.room / height) + 2 * SPARE);
@@ -96,11 +98,11 @@ class Lines {
     if (isElsewhere) window.replaceChildren();
     for (; this.first < first; this.first++) window.firstChild.remove();
     for (; this.last > last; this.last--) window.lastChild.remove();
-    while (this.last < last) {
+    while (this.draws === mine && this.last < last) {
       window.append(this.make(this.last++));
       yield this.#place();
     }
-    while (this.first > first) {
+    while (this.draws === mine && this.first > first) {
       window.prepend(this.make(--this.first));
       yield this.#place();
     }

@@ -356,8 +356,10 @@ const cases = {
     });
     check("as it is written elsewhere", fs.readFileSync(saved, "utf8") === json, true);
     await hold(json.replaceAll("\n", " ").replaceAll('"', '\\"'));
-    await paste("json");
-    check("the bytes back", await told(), /^Canonical: 172,204 bytes, a list of 1,640 items/);
+    await busyAtMost("pasted JSON", async () => {
+      await paste("json");
+      check("the bytes back", await told(), /^Canonical: 172,204 bytes, a list of 1,640 items/);
+    });
     check("with no text in a box", await ask(`["input", "json"].map((id) => document.getElementById(id).value)`), ["", ""]);
   },
   async "the last byte"() {
@@ -376,6 +378,21 @@ const cases = {
     await key("Home");
     await key("ArrowLeft");
     await see("the list closed", `[document.querySelectorAll("#tree .node").length, document.getElementById("tree").scrollTop]`, [1, 0]);
+  },
+  async "scrolled while it is read"() {
+    await hold(digits(large()["single bytes"]));
+    await paste();
+    await call(async () => {
+      for (let at = 0; document.getElementById("verdict").textContent === ""; at++) {
+        for (const id of ["dump", "tree"]) document.getElementById(id).scrollTop = at % 2 ? 99_999 : 0;
+        await new Promise((resolve) => setTimeout(resolve));
+      }
+      for (const id of ["dump", "tree"]) document.getElementById(id).scrollTop = 99_999;
+    });
+    // 99,999 pixels are 4,545 lines of 16 bytes, and 4,166 items.
+    for (const [box, id] of [["dump", "b72720"], ["tree", "n4166"]]) await see(`the ${box}`, `document.querySelector("#${box} #${id}")?.id`, id);
+    const nodes = await ask(`document.querySelectorAll("*").length`);
+    check(`few nodes, ${nodes}`, nodes < 3000, true);
   },
   async "one input after the other"() {
     await hold(digits(large().transactions));
