@@ -172,8 +172,9 @@ function measure() {
 
 /** Draws the dump and the tree again, for another width of the page. */
 function fit() {
-  if (!view) return;
+  if (the("panes").hidden) return;
   measure();
+  if (!view) return;
   dump.set(Math.ceil(view.bytes.length / perLine));
   dump.reveal(Math.floor(cursor / perLine));
   tree.show();

@@ -389,9 +389,7 @@ function testLongStrings() {
   checkThat("a header of 64 MiB is read without copying them", user + system < 200_000);
   const given = Buffer.from("c28105ff", "hex").subarray(2);
   for (const found of [rlp.decode(given, true).remainder, rlp.decode(given, true).data]) check("no Buffer is given", found.constructor, Uint8Array);
-  const fields = Buffer.from(`c9808080808003808080`.slice(0, 20), "hex");
-  const { data: field } = rlp.transaction(fields).fields;
-  check("nor among fields", field.constructor, Uint8Array);
+  check("nor among fields", rlp.transaction(Buffer.from("c9808080808003808080", "hex")).fields.data.constructor, Uint8Array);
 }
 
 /** Memory: growth, rows that another call took, bytes that lie in the memory itself, and calls beyond count. */
