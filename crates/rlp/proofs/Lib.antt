@@ -13,15 +13,3 @@ pub mod Writing
 -- the same rules in smaller sets, passed on from `rlp_values` and `rlp_write`
 pub mod Growth
 pub mod Filling
--- the laws of codecs and what follows from them, passed on from `rlp_codec`
-pub use Rattle.rlp_codec.proofs.StringLaws
-pub use Rattle.rlp_codec.proofs.ListLaws
-pub use Rattle.rlp_codec.proofs.FieldLaws
-pub use Rattle.rlp_codec.proofs.GroupLaws
-pub use Rattle.rlp_codec.proofs.StructLaws
-pub use Rattle.rlp_codec.proofs.SumLaws
-pub use Rattle.rlp_codec.proofs.RawLaws
-pub use Rattle.rlp_codec.proofs.EachField
-pub use Rattle.rlp_codec.proofs.Places
-pub use Rattle.rlp_codec.proofs.Readings
-pub use Rattle.rlp_codec.proofs.Corollaries

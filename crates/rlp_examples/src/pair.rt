@@ -5,7 +5,9 @@ ghost use Rattle.rlp.specs.DecoderError.TheVariants.{OutOfMemory};
 ghost use Rattle.rlp.specs.Format.Encoding.{BeginsWith, encoding};
 ghost use Rattle.rlp_examples.specs.Pair.{pair};
 
-use rlp::{Decodable, DecoderError, Encodable, Fields, Rlp, RlpStream, RoundTrip, StrictRead, laws};
+use rlp::{
+    Decodable, DecoderError, Encodable, Fields, Rlp, RlpStream, RoundTrip, StrictRead, laws,
+};
 use std::alloc::{AllocError, Global};
 
 /// Two numbers.
