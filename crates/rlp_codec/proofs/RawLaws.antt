@@ -79,10 +79,6 @@ raw_of-canonical b short canonical =
     cond-false (ltb deepest_raw_item (depth b)) _ _ (le-ltb _ _ (shallow b short canonical))
     ∙ cond-true (bytes_eq b (encoding (raw_item_of b))) _ _ ((bytes_eq-Decides _ _).1 (same_again b short canonical))
 
--- bytes that are the encoding of the item that the bytes are read as are read
-pub raw_of-fit : (b : List ℕ) → length b < 2 ^ 64 → b ≡ encoding (raw_item_of b) → raw_of b ≡ Ok b
-raw_of-fit b short fit = raw_of-canonical b short (canonical_if b fit)
-
 -- bytes that nest too deep are not read
 pub raw_of-deep : (b : List ℕ) → deepest_raw_item < depth b → raw_of b ≡ Err (custom (codes "item nests too deep"))
 raw_of-deep b deeper = cond-true (ltb deepest_raw_item (depth b)) _ _ (lt-ltb _ _ deeper)
@@ -113,10 +109,6 @@ only_by b x false true deep equal is =
     let same : b ≡ x = cc in
     (subst (λ c. c ≡ encoding (raw_item_of c)) same ((bytes_eq-Decides _ _).0 equal), same)
 
--- only bytes that are the encoding of the item that the bytes are read as are read
-pub raw_of-only : (b x : List ℕ) → raw_of b ≡ Ok x → (x ≡ encoding (raw_item_of x)) × (b ≡ x)
-raw_of-only b x is = only_by b x (ltb deepest_raw_item (depth b)) (bytes_eq b (encoding (raw_item_of b))) refl refl is
-
 -- bytes that a slice can hold fit if and only if they are a raw item
 pub raw_fits : (b : List ℕ) → length b < 2 ^ 64 → (b ≡ encoding (raw_item_of b)) ↔ IsRawItem b
 raw_fits b short = (λ fit. raw_if b (canonical_if b fit), λ raw. sym (raw_encoding b short raw))
@@ -134,7 +126,7 @@ given_by : (is_strict : Bool) (b x : List ℕ) (r : Result (List ℕ) DecoderErr
     → and_then (seen_fault r) raw_of ≡ Ok x → (x ≡ encoding (raw_item_of x)) × Holds is_strict b (encoding (raw_item_of x))
 given_by is_strict b x (Err e) framed is = absurd (let no : ⊥ = cc in no)
 given_by is_strict b x (Ok f) framed is =
-    let h = raw_of-only f x is in
+    let h = only_by f x (ltb deepest_raw_item (depth f)) (bytes_eq f (encoding (raw_item_of f))) refl refl is in
     (h.0, subst (Holds is_strict b) h.0 (frame_held is_strict b x (framed ∙ ap Ok h.1)))
 
 pub raw_only : (is_strict : Bool) → GivesOnly is_strict raw_item

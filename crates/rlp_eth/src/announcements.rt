@@ -60,7 +60,7 @@ impl Decodable for NewBlockHashes {
     ghost reading = { new_block_hashes.reading };
 
     fn decode(alloc: Global, rlp: &Rlp<'_>) -> Result<NewBlockHashes, DecoderError> {
-        let blocks = rlp::as_list(alloc, rlp)?;
+        let blocks = rlp.as_list(alloc)?;
         Ok(NewBlockHashes(blocks))
     }
 }
@@ -231,7 +231,7 @@ impl Decodable for Transactions {
     ghost reading = { transactions.reading };
 
     fn decode(alloc: Global, rlp: &Rlp<'_>) -> Result<Transactions, DecoderError> {
-        let transactions = rlp::as_list(alloc, rlp)?;
+        let transactions = rlp.as_list(alloc)?;
         Ok(Transactions(transactions))
     }
 }

@@ -36,11 +36,11 @@ impl Encodable for HashOrNumber {
 impl Decodable for HashOrNumber {
     ghost reading = { hash_or_number.reading };
 
-    #[tactic(auto, using(crate::specs::HashOrNumber::hash_or_number_found))]
+    #[tactic(auto, using(crate::proofs::Found::hash_or_number_found))]
     fn decode(alloc: Global, rlp: &Rlp<'_>) -> Result<HashOrNumber, DecoderError> {
-        match Decodable::decode(alloc, rlp) {
+        match rlp.as_val(alloc) {
             Ok(hash) => Ok(HashOrNumber::Hash(hash)),
-            Err(_) => Ok(HashOrNumber::Number(Decodable::decode(alloc, rlp)?)),
+            Err(_) => Ok(HashOrNumber::Number(rlp.as_val(alloc)?)),
         }
     }
 }

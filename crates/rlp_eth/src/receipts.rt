@@ -24,7 +24,7 @@ impl Decodable for BlockReceipts {
     ghost reading = { block_receipts.reading };
 
     fn decode(alloc: Global, rlp: &Rlp<'_>) -> Result<BlockReceipts, DecoderError> {
-        let receipts = rlp::as_list(alloc, rlp)?;
+        let receipts = rlp.as_list(alloc)?;
         Ok(BlockReceipts(receipts))
     }
 }
@@ -56,7 +56,7 @@ impl Decodable for Receipts {
     ghost reading = { receipts.reading };
 
     fn decode(alloc: Global, rlp: &Rlp<'_>) -> Result<Receipts, DecoderError> {
-        let blocks = rlp::as_list(alloc, rlp)?;
+        let blocks = rlp.as_list(alloc)?;
         Ok(Receipts(blocks))
     }
 }

@@ -79,7 +79,7 @@ impl Decodable for BlockReceipts69 {
     ghost reading = { block_receipts69.reading };
 
     fn decode(alloc: Global, rlp: &Rlp<'_>) -> Result<BlockReceipts69, DecoderError> {
-        let receipts = rlp::as_list(alloc, rlp)?;
+        let receipts = rlp.as_list(alloc)?;
         Ok(BlockReceipts69(receipts))
     }
 }
@@ -111,7 +111,7 @@ impl Decodable for Receipts69 {
     ghost reading = { receipts69.reading };
 
     fn decode(alloc: Global, rlp: &Rlp<'_>) -> Result<Receipts69, DecoderError> {
-        let blocks = rlp::as_list(alloc, rlp)?;
+        let blocks = rlp.as_list(alloc)?;
         Ok(Receipts69(blocks))
     }
 }

@@ -73,7 +73,7 @@ impl Decodable for BlockHeaders {
     ghost reading = { block_headers.reading };
 
     fn decode(alloc: Global, rlp: &Rlp<'_>) -> Result<BlockHeaders, DecoderError> {
-        let headers = rlp::as_list(alloc, rlp)?;
+        let headers = rlp.as_list(alloc)?;
         Ok(BlockHeaders(headers))
     }
 }
@@ -104,7 +104,7 @@ impl Decodable for GetBlockBodies {
     ghost reading = { get_block_bodies.reading };
 
     fn decode(alloc: Global, rlp: &Rlp<'_>) -> Result<GetBlockBodies, DecoderError> {
-        let hashes = rlp::as_list(alloc, rlp)?;
+        let hashes = rlp.as_list(alloc)?;
         Ok(GetBlockBodies(hashes))
     }
 }
@@ -135,7 +135,7 @@ impl Decodable for BlockBodies {
     ghost reading = { block_bodies.reading };
 
     fn decode(alloc: Global, rlp: &Rlp<'_>) -> Result<BlockBodies, DecoderError> {
-        let bodies = rlp::as_list(alloc, rlp)?;
+        let bodies = rlp.as_list(alloc)?;
         Ok(BlockBodies(bodies))
     }
 }
@@ -167,7 +167,7 @@ impl Decodable for GetPooledTransactions {
     ghost reading = { get_pooled_transactions.reading };
 
     fn decode(alloc: Global, rlp: &Rlp<'_>) -> Result<GetPooledTransactions, DecoderError> {
-        let transactions = rlp::as_list(alloc, rlp)?;
+        let transactions = rlp.as_list(alloc)?;
         Ok(GetPooledTransactions(transactions))
     }
 }
@@ -200,7 +200,7 @@ impl Decodable for PooledTransactions {
     ghost reading = { pooled_transactions.reading };
 
     fn decode(alloc: Global, rlp: &Rlp<'_>) -> Result<PooledTransactions, DecoderError> {
-        let transactions = rlp::as_list(alloc, rlp)?;
+        let transactions = rlp.as_list(alloc)?;
         Ok(PooledTransactions(transactions))
     }
 }
@@ -231,7 +231,7 @@ impl Decodable for GetReceipts {
     ghost reading = { get_receipts.reading };
 
     fn decode(alloc: Global, rlp: &Rlp<'_>) -> Result<GetReceipts, DecoderError> {
-        let blocks = rlp::as_list(alloc, rlp)?;
+        let blocks = rlp.as_list(alloc)?;
         Ok(GetReceipts(blocks))
     }
 }

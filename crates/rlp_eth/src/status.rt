@@ -27,7 +27,7 @@ impl Decodable for ForkHash {
     ghost reading = { fork_hash.reading };
 
     fn decode(alloc: Global, rlp: &Rlp<'_>) -> Result<ForkHash, DecoderError> {
-        let bytes = Decodable::decode(alloc, rlp)?;
+        let bytes = rlp.as_val(alloc)?;
         Ok(ForkHash(bytes))
     }
 }

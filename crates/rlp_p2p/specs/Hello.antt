@@ -34,7 +34,7 @@ hello_fields =
     field (λ (h : Hello). h.capabilities) (list_type vec_items capability) (
     field (λ (h : Hello). h.listen_port) (number 8) (
     field (λ (h : Hello). h.node_id) node_id (
-    groups (λ (h : Hello). vec_items h.further) further_fields (λ f. refl) refl)))))
+    groups (λ (h : Hello). vec_items h.further) further_fields refl refl)))))
 
 -- the list of the fields
 abbrev pub hello : Codec Hello

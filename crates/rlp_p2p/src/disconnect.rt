@@ -102,7 +102,7 @@ impl Decodable for DisconnectReason {
     ghost reading = { reason.reading };
 
     fn decode(alloc: Global, rlp: &Rlp<'_>) -> Result<DisconnectReason, DecoderError> {
-        let number = Decodable::decode(alloc, rlp)?;
+        let number = rlp.as_val(alloc)?;
         Ok(DisconnectReason::of(number))
     }
 }
@@ -159,14 +159,14 @@ impl Decodable for Disconnect {
         if rlp.is_list() {
             return match rlp::decode_struct(alloc, rlp) {
                 Ok(fields) => {
-                    let (Field(reason), no_more) = fields;
+                    let (reason, no_more) = fields;
                     let () = no_more;
                     Ok(Disconnect::Listed(reason))
                 }
                 Err(fault) => Err(fault.fault),
             };
         }
-        let reason = Decodable::decode(alloc, rlp)?;
+        let reason = rlp.as_val(alloc)?;
         Ok(Disconnect::Bare(reason))
     }
 }

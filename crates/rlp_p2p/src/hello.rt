@@ -1,9 +1,8 @@
 //! Greetings of the capability `p2p` of RLPx.
 
-ghost use Rattle.std.specs.Prelude.{refl};
 ghost use Rattle.rlp_p2p.specs.Hello.{node_id, capability, further_fields, hello};
 
-use rlp::{AppendFields, Decodable, DecodeFields, DecoderError, Encodable, FieldFault, Fields, FixedFields, Flattened, ListOf, RawItem, Rlp, RlpStream, RoundTrip, StrictRead};
+use rlp::{AppendFields, Decodable, DecodeFields, DecoderError, Encodable, Fields, FixedFields, Flattened, ListOf, RawItem, Rlp, RlpStream, RoundTrip, StrictRead};
 use std::alloc::{AllocError, Global};
 
 /// The public key of a client: 64 bytes.
@@ -27,7 +26,7 @@ impl Decodable for NodeId {
     ghost reading = { node_id.reading };
 
     fn decode(alloc: Global, rlp: &Rlp<'_>) -> Result<NodeId, DecoderError> {
-        let bytes = Decodable::decode(alloc, rlp)?;
+        let bytes = rlp.as_val(alloc)?;
         Ok(NodeId(bytes))
     }
 }
@@ -104,12 +103,8 @@ impl DecodeFields for FurtherItem {
         len == 1
     }
 
-    fn decode_fields(
-        alloc: Global,
-        fields: &mut Fields<'_>,
-        len: usize,
-    ) -> Result<FurtherItem, FieldFault> {
-        rlp::decode_fields!(alloc, fields, len, FurtherItem { item })
+    fn decode_fields(alloc: Global, fields: &mut Fields<'_>) -> Result<FurtherItem, DecoderError> {
+        rlp::decode_fields!(fields alloc, fields, FurtherItem { item })
     }
 }
 
@@ -117,8 +112,6 @@ impl FixedFields for FurtherItem {
     fn width() -> Option<usize> {
         Some(1)
     }
-
-    ghost none_more = { refl };
 }
 
 /// The first message of a connection, 0x00 of `p2p`: the list of its five fields, and of further

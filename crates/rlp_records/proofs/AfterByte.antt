@@ -8,9 +8,9 @@ use Rattle.rlp.specs.Format.Encoding.{encoding}
 use Rattle.rlp.specs.Format.WrittenHeader.{AreBytes}
 use Rattle.rlp.specs.Values.Value.{AreAlike}
 use Rattle.rlp.specs.Views.View.{View, strict_view_of}
-use Rattle.rlp.specs.Form.{Answer, Fault, Form, custom, fault_of}
-use Rattle.rlp.specs.Laws.{IsLawful}
-use Rattle.rlp.specs.Sums.{last_case}
+use Rattle.rlp_codec.specs.Form.{Answer, Fault, Form, custom, fault_of}
+use Rattle.rlp_codec.specs.Laws.{IsLawful}
+use Rattle.rlp_codec.specs.Sums.{last_case}
 use Rattle.rlp_codec.proofs.StringLaws.{ReadsStrings}
 use Rattle.rlp_codec.proofs.SumLaws.{envelope_strings, last_case_lawful}
 use Rattle.rlp_records.specs.Envelope.{read_after}

@@ -7,9 +7,9 @@ use Rattle.rlp.specs.Format.Split.{begins_as_list}
 use Rattle.rlp.specs.Format.WrittenHeader.{AreBytes}
 use Rattle.rlp.specs.Values.Sums.{OnSum, sum_item}
 use Rattle.rlp_values.specs.Lemmas.Sums.{list_first}
-use Rattle.rlp.specs.Form.{Answer, Fault, Form, map_value}
-use Rattle.rlp.specs.Laws.{CasesAreLawful, IsLawful}
-use Rattle.rlp.specs.Sums.{CasesForm, envelope, sum_map}
+use Rattle.rlp_codec.specs.Form.{Answer, Fault, Form, map_value}
+use Rattle.rlp_codec.specs.Laws.{CasesAreLawful, IsLawful}
+use Rattle.rlp_codec.specs.Sums.{CasesForm, envelope, sum_map}
 use Rattle.rlp_codec.proofs.StringLaws.{ReadsStrings}
 use Rattle.rlp_codec.proofs.SumLaws.{envelope_strings}
 use Rattle.rlp_records.specs.Alone.{bytes_alone, read_alone}

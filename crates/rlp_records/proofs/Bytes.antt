@@ -3,7 +3,7 @@ use Rattle.std.proofs.Common.{◌≡◌, ℕ, ◌^◌, ◌<◌, ◌⊎◌, inl, 
 use Rattle.rlp.specs.DecoderError.{DecoderError}
 use Rattle.rlp.specs.DecoderError.TheVariants.{OutOfMemory}
 use Rattle.rlp.specs.Format.WrittenHeader.{AreBytes}
-use Rattle.rlp.specs.Form.{Fault, fault_of}
+use Rattle.rlp_codec.specs.Form.{Fault, fault_of}
 use Rattle.rlp_codec.proofs.StringLaws.{ReadsStrings}
 
 -- a type that holds a value of another type is read as the other type

@@ -3,8 +3,8 @@ use Rattle.std.proofs.Common.{◌≡◌, ℕ, ◌^◌, ◌<◌, Bool, false, tru
 use Rattle.rlp.specs.DecoderError.{DecoderError}
 use Rattle.rlp.specs.Format.Encoding.{encoding}
 use Rattle.rlp.specs.Views.View.{strict_view_of}
-use Rattle.rlp.specs.Form.{Form}
-use Rattle.rlp.specs.Laws.{IsLawful}
+use Rattle.rlp_codec.specs.Form.{Form}
+use Rattle.rlp_codec.specs.Laws.{IsLawful}
 use Rattle.rlp_codec.proofs.Corollaries.{one_value}
 
 module _ {A : Type 0} (c : Form A) (law : IsLawful c) (b : List ℕ) (short : length b < 2 ^ 64) (v : A) (fit : c.Fits v) (is : b ≡ encoding (c.item v)) where

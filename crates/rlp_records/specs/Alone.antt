@@ -6,8 +6,8 @@ use Rattle.rlp.specs.Format.Item.{Item, list, string}
 use Rattle.rlp.specs.Format.Encoding.{encoding}
 use Rattle.rlp.specs.Format.Split.{begins_as_list}
 use Rattle.rlp.specs.Views.View.{View, strict_view_of}
-use Rattle.rlp.specs.Form.{Answer, Fault, map_answer}
-use Rattle.rlp.specs.Sums.{envelope_of}
+use Rattle.rlp_codec.specs.Form.{Answer, Fault, map_answer}
+use Rattle.rlp_codec.specs.Sums.{envelope_of}
 
 -- the text of the fault of a type of transaction that isn't in a table
 abbrev pub unknown_type : List ℕ

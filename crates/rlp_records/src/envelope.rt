@@ -7,7 +7,7 @@ ghost use Rattle.rlp.specs.Format.Encoding.{encoding};
 ghost use Rattle.rlp.specs.Format.Item.{list_of};
 ghost use Rattle.rlp.specs.Streams.Stream.{initial_state};
 ghost use Rattle.rlp.specs.Values.Value.{AreAlike};
-ghost use Rattle.rlp.specs.Form.{fault_of};
+ghost use Rattle.rlp_codec.specs.Form.{fault_of};
 ghost use Rattle.rlp_records.specs.Envelope.{another_type, read_after};
 
 use bytes::{BufMut, BytesMut};

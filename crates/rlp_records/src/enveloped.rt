@@ -3,7 +3,7 @@
 ghost use Rattle.std.specs.Prelude.{◌≡◌, ◌∷◌, ◌⊎◌, ℕ, Err, IfErr, IfOk, IsTrue, Ok, OnOk};
 ghost use Rattle.rlp.specs.DecoderError.TheVariants.{OutOfMemory};
 ghost use Rattle.rlp.specs.Format.Encoding.{encoding};
-ghost use Rattle.rlp.specs.Form.{fault_of};
+ghost use Rattle.rlp_codec.specs.Form.{fault_of};
 ghost use Rattle.rlp_records.specs.Envelope.{another_type, read_after};
 
 use crate::envelope::{from_envelope, to_envelope};

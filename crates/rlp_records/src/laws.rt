@@ -7,7 +7,7 @@ ghost use Rattle.rlp.specs.DecoderError.TheVariants.{OutOfMemory};
 ghost use Rattle.rlp.specs.Format.Encoding.{encoding, IsSized};
 ghost use Rattle.rlp.specs.Values.Value.{AreAlike};
 ghost use Rattle.rlp.specs.Views.View.{strict_view_of};
-ghost use Rattle.rlp.specs.Form.{Faults};
+ghost use Rattle.rlp_codec.specs.Form.{Faults};
 
 use bytes::BytesMut;
 use rlp::{DecoderError, Encodable, StrictRead};

@@ -5,8 +5,8 @@ use Rattle.std.proofs.lemmas.Bool.{cond-true, cond-false}
 use Rattle.rlp.specs.Format.WrittenHeader.{AreBytes}
 use Rattle.rlp.specs.Format.Item.{Item, string}
 use Rattle.rlp.specs.Values.Sums.{OnSum, sum_item}
-use Rattle.rlp.specs.Form.{Answer, Fault, map_value}
-use Rattle.rlp.specs.Sums.{sum_map}
+use Rattle.rlp_codec.specs.Form.{Answer, Fault, map_value}
+use Rattle.rlp_codec.specs.Sums.{sum_map}
 use Rattle.rlp_codec.proofs.StringLaws.{ReadsStrings}
 use Rattle.rlp_records.specs.Alone.{bytes_alone}
 use Rattle.rlp_transactions.specs.OtherStrings.{string_or}

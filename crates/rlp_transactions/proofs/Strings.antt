@@ -3,7 +3,7 @@ use Rattle.std.proofs.Common.{◌≡◌, ℕ, ◌^◌, ◌<◌, ◌≤◌, inl, 
 use Rattle.rlp.specs.Format.Item.{string}
 use Rattle.rlp.specs.Format.Split.{begins_as_list}
 use Rattle.rlp.specs.Values.Sums.{sum_item}
-use Rattle.rlp.specs.Sums.{envelope}
+use Rattle.rlp_codec.specs.Sums.{envelope}
 use Rattle.rlp_codec.proofs.StringLaws.{ReadsStrings}
 use Rattle.rlp.specs.Codec.{plain}
 use Rattle.rlp_records.proofs.Alone.{alone_strings, list_alone_begins}

@@ -2,7 +2,7 @@
 use Rattle.std.specs.Prelude.{⊤, true}
 use Rattle.std.proofs.Common.{sym}
 use Rattle.std.specs.Vec.{vec_items}
-use Rattle.rlp.specs.Form.{fixed_of}
+use Rattle.rlp_codec.specs.Form.{fixed_of}
 use Rattle.rlp_codec.proofs.StringLaws.{array_strings}
 use Rattle.rlp.specs.Codec.{Codec, string_type}
 use Rattle.rlp_transactions.specs.declared.blob.Blob.{Blob}

@@ -14,9 +14,9 @@ use Rattle.rlp_values.specs.Format.StringReading.{read_string}
 use Rattle.rlp_values.specs.Lemmas.Strings.{string_list}
 use Rattle.rlp_values.specs.Lemmas.StringsHeld.{ReadsHeld, held_begins, held_fault, held_only, held_reads}
 use Rattle.rlp_values.specs.Lemmas.Sums.{list_first}
-use Rattle.rlp.specs.Form.{Answer, Fault, Form, Reading, here, map_answer, map_value, seen_fault, string_of}
-use Rattle.rlp.specs.Laws.{GivesOnly, IsLawful, IsSeen, ReadsBack, viewed}
-use Rattle.rlp.specs.Sums.{sum_map}
+use Rattle.rlp_codec.specs.Form.{Answer, Fault, Form, Reading, here, map_answer, map_value, seen_fault, string_of}
+use Rattle.rlp_codec.specs.Laws.{GivesOnly, IsLawful, IsSeen, ReadsBack, viewed}
+use Rattle.rlp_codec.specs.Sums.{sum_map}
 
 -- What a view gives whose string is r: the string if it is one that `is` tells, and else what the type gives.
 abbrev pub string_or : {M : Type 0} → (List ℕ → Bool) → Answer M Fault → Result (List ℕ) Fault → Answer (M ⊎ List ℕ) Fault

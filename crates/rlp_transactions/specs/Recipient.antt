@@ -2,7 +2,7 @@
 use Rattle.std.specs.Prelude.{ℕ, ◌≡◌, ◌^◌, ◌<◌, ⊤, false, List, [], ◌∷◌, length, Option, None, Some, Result, Ok, Err}
 use Rattle.std.proofs.Common.{refl, sym, ap, ◌∙◌, arith}
 use Rattle.rlp.specs.Format.WrittenHeader.{AreBytes}
-use Rattle.rlp.specs.Form.{Fault, fixed_of, map_value}
+use Rattle.rlp_codec.specs.Form.{Fault, fixed_of, map_value}
 use Rattle.rlp_codec.proofs.StringLaws.{ReadsStrings, array_strings}
 use Rattle.rlp.specs.Codec.{Codec, string_type}
 use Rattle.rlp_transactions.specs.declared.recipient.Recipient.{Recipient}

@@ -4,7 +4,7 @@ ghost use Rattle.std.specs.Prelude.{◌≡◌, ◌⊎◌, drop, nat_eq, IfErr, I
 ghost use Rattle.std.specs.Cmp.{partial_equiv_from_equiv};
 ghost use Rattle.std.specs.Cmp.Lexicographic.{nat_list_eq_equiv, pointwise};
 ghost use Rattle.rlp.specs.DecoderError.TheVariants.{OutOfMemory};
-ghost use Rattle.rlp.specs.Form.{custom, fault_of};
+ghost use Rattle.rlp_codec.specs.Form.{custom, fault_of};
 ghost use Rattle.rlp_transactions.specs.OtherTransaction.{IsOther, is_other, is_other_type, not_other, other_type};
 
 use rlp::DecoderError;

@@ -1,7 +1,7 @@
 //! Recipients of transactions: a string of 20 bytes, or the empty string.
 
 ghost use Rattle.std.specs.Prelude.{◌≡◌, Err, IfErr, IfOk, Ok};
-ghost use Rattle.rlp.specs.Form.{fault_of};
+ghost use Rattle.rlp_codec.specs.Form.{fault_of};
 ghost use Rattle.rlp_transactions.specs.Recipient.{recipient, recipient_of, seen_recipient};
 
 use rlp::{Decodable, DecoderError, Encodable, Rlp, RlpStream, RoundTrip, StrictRead};

@@ -4,7 +4,7 @@ ghost use Rattle.std.specs.Prelude.{◌≡◌, ◌⊎◌, Err, IfErr, IfOk, IsTr
 ghost use Rattle.std.proofs.Common.{inr};
 ghost use Rattle.rlp.specs.DecoderError.TheVariants.{OutOfMemory};
 ghost use Rattle.rlp.specs.Views.View.{strict_view_of};
-ghost use Rattle.rlp.specs.Form.{fault_of, map_value};
+ghost use Rattle.rlp_codec.specs.Form.{fault_of, map_value};
 ghost use Rattle.rlp_records.specs.Alone.{bytes_alone};
 ghost use Rattle.rlp_transactions.specs.Signatures.{Signs, r_of, s_of};
 ghost use Rattle.rlp_transactions.specs.UnsignedTransaction.{unsigned_transaction, unsigned_alone, unsigned_types};

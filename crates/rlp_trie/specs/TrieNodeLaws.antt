@@ -124,7 +124,7 @@ module _ (b : List ℕ) (bytes : AreBytes b) (fits : length b < 2 ^ 64) where
   many_only n k true many two all is = pair_only n (begins_as_leaf b) refl (sym (whole (cond-true (k == 2) _ _ two)) ∙ is)
   many_only n k false true two all is =
       let m = is_mapped (branch.reading.read (strict_view_of b)).result as_branch (seen_node n)
-          (sym (whole (cond-false (k == 2) _ _ two) ∙ whole (cond-true (k == 17) _ _ all)) ∙ is) in
+      (sym (whole (cond-false (k == 2) _ _ two) ∙ whole (cond-true (k == 17) _ _ all)) ∙ is) in
       branch_only n m.value m.is m.then
   many_only n k false false two all is =
       let r : (list_of_len b k).result ≡ Err incorrect_list_len = whole (cond-false (k == 2) _ _ two) ∙ whole (cond-false (k == 17) _ _ all) in
@@ -140,7 +140,7 @@ module _ (b : List ℕ) (bytes : AreBytes b) (fits : length b < 2 ^ 64) where
   node_by n true empty is = empty_by n (sym (whole (cond-true (is_empty_string b) _ _ empty)) ∙ is) (empty_only b empty)
   node_by n false empty is =
       let g = goes_on (seen_fault (item_count (strict_view_of b))) (λ k. (list_of_len b k).result) (seen_node n)
-          (sym (whole (cond-false (is_empty_string b) _ _ empty)) ∙ is) in
+      (sym (whole (cond-false (is_empty_string b) _ _ empty)) ∙ is) in
       many_only n g.value (g.value == 2) (g.value == 17) refl refl g.then
 
 pub node_only : (b : List ℕ) (n : TrieNode) → AreBytes b → length b < 2 ^ 64 → (node_of b).result ≡ Ok (seen_node n) → IsTrieNode n × (b ≡ encoding (node_item n))

@@ -1,5 +1,5 @@
 use Rattle.std.proofs.Common.{arith}
-use Rattle.rlp.specs.Laws.{form_of}
+use Rattle.rlp_codec.specs.Laws.{form_of}
 use Rattle.rlp_records.proofs.AfterByte.{rest_fails, rest_given, rest_only, rest_whole, same_rest, with_first}
 use Rattle.rlp_records.proofs.Faults.{fault_first}
 use Rattle.rlp_records.specs.Envelope.{another_type}

@@ -1,6 +1,6 @@
 use Rattle.std.proofs.Common.{◌≡◌, ◌<◌, ◌^◌, length, arith, rules}
 use Rattle.rlp.specs.Format.Encoding.{encoding}
-use Rattle.rlp.specs.Laws.{form_of}
+use Rattle.rlp_codec.specs.Laws.{form_of}
 use Rattle.rlp_records.proofs.SeenSame.{seen_same}
 use Rattle.rlp_records.proofs.laws.record_round_trips.Goals as goal
 
