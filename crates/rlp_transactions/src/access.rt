@@ -70,7 +70,7 @@ impl Decodable for AccessList {
     ghost reading = { access_list.reading };
 
     fn decode(alloc: Global, rlp: &Rlp<'_>) -> Result<AccessList, DecoderError> {
-        let items = rlp::as_list(alloc, rlp)?;
+        let items = rlp.as_list(alloc)?;
         Ok(AccessList(items))
     }
 }

@@ -106,16 +106,16 @@ impl Decodable for AnyTransaction {
     ghost reading = { any_transaction.reading };
 
     fn decode(alloc: Global, rlp: &Rlp<'_>) -> Result<AnyTransaction, DecoderError> {
-        if let Ok(bytes) = rlp.decoder().string() {
-            if is_other(bytes) {
-                return match OtherTransaction::from_bytes(alloc, bytes) {
-                    Ok(other) => Ok(AnyTransaction::Other(other)),
-                    Err(_) => Err(DecoderError::OutOfMemory),
-                };
+        match rlp.decoder().string() {
+            Ok(bytes) if is_other(bytes) => match OtherTransaction::from_bytes(alloc, bytes) {
+                Ok(other) => Ok(AnyTransaction::Other(other)),
+                Err(_) => Err(DecoderError::OutOfMemory),
+            },
+            _ => {
+                let known = rlp.as_val(alloc)?;
+                Ok(AnyTransaction::Known(known))
             }
         }
-        let known = Decodable::decode(alloc, rlp)?;
-        Ok(AnyTransaction::Known(known))
     }
 }
 

@@ -62,10 +62,8 @@ impl Decodable for Blob {
     ghost reading = { blob.reading };
 
     fn decode(alloc: Global, rlp: &Rlp<'_>) -> Result<Blob, DecoderError> {
-        match rlp.decoder().string() {
-            Ok(string) => Blob::new(alloc, string),
-            Err(fault) => Err(fault),
-        }
+        let string = rlp.decoder().string()?;
+        Blob::new(alloc, string)
     }
 }
 

@@ -163,10 +163,8 @@ impl Decodable for WrapperVersion {
     ghost reading = { wrapper_version.reading };
 
     fn decode(_alloc: Global, rlp: &Rlp<'_>) -> Result<WrapperVersion, DecoderError> {
-        match rlp.decoder().string() {
-            Ok(string) => version_of(string),
-            Err(fault) => Err(fault),
-        }
+        let string = rlp.decoder().string()?;
+        version_of(string)
     }
 }
 

@@ -2,7 +2,8 @@
 
 ghost use Rattle.std.specs.Prelude.{◌≡◌, Err, IfErr, IfOk, Ok};
 ghost use Rattle.rlp_codec.specs.Form.{fault_of};
-ghost use Rattle.rlp_transactions.specs.Recipient.{recipient, recipient_of, seen_recipient};
+ghost use Rattle.rlp_codec.specs.Kinds.{read_kind};
+ghost use Rattle.rlp_transactions.specs.Recipient.{account_of, is_account, recipient, recipient_bytes};
 
 use rlp::{Decodable, DecoderError, Encodable, Rlp, RlpStream, RoundTrip, StrictRead};
 use rlp_records::Address;
@@ -39,10 +40,8 @@ impl Decodable for Recipient {
     ghost reading = { recipient.reading };
 
     fn decode(_alloc: Global, rlp: &Rlp<'_>) -> Result<Recipient, DecoderError> {
-        match rlp.decoder().string() {
-            Ok(string) => recipient_of(string),
-            Err(fault) => Err(fault),
-        }
+        let string = rlp.decoder().string()?;
+        recipient_of(string)
     }
 }
 
@@ -57,8 +56,9 @@ impl StrictRead for Recipient {
 /// Makes a recipient from a string of 20 bytes, or from the empty string. Fails as reading a
 /// recipient does.
 fn recipient_of(string: &[u8]) -> Result<Recipient, DecoderError>
-    ensures value { IfOk result (λ r. recipient_of string.now ≡ Ok (seen_recipient r)) }
-    ensures fault { IfErr result (λ e. recipient_of string.now ≡ Err (fault_of e)) }
+    ensures value { IfOk result
+        (λ r. read_kind account_of string.now ≡ Ok (is_account r, recipient_bytes r)) }
+    ensures fault { IfErr result (λ e. read_kind account_of string.now ≡ Err (fault_of e)) }
 {
     if string.is_empty() {
         return Ok(Recipient::Creation);

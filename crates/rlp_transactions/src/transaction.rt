@@ -88,15 +88,11 @@ fn read_alone(alloc: Global, bytes: &[u8]) -> Result<Transaction, DecoderError>
         ⊎ ((e ≡ OutOfMemory) × IsTrue transaction.reading.takes_memory)) }
 {
     if Rlp::new(bytes).is_list() {
-        return match rlp::decode_strict(alloc, bytes) {
-            Ok(legacy) => Ok(Transaction::Legacy(legacy)),
-            Err(fault) => Err(fault),
-        };
+        let legacy = rlp::decode_strict(alloc, bytes)?;
+        return Ok(Transaction::Legacy(legacy));
     }
-    match Envelope::split(bytes) {
-        Ok(envelope) => decode_payload(alloc, &envelope),
-        Err(fault) => Err(fault),
-    }
+    let envelope = Envelope::split(bytes)?;
+    decode_payload(alloc, &envelope)
 }
 
 // Reads a transaction of one of the types.
@@ -139,15 +135,11 @@ impl Decodable for Transaction {
 
     fn decode(alloc: Global, rlp: &Rlp<'_>) -> Result<Transaction, DecoderError> {
         if rlp.is_list() {
-            return match Decodable::decode(alloc, rlp) {
-                Ok(legacy) => Ok(Transaction::Legacy(legacy)),
-                Err(fault) => Err(fault),
-            };
+            let legacy = rlp.as_val(alloc)?;
+            return Ok(Transaction::Legacy(legacy));
         }
-        match Envelope::of(rlp) {
-            Ok(envelope) => decode_payload(alloc, &envelope),
-            Err(fault) => Err(fault),
-        }
+        let envelope = Envelope::of(rlp)?;
+        decode_payload(alloc, &envelope)
     }
 }
 

@@ -110,15 +110,11 @@ fn read_alone(alloc: Global, bytes: &[u8]) -> Result<UnsignedTransaction, Decode
         ⊎ ((e ≡ OutOfMemory) × IsTrue unsigned_transaction.reading.takes_memory)) }
 {
     if Rlp::new(bytes).is_list() {
-        return match rlp::decode_strict(alloc, bytes) {
-            Ok(legacy) => Ok(UnsignedTransaction::Legacy(legacy)),
-            Err(fault) => Err(fault),
-        };
+        let legacy = rlp::decode_strict(alloc, bytes)?;
+        return Ok(UnsignedTransaction::Legacy(legacy));
     }
-    match Envelope::split(bytes) {
-        Ok(envelope) => decode_payload(alloc, &envelope),
-        Err(fault) => Err(fault),
-    }
+    let envelope = Envelope::split(bytes)?;
+    decode_payload(alloc, &envelope)
 }
 
 // Reads a transaction of one of the types.
