@@ -79,6 +79,13 @@ seen_keys (pair ∷ pairs) = ap (λ keys. vec_items pair.key ∷ keys) (seen_key
 record_keys : (f : NodeFields) → keys_seen (node_fields.reading.seen f) ≡ keys_of (vec_items f.pairs)
 record_keys f = seen_keys (vec_items f.pairs)
 
+-- fields with the keys of a record and too long an encoding
+pub fields_long : (f : NodeFields) → AreRecordKeys (vec_items f.pairs) → longest_record < length (encoding (node_fields.item f)) → test_fields f ≡ Err is_too_big
+fields_long f keys long =
+    ap (λ r. and_then r (λ t. if ltb longest_record (length (encoding (node_fields.item f))) then Err is_too_big else Ok t))
+    (keys_pass (vec_items f.pairs) keys.0 keys.1)
+    ∙ cond-true (ltb longest_record (length (encoding (node_fields.item f)))) _ _ (lt-ltb _ _ long)
+
 -- ---- what bytes give
 
 -- fields are those of a record, if the keys are a record's and the encoding is of few bytes

@@ -2,40 +2,35 @@
 use Rattle.std.specs.Prelude.{ℕ, ◌≡◌, ⊤, Bool, true, false, List, Option, Some, None, Result, Ok, Err}
 use Rattle.std.proofs.Common.{refl, sym, ap, ◌∙◌}
 use Rattle.std.specs.Vec.{vec_items}
-use mathlib.Core.Bool.{beq}
+use Rattle.std.proofs.lemmas.Bool.{cond-false}
 use Rattle.rlp_codec.proofs.StringLaws.{ReadsStrings}
 use Rattle.rlp.specs.Codec.{Codec, string_type}
 use Rattle.rlp_trie.specs.HexPrefix.{ends_in_leaf, is_empty_extension, is_leaf_flag, path_of, path_of_kind}
 use Rattle.rlp_trie.specs.declared.path.Path.{Path}
 
-same_kind : (leaf : Bool) → beq leaf leaf ≡ true
-same_kind true = refl
-same_kind false = refl
-
-kind_again : (leaf empty : Bool) (d : List ℕ) → is_empty_extension d ≡ empty → empty ≡ false → path_of_kind leaf d (Some leaf) ≡ Ok d
-kind_again true false d is some = let none : is_empty_extension d ≡ false = is in cc
-kind_again false false d is some = let none : is_empty_extension d ≡ false = is in cc
-kind_again leaf true d is some = absurd (let no : ⊥ = cc in no)
+kind_again : (leaf : Bool) (d : List ℕ) → is_empty_extension d ≡ false → path_of_kind leaf d (Some leaf) ≡ Ok d
+kind_again true d some = cond-false (is_empty_extension d) _ _ some
+kind_again false d some = cond-false (is_empty_extension d) _ _ some
 
 -- a path of the kind is read
-pub path_again : (leaf : Bool) (d : List ℕ) → ends_in_leaf d ≡ Some leaf → is_empty_extension d ≡ false → path_of leaf d ≡ Ok d
-path_again leaf d is some = ap (path_of_kind leaf d) is ∙ kind_again leaf false d some refl
+path_again : (leaf : Bool) (d : List ℕ) → ends_in_leaf d ≡ Some leaf → is_empty_extension d ≡ false → path_of leaf d ≡ Ok d
+path_again leaf d is some = ap (path_of_kind leaf d) is ∙ kind_again leaf d some
 
-kind_only : (leaf : Bool) (d x : List ℕ) (o : Option Bool) (same empty : Bool) → is_empty_extension d ≡ empty → path_of_kind leaf d o ≡ Ok x → d ≡ x
-kind_only leaf d x None same empty none is = absurd (let no : ⊥ = cc in no)
-kind_only true d x (Some false) same empty none is = absurd (let no : ⊥ = cc in no)
-kind_only false d x (Some true) same empty none is = absurd (let no : ⊥ = cc in no)
-kind_only true d x (Some true) same true none is = absurd (let no : ⊥ = cc in no)
-kind_only true d x (Some true) same false none is = cc
-kind_only false d x (Some false) same true none is = absurd (let no : ⊥ = cc in no)
-kind_only false d x (Some false) same false none is = cc
+kind_only : (leaf : Bool) (d x : List ℕ) (o : Option Bool) (empty : Bool) → is_empty_extension d ≡ empty → path_of_kind leaf d o ≡ Ok x → d ≡ x
+kind_only leaf d x None empty none is = absurd (let no : ⊥ = cc in no)
+kind_only true d x (Some false) empty none is = absurd (let no : ⊥ = cc in no)
+kind_only false d x (Some true) empty none is = absurd (let no : ⊥ = cc in no)
+kind_only true d x (Some true) true none is = absurd (let no : ⊥ = cc in no)
+kind_only true d x (Some true) false none is = cc
+kind_only false d x (Some false) true none is = absurd (let no : ⊥ = cc in no)
+kind_only false d x (Some false) false none is = cc
 
 -- the bytes of a path are read back, and no others
 pub path_strings : (flag : ℕ) → ReadsStrings (λ (p : Path flag). ⊤) (λ p. vec_items p.bytes) (λ p. vec_items p.bytes) (path_of (is_leaf_flag flag))
 path_strings flag = record {
   back = λ p fit short. path_again (is_leaf_flag flag) (vec_items p.bytes) p.encoded p.some_nibble;
   only = λ d p bytes short is.
-      (tt, kind_only (is_leaf_flag flag) d (vec_items p.bytes) (ends_in_leaf d) true (is_empty_extension d) refl is);
+      (tt, kind_only (is_leaf_flag flag) d (vec_items p.bytes) (ends_in_leaf d) (is_empty_extension d) refl is);
   told = λ p q same fit. (tt, sym same);
 }
 
