@@ -5,8 +5,8 @@ use Rattle.rlp_p2p.proofs.Messages.{AreSmall, and_small, body_fault, body_value,
 use Rattle.rlp_messages.specs.Eth69Message.{eth69_body, eth69_messages}
 use Rattle.rlp_messages.proofs.eth69_message.Eth69Message.from_message.Goals as goal
 
-small : AreSmall eth69_messages
-small = and_small _ _ _ (omega arith) (and_small _ _ _ (omega arith) (and_small _ _ _ (omega arith) (and_small _ _ _ (omega arith) (and_small _ _ _ (omega arith) (and_small _ _ _ (omega arith) (and_small _ _ _ (omega arith) (and_small _ _ _ (omega arith) (and_small _ _ _ (omega arith) (and_small _ _ _ (omega arith) (and_small _ _ _ (omega arith) (and_small _ _ _ (omega arith) (and_small _ _ _ (omega arith) (λ x. omega arith)))))))))))))
+small : AreSmall eth69_messages.cases.tag
+small = and_small _ _ (omega arith) (and_small _ _ (omega arith) (and_small _ _ (omega arith) (and_small _ _ (omega arith) (and_small _ _ (omega arith) (and_small _ _ (omega arith) (and_small _ _ (omega arith) (and_small _ _ (omega arith) (and_small _ _ (omega arith) (and_small _ _ (omega arith) (and_small _ _ (omega arith) (and_small _ _ (omega arith) (and_small _ _ (omega arith) (record { below = λ x. omega arith })))))))))))))
 
 pub returns-in-Err-clause-fault : goal.returns-in-Err-clause-fault
 returns-in-Err-clause-fault c = inl (id_fails c.args.offset eth69_messages c.args.bytes.now c.in-Err.fault c.in-Err.ensures.fault)
