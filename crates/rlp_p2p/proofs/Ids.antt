@@ -61,7 +61,7 @@ module _ (offset : ℕ) where
       let h = below_by d g.value m (ltb g.value offset) refl g.then in
       let (rest, whole) = ((number_scalar 8).only d g.value bytes short g.is).1 in
       let left : drop (length (encoding (number_item g.value))) d ≡ rest =
-          ap (drop (length (encoding (number_item g.value)))) whole ∙ drop_at (encoding (number_item g.value)) rest (length (encoding (number_item g.value))) refl in
+      ap (drop (length (encoding (number_item g.value)))) whole ∙ drop_at (encoding (number_item g.value)) rest (length (encoding (number_item g.value))) refl in
       whole ∙ ap (λ k. encoding (number_item k) ++ rest) h.0 ∙ ap (λ rest. encoding (number_item (offset + m.0)) ++ rest) (sym left ∙ h.1)
 
 -- ---- for the body that reads an id

@@ -1,8 +1,8 @@
 -- The bytes of a message are read back, and from nothing else, and they tell messages apart.
-use Rattle.std.proofs.Common.{◌≡◌, ℕ, ◌^◌, ◌<◌, ◌+◌, ◌⊎◌, inl, inr, ⊎_elim, List, ◌++◌, length, refl, sym, ap, ◌∙◌, subst, arith, length-append}
+use Rattle.std.proofs.Common.{◌≡◌, ℕ, ◌^◌, ◌<◌, ◌+◌, ◌⊎◌, inl, inr, ⊎_elim, true, List, ◌++◌, length, refl, sym, ap, ◌∙◌, subst, arith, length-append}
 use Rattle.std.proofs.Common.{Result, Ok, Err, IfErr, IfOk}
 use Rattle.std.proofs.lemmas.List.Elements.{All-from_recursion, recursion_from_All}
-use Rattle.rlp.specs.Codec.{Cases, Codec, and_case}
+use Rattle.rlp.specs.Codec.{Cases}
 use Rattle.rlp.specs.DecoderError.{DecoderError}
 use Rattle.rlp.specs.DecoderError.TheVariants.{OutOfMemory}
 use Rattle.rlp.specs.Form.{Answer, and_then, fault_of}
@@ -10,6 +10,7 @@ use Rattle.rlp.specs.Format.Encoding.{IsSized, encoding}
 use Rattle.rlp.specs.Format.WrittenHeader.{AreBytes}
 use Rattle.rlp.specs.Lemmas.OneReading.{back_bytes}
 use Rattle.rlp.specs.Lemmas.Reading.{Bytes}
+use Rattle.rlp.specs.Values.Sums.{sum_tag}
 use Rattle.rlp.specs.Values.Value.{FitsBytes, number_item}
 use Rattle.rlp.specs.Views.View.{strict_view_of}
 use Rattle.rlp_codec.proofs.FieldLaws.{ok_same}
@@ -18,21 +19,24 @@ use Rattle.rlp_p2p.specs.Message.{message_bytes, message_of, numbered_of}
 use Rattle.rlp_p2p.proofs.Ids.{numbered_back, numbered_only, same_number}
 
 -- the number of each message is below 0x100
-abbrev pub AreSmall : {B : Type 0} → Cases B → Type 0
-AreSmall {B} messages = (x : B) → messages.cases.tag x < 0x100
+pub record AreSmall {B : Type 0} (tag : B → ℕ) : Type 0 where
+  pub below : (x : B) → tag x < 0x100
 
--- with the numbers of other messages that are
-pub and_small : {A B : Type 0} (tag : ℕ) (c : Codec A) (more : Cases B) → tag < 0x100 → AreSmall more → AreSmall (and_case tag c more)
-and_small tag c more low small (inl x) = low
-and_small tag c more low small (inr y) = small y
+first_small : {A B : Type 0} (tag : ℕ) (more : B → ℕ) → tag < 0x100 → AreSmall more → (s : A ⊎ B) → sum_tag tag more s < 0x100
+first_small tag more low small (inl x) = low
+first_small tag more low small (inr y) = small.below y
+
+-- the numbers of a message and of other messages
+pub and_small : {A B : Type 0} (tag : ℕ) (more : B → ℕ) → tag < 0x100 → AreSmall more → AreSmall (sum_tag {A = A} tag more)
+and_small tag more low small = record { below = first_small tag more low small }
 
 module _ {B : Type 0} (offset : ℕ) (messages : Cases B) where
   -- ---- the bytes of a message are read back
 
-  module _ (small : AreSmall messages) (low : offset < 0x100) (d : List ℕ) (fits : length d < 2 ^ 64) (x : B) (fit : messages.cases.Fits x)
+  module _ (small : AreSmall messages.cases.tag) (low : offset < 0x100) (d : List ℕ) (fits : length d < 2 ^ 64) (x : B) (fit : messages.cases.Fits x)
       (is : d ≡ message_bytes offset messages.cases x) where
     id_fits : FitsBytes 8 (offset + messages.cases.tag x)
-    id_fits = omega (arith, small x, low)
+    id_fits = omega (arith, small.below x, low)
 
     body_sized : IsSized (messages.cases.item x)
     body_sized =
@@ -65,9 +69,11 @@ module _ {B : Type 0} (offset : ℕ) (messages : Cases B) where
       let whole = numbered_only offset d g.value bytes fits g.is in
       let front = encoding (number_item (offset + g.value.0)) in
       let h = messages.laws.only g.value.0 g.value.1 x (rest_bytes d front g.value.1 bytes whole)
-          (omega (arith, fits, ap length whole, length-append front g.value.1)) g.then in
-      (h.0, whole ∙ ap (λ k. encoding (number_item (offset + k)) ++ g.value.1) h.1
-          ∙ ap (λ rest. encoding (number_item (offset + messages.cases.tag x)) ++ rest) h.2)
+      (omega (arith, fits, ap length whole, length-append front g.value.1)) g.then in (
+        h.0,
+        whole ∙ ap (λ k. encoding (number_item (offset + k)) ++ g.value.1) h.1
+            ∙ ap (λ rest. encoding (number_item (offset + messages.cases.tag x)) ++ rest) h.2,
+      )
 
   -- ---- for bodies that read a message
 

@@ -2,7 +2,10 @@
 
 ghost use Rattle.rlp_p2p.specs.Hello.{node_id, capability, further_fields, hello};
 
-use rlp::{AppendFields, Decodable, DecodeFields, DecoderError, Encodable, Fields, FixedFields, Flattened, ListOf, RawItem, Rlp, RlpStream, RoundTrip, StrictRead};
+use rlp::{
+    AppendFields, Decodable, DecodeFields, DecoderError, Encodable, Fields, FixedFields, Flattened,
+    ListOf, RawItem, Rlp, RlpStream, RoundTrip, StrictRead,
+};
 use std::alloc::{AllocError, Global};
 
 /// The public key of a client: 64 bytes.

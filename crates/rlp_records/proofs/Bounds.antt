@@ -87,16 +87,15 @@ module _ (most n : ℕ) (b : List ℕ) (old new : List FlatItem) (walked : IsWal
       omega (arith, total, more, small)
 
   module _ (k : ℕ) (inside : (x : Item) → b ≡ encoding x → k ≡ items_in_envelopes x) where
+    few_counted : n ≤ most → k ≤ most - n → items_in walked.x + items_in_envelopes walked.x ≤ most
+    few_counted less rest = let total = walked.total in omega (arith, total, less, rest, inside walked.x walked.is)
+
     -- with those in envelopes there are few
     pub few_inside : n ≤ most → k ≤ most - n → IsWithinBounds most b
-    few_inside few rest = record {
-      x = walked.x;
-      is = walked.is;
-      bounded = (let total = walked.total in omega (arith, total, few, rest, inside walked.x walked.is), walked.deep);
-    }
+    few_inside less rest = record { x = walked.x; is = walked.is; bounded = (few_counted less rest, walked.deep) }
 
     pub no_fault : n ≤ most → k ≤ most - n → bound_fault most b ≡ None
-    no_fault less rest = few (few_inside less rest).bounded.0
+    no_fault less rest = few (few_counted less rest)
 
     -- with those in envelopes there are more
     pub more_inside : n ≤ most → most - n < k → bound_fault most b ≡ Some (custom (codes "too many items"))
@@ -111,7 +110,7 @@ module _ (most n : ℕ) (b : List ℕ) (old new : List FlatItem) (walked : IsWal
         omega (arith, total, few, more, small, inside walked.x walked.is)
 
 -- for the test of the bounds
-pub ruleset bounding = (no_item, too_deep, none_within, more_items, not_more, few_inside, no_fault, more_inside, not_more_inside)
+pub ruleset bounding = (no_item, too_deep, none_within, more_items, not_more, few_inside, more_inside, not_more_inside)
 
 -- ---- what bytes within the bounds give
 

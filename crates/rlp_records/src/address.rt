@@ -28,7 +28,7 @@ impl Decodable for Address {
     ghost reading = { address.reading };
 
     fn decode(alloc: Global, rlp: &Rlp<'_>) -> Result<Address, DecoderError> {
-        let bytes = Decodable::decode(alloc, rlp)?;
+        let bytes = rlp.as_val(alloc)?;
         Ok(Address(bytes))
     }
 }

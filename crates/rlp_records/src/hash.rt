@@ -28,7 +28,7 @@ impl Decodable for Hash {
     ghost reading = { hash.reading };
 
     fn decode(alloc: Global, rlp: &Rlp<'_>) -> Result<Hash, DecoderError> {
-        let bytes = Decodable::decode(alloc, rlp)?;
+        let bytes = rlp.as_val(alloc)?;
         Ok(Hash(bytes))
     }
 }

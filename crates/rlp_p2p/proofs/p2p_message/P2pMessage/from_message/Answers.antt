@@ -5,8 +5,8 @@ use Rattle.rlp_p2p.proofs.Messages.{AreSmall, and_small, body_fault, body_value,
 use Rattle.rlp_p2p.specs.P2pMessage.{p2p_body, p2p_messages}
 use Rattle.rlp_p2p.proofs.p2p_message.P2pMessage.from_message.Goals as goal
 
-small : AreSmall p2p_messages
-small = and_small _ _ _ (omega arith) (and_small _ _ _ (omega arith) (and_small _ _ _ (omega arith) (λ x. omega arith)))
+small : AreSmall p2p_messages.cases.tag
+small = and_small _ _ (omega arith) (and_small _ _ (omega arith) (and_small _ _ (omega arith) (record { below = λ x. omega arith })))
 
 pub returns-in-Err-clause-fault : goal.returns-in-Err-clause-fault
 returns-in-Err-clause-fault c = inl (id_fails c.args.offset p2p_messages c.args.bytes.now c.in-Err.fault c.in-Err.ensures.fault)
