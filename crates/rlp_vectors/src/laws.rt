@@ -41,6 +41,7 @@ fn laws_of_views_and_values() {
     laws::view_of_list_has_its_items(&Rlp::new(&LIST));
     laws::view_of_list_has_its_items(&Rlp::new_strict(&LIST));
     laws::string_is_read(&LIST);
+    laws::one_reading::<u64>(&Rlp::new(&LIST));
     laws::number_is_read(&LIST);
     laws::bytes_are_read(&LIST);
     laws::arrays_are_read(&LIST);
@@ -55,7 +56,6 @@ fn laws_of_views_and_values() {
     laws::lenient_views_ignore_what_follows(&LIST);
     laws::strict_values_are_read(&LIST);
     laws::strict_option_is_read::<u64>(&LIST);
-    laws::one_reading::<u64>(&Rlp::new(&LIST));
     laws::encoding_is_read_back::<u64>(&LIST);
     laws::list_is_read_back::<u64>(&LIST);
     laws::encodings_are_raw_items(&LIST);
