@@ -1,11 +1,27 @@
 -- How the values of a type are shown, by the parts of the type. Each way to show values comes with what two values have in common that are shown alike.
-use Rattle.std.specs.Prelude.{ℕ, ◌==◌, Bool, true, false, List, [], ◌∷◌, Option, Some, None, ⊤}
+use Rattle.std.specs.Prelude.{ℕ, ◌==◌, ◌⊎◌, Bool, true, false, List, [], ◌∷◌, Option, Some, None, ⊤}
 use Rattle.std.specs.{Int.Digits.number_from_digits, List.AllZip}
-use Rattle.std.proofs.Common.{◌≡◌, ◌∙◌, refl, sym, ap}
-use Rattle.rlp.specs.{Uint.Uint, Values.Same.SameOption, Values.Value.bit}
+use Rattle.std.proofs.Common.{◌≡◌, ◌∙◌, refl, sym, ap, inl, inr}
+use Rattle.rlp.specs.{Uint.Uint, Values.Value.bit}
 use Rattle.rlp_print.specs.Value.{Content, number, place, quantity, legacy_v, bytes, bytes_or_null, sparse, path, word, text, Value, Entries, content, object, array, both, entry, by_form, entries_if, values_of, nothing, ip, type_byte, payload, empty_list}
 use Rattle.rlp_print.specs.declared.sink.Shown.TheVariants.{Number, Place, Wide, Quantity, LegacyV, Bytes, BytesOrNull, Sparse, Path, Word, Ip, TypeByte, Payload, Text, EmptyList}
 use Rattle.rlp_print.specs.declared.sink.Shown.{Shown}
+
+-- ---- when two values agree, by when their parts do
+
+-- neither is present, or both are and they agree
+abbrev pub SameOption : {A : Type 0} → (A → A → Type 0) → Option A → Option A → Type 0
+SameOption Same None None = ⊤
+SameOption Same None (Some y) = ⊥
+SameOption Same (Some x) None = ⊥
+SameOption Same (Some x) (Some y) = Same x y
+
+-- both are on the left or both on the right, and they agree there
+abbrev pub SameSum : {A B : Type 0} → (A → A → Type 0) → (B → B → Type 0) → A ⊎ B → A ⊎ B → Type 0
+SameSum Same Other (inl x) (inl y) = Same x y
+SameSum Same Other (inl x) (inr y) = ⊥
+SameSum Same Other (inr x) (inl y) = ⊥
+SameSum Same Other (inr x) (inr y) = Other x y
 
 -- ---- contents
 

@@ -3,7 +3,6 @@ use Rattle.std.specs.Prelude.{List, [], ◌∷◌, codes, Option, Some, None, �
 use Rattle.std.specs.Vec.{vec_items}
 use Rattle.rlp_p2p.specs.Disconnect.{reason_number, told_reason}
 use Rattle.rlp_p2p.specs.declared.{disconnect.Disconnect.Disconnect, hello.Capability.Capability, hello.FurtherItem.FurtherItem, hello.Hello.Hello}
-use Rattle.rlp_eth.specs.HashOrNumber.{SameHashOrNumber}
 use Rattle.rlp_eth.specs.declared.{announcements.BlockRangeUpdate.BlockRangeUpdate, announcements.NewPooledTransactionHashes.NewPooledTransactionHashes, receipts.BlockReceipts.BlockReceipts}
 use Rattle.rlp_eth.specs.declared.{hash_or_number.HashOrNumber.TheVariants.Hash, hash_or_number.HashOrNumber.TheVariants.Number, with_request_id.WithRequestId.WithRequestId}
 use Rattle.rlp_eth.specs.declared.{hash_or_number.HashOrNumber.HashOrNumber, receipts69.BlockReceipts69.BlockReceipts69, requests.GetBlockHeaders.GetBlockHeaders, status.Status68.Status68}
@@ -106,6 +105,13 @@ with_request_id_display {T} d = an_object (
 abbrev pub hash_or_number_content : HashOrNumber → Content
 hash_or_number_content (Hash h) = bytes h.0
 hash_or_number_content (Number n) = number n
+
+-- both are hashes with the same bytes, or both are the same number
+abbrev pub SameHashOrNumber : HashOrNumber → HashOrNumber → Type 0
+SameHashOrNumber (Hash h) (Hash k) = h.0 ≡ k.0
+SameHashOrNumber (Hash h) (Number n) = ⊥
+SameHashOrNumber (Number n) (Hash h) = ⊥
+SameHashOrNumber (Number n) (Number m) = n ≡ m
 
 pub hash_or_number_told : (x y : HashOrNumber) → content (hash_or_number_content x) ≡ content (hash_or_number_content y) → SameHashOrNumber x y
 hash_or_number_told (Hash h) (Hash k) is = cc

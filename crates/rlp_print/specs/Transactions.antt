@@ -3,7 +3,7 @@ use Rattle.std.specs.Prelude.{ℕ, List, [], codes, refl, ◌≡◌, ◌==◌, �
 use Rattle.std.specs.{List.list_all, Vec.vec_items}
 use Rattle.std.proofs.Common.{◌⊎◌, inl, inr, sym}
 use Rattle.keccak.specs.Keccak.{keccak256}
-use Rattle.rlp.specs.{Format.Encoding.encoding, Format.Item.Item, Format.Item.list_of, Uint.Uint, Values.Same.SameSum, Values.Value.bit}
+use Rattle.rlp.specs.{Format.Encoding.encoding, Format.Item.Item, Format.Item.list_of, Uint.Uint, Values.Value.bit}
 use Rattle.rlp_records.specs.Alone.{bytes_alone}
 use Rattle.rlp_records.specs.declared.hash.Hash.{Hash}
 use Rattle.rlp_transactions.specs.declared.{fee_market_transaction.FeeMarketTransaction.FeeMarketTransaction, unsigned_legacy_transaction.UnsignedLegacyTransaction.UnsignedLegacyTransaction}
@@ -18,7 +18,7 @@ use Rattle.rlp_transactions.specs.{AccessListTransaction.access_list_transaction
 use Rattle.rlp_transactions.specs.{BlobTransaction.blob_transaction_fields, FeeMarketTransaction.fee_market_transaction_fields, SetCodeTransaction.set_code_transaction_fields}
 use Rattle.rlp_transactions.specs.{AnyTransaction.any_transaction, Authorization.authorization_fields, BlobTransaction.signed_blob_transaction, UnsignedTransaction.unsigned_sum}
 use Rattle.rlp_transactions.specs.{AnyTransaction.any_sum, OtherTransaction.other_type, Signatures.number_of, Transaction.as_sum}
-use Rattle.rlp_print.specs.Display.{Display, Fields, a_content, a_list, a_number, an_object, end, field, the_bytes, wide_number, content_bytes, a_bit, derived, field_if, fields_of, wide_quantity, content_number, part, then_fields, a_sparse_string, a_string, through}
+use Rattle.rlp_print.specs.Display.{SameSum, Display, Fields, a_content, a_list, a_number, an_object, end, field, the_bytes, wide_number, content_bytes, a_bit, derived, field_if, fields_of, wide_quantity, content_number, part, then_fields, a_sparse_string, a_string, through}
 use Rattle.rlp_print.specs.Records.{address_display, hash_display, hash_entries}
 use Rattle.rlp_print.specs.Value.{bytes_or_null, Content, Entries, bytes, by_form, content, entries_if, entry, legacy_v, nothing, number}
 use Rattle.rlp_print.specs.Types.{no_type_entries, type_entries, on_either, other_entries, and_case, last_case}

@@ -2,10 +2,9 @@
 use Rattle.std.specs.Prelude.{ℕ, ◌⊎◌, List, codes, drop, nat_lt, true}
 use Rattle.std.proofs.Common.{inl, inr, ◌≡◌, ◌<◌, ◌≤◌, ap, sym, arith}
 use Rattle.std.proofs.lemmas.Bool.Decides.{nat_tests}
-use Rattle.rlp.specs.Values.Same.{SameSum}
 use Rattle.rlp_transactions.specs.OtherTransaction.{other_type}
 use Rattle.rlp_print.specs.Value.{Entries, both, by_form, content, entry, nothing, payload, type_byte}
-use Rattle.rlp_print.specs.Display.{Fields}
+use Rattle.rlp_print.specs.Display.{SameSum, Fields}
 
 abbrev pub type_entries : ℕ → Entries
 type_entries tag = entry (codes "type") (codes "type") (content (type_byte tag))

@@ -16,5 +16,3 @@ pub mod StructReading
 pub mod RawItem
 -- values of several types, and why there is none
 pub mod Sums
--- when two values agree, by when their parts do
-pub mod Same
