@@ -13,7 +13,7 @@ if (!to) throw new Error("usage: bindings/javascript/build.js MODULE FOLDER");
 
 // What the page's script is made of, in this order.
 const CODEC = ["values.js", "faults.js", "records.js", "rows.js", "codec.js"];
-const PAGE = ["lines.js", "records.js", "view.js", "panes.js", "page.js"];
+const PAGE = ["turns.js", "lines.js", "records.js", "view.js", "panes.js", "json.js", "page.js"];
 
 const wasm = fs.readFileSync(module);
 const base64 = wasm.toString("base64");

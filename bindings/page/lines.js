@@ -1,15 +1,19 @@
-import { fromBase64, load, RlpError, toHex } from "../javascript/src/codec.js";
+import { fromBase64, load, RlpError, toHex, Tree } from "../javascript/src/codec.js";
 
-// The page, of which lines.js, records.js, view.js, panes.js and page.js are parts of one script. What it shows of the input is set as
+// The page, of which turns.js, lines.js, records.js, view.js, panes.js, json.js and page.js are parts of one script. What it shows of the input is set as
 // text, never as HTML.
 
 const MOST_BYTES = 4 << 20;
 const MOST_NODES = 1_000_000;
-// Beyond so many characters a text isn't put in a box, and beyond so many bytes no JSON is written unasked.
+// Beyond so many characters a text isn't put in a box, and beyond so many bytes each part of the page is shown in a frame of its own.
 const LARGE_TEXT = 1 << 16;
-const LARGE_JSON = 1 << 15;
+const LARGE = 1 << 13;
+// The height of a line of the dump and of the tree, and the width of a byte.
 const LINE = 22;
 const NODE = 24;
+const CELL = 24;
+// How many lines are made above and below what is seen.
+const SPARE = 3;
 const NOTHING = -1;
 // A node record has no more bytes than this, and a link carries no more.
 const MOST_OF_NODE = 300;
@@ -61,34 +65,78 @@ class Lines {
     this.make = make;
     this.spacer = box.querySelector(".spacer");
     this.window = box.querySelector(".window");
-    this.count = 0;
-    box.addEventListener("scroll", () => this.show());
+    this.top = this.room = this.count = this.first = this.last = this.draws = 0;
+    box.addEventListener("scroll", () => {
+      this.top = box.scrollTop;
+      drawSoon(this);
+    });
   }
 
+  /** Learns how high the box is at most. */
+  measure() {
+    const { maxHeight, borderTopWidth, borderBottomWidth } = getComputedStyle(this.box);
+    this.room = [borderTopWidth, borderBottomWidth].reduce((rest, width) => rest - parseFloat(width), parseFloat(maxHeight));
+  }
+
+  /** Takes other lines, of which none is made yet. */
   set(count) {
+    this.draws++;
     this.count = count;
+    this.first = this.last = 0;
     this.spacer.style.height = `${count * this.height}px`;
-    this.first = this.last = NOTHING;
-    this.show();
+    this.window.replaceChildren();
   }
 
+  /** Makes the lines that are seen, step by step, until others are wanted. Lines that were seen before stay in the document. */
+  *draw() {
+    const mine = ++this.draws;
+    const { height, window, count } = this;
+    const first = Math.max(0, Math.min(Math.floor(this.top / height), count) - SPARE);
+    const last = Math.min(count, first + Math.ceil(this.room / height) + 2 * SPARE);
+    const isElsewhere = first >= this.last || last <= this.first;
+    if (isElsewhere) this.last = this.first = first;
+    if (isElsewhere) window.replaceChildren();
+    for (; this.first < first; this.first++) window.firstChild.remove();
+    for (; this.last > last; this.last--) window.lastChild.remove();
+    while (this.draws === mine && this.last < last) {
+      window.append(this.make(this.last++));
+      yield this.#place();
+    }
+    while (this.draws === mine && this.first > first) {
+      window.prepend(this.make(--this.first));
+      yield this.#place();
+    }
+    this.#place();
+  }
+
+  #place() {
+    const place = `translateY(${this.first * this.height}px)`;
+    if (this.window.style.transform !== place) this.window.style.transform = place;
+  }
+
+  /** Makes the lines that are seen, and what takes too long in the next frame. */
   show() {
-    const seen = Math.ceil((this.box.clientHeight || 420) / this.height);
-    const first = Math.max(0, Math.floor(this.box.scrollTop / this.height) - 4);
-    const last = Math.min(this.count, first + seen + 8);
-    if (first === this.first && last === this.last) return;
-    this.first = first;
-    this.last = last;
-    this.window.style.transform = `translateY(${first * this.height}px)`;
-    this.window.replaceChildren(...Array.from({ length: last - first }, (_, at) => this.make(first + at)));
-    paint();
+    // While other bytes are read, nothing is known of the lines.
+    if (!view) return;
+    const ends = performance.now() + TURN / 2;
+    const steps = this.draw();
+    let { done } = steps.next();
+    while (!done && performance.now() < ends) ({ done } = steps.next());
+    if (!done) drawSoon(this);
+    point();
   }
 
+  /** Goes to a place from the top, in pixels. */
+  go(top) {
+    if (this.top === top) return;
+    this.top = this.box.scrollTop = top;
+  }
+
+  /** Goes where a line is seen. */
   reveal(line) {
-    const { box, height } = this;
-    const top = line * height;
-    if (top < box.scrollTop) box.scrollTop = top;
-    else if (top + height > box.scrollTop + box.clientHeight) box.scrollTop = top + height - box.clientHeight;
+    const top = line * this.height;
+    if (top < this.top) this.go(top);
+    else if (top + this.height > this.top + this.room) this.go(top + this.height - this.room);
     this.show();
   }
 }

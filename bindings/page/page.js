@@ -1,12 +1,31 @@
-// The fields, the verdict and the JSON, and what is given.
+// The fields and the verdict, and what is given.
+
+// How many letters of a list are shown as the value of a field.
+const MOST_LETTERS = 600;
+
+/** The text of a value in a list. Of a long one it is the begin, which is long enough to be cut. */
+function shortText(value) {
+  if (value instanceof Tree && !value.isList) return shortText(value.bytes);
+  if (value instanceof Uint8Array) return `"${toHex(value.subarray(0, MOST_LETTERS))}"`;
+  if (typeof value === "bigint") return `"${value}"`;
+  const isStruct = !(Array.isArray(value) || value instanceof Tree);
+  const parts = [];
+  let length = 0;
+  for (const part of isStruct ? Object.entries(value) : value) {
+    if (length > MOST_LETTERS) break;
+    parts.push(isStruct ? `"${part[0]}": ${shortText(part[1])}` : shortText(part));
+    length += parts.at(-1).length;
+  }
+  const [open, shut] = isStruct ? "{}" : "[]";
+  return parts.length === 0 ? `${open}${shut}` : `${open} ${parts.join(", ")} ${shut}`;
+}
 
 function textOf(value) {
   if (value === null) return "none: it makes a contract";
   if (typeof value === "string") return value;
   if (value instanceof Uint8Array) return value.length === 0 ? "empty" : shortHex(value, 64);
-  const plain = (_, each) => (typeof each === "bigint" ? each.toString() : each instanceof Uint8Array ? toHex(each) : each);
-  const text = JSON.stringify(value, plain, 1).replace(/\n\s*/g, " ");
-  return `${counted(value.length, "entry", "entries")}${value.length ? `: ${text.length > 600 ? `${text.slice(0, 600)}…` : text}` : ""}`;
+  const text = shortText(value);
+  return `${counted(value.length, "entry", "entries")}${value.length ? `: ${text.length > MOST_LETTERS ? `${text.slice(0, MOST_LETTERS)}…` : text}` : ""}`;
 }
 
 function showRecord() {
@@ -69,45 +88,65 @@ function showVerdict() {
   the("verdict").className = `verdict ${fault || recordFault ? "bad" : "good"}`;
 }
 
-function hexTree(value) {
-  return value instanceof Uint8Array ? toHex(value) : value.map(hexTree);
-}
-
-function showJson(asked) {
-  the("json-fault").textContent = "";
-  const isLarge = view.bytes.length > LARGE_JSON && !asked;
-  the("json-fill").hidden = !isLarge || view.fault !== null;
-  const kept = view.start ? " The type byte in front is kept." : "";
-  the("json-note").textContent = view.fault
-    ? "Only canonical bytes have a JSON here. What is written in the box becomes the bytes above."
-    : `Nested arrays of hexadecimal strings. A change here is written as bytes above.${kept}`;
-  the("json").value = isLarge || view.fault ? "" : JSON.stringify(hexTree(codec.decode(view.bytes.subarray(view.start))), null, 1);
-}
-
-/** Shows bytes, which come from a box, a file or the JSON. */
-async function show(bytes, { note = "", fromJson = false } = {}) {
-  const mine = ++turn;
-  the("input-note").textContent = note;
+/** Begins with another input. What is read of an earlier one isn't wanted any more. */
+function begin() {
+  the("input-note").textContent = "";
   the("link-note").textContent = "";
   active = NOTHING;
   cursor = 0;
   view = null;
+  return ++turn;
+}
+
+/** Shows what steps give: bytes with a note, or a fault that is told. They are done in turns, unless another input comes. */
+function take(steps, isFromJson = false) {
+  const mine = begin();
+  return inTurns(showing(steps, isFromJson), () => turn === mine);
+}
+
+function* given(bytes, note) {
+  return { bytes, note };
+}
+
+function* showing(steps, isFromJson) {
+  let input;
+  try {
+    input = yield* steps;
+  } catch (error) {
+    if (!(error instanceof TypeError)) throw error;
+    return refuse(error.message);
+  }
+  const { bytes, note } = input;
+  the("input-note").textContent = note;
   if (bytes.length > MOST_BYTES) return refuse(`There are ${counted(bytes.length, "byte")}. This page reads up to ${numbered(MOST_BYTES)}.`);
-  const made = await View.of(bytes, the("kind").value, () => turn === mine);
-  if (bytes.length > LARGE_JSON) await others();
-  if (turn !== mine) return;
+  yield;
+  yield* showView(yield* View.of(bytes, the("kind").value), isFromJson);
+}
+
+/** Shows what was read, the verdict last. */
+function* showView(made, isFromJson) {
+  const wasHidden = the("panes").hidden;
+  const rest = made.bytes.length > LARGE ? [FRAME] : [];
   view = made;
   the("link").disabled = false;
   the("panes").hidden = false;
-  measure();
-  tree.box.scrollTop = 0;
+  dump.go(0);
+  tree.go(0);
+  if (wasHidden) measure();
+  dump.set(Math.ceil(view.bytes.length / perLine));
   tree.set(linesOfTree());
-  showRecord();
-  showVerdict();
-  if (!fromJson) showJson(false);
-  const marked = [...view.marks.keys()][0];
-  if (marked !== undefined && marked < bytes.length) choose(view.itemAt(marked), marked, "input");
+  const [marked] = view.marks.keys();
+  if (marked !== undefined && marked < view.bytes.length) choose(view.itemAt(marked), marked, "input");
   else the("place").textContent = "\u00a0";
+  yield* dump.draw();
+  yield* rest;
+  yield* tree.draw();
+  point();
+  yield* rest;
+  showRecord();
+  yield* rest;
+  yield* showJson(isFromJson);
+  showVerdict();
 }
 
 function refuse(text) {
@@ -122,14 +161,23 @@ function refuse(text) {
   the("place").textContent = "\u00a0";
 }
 
-/** How many bytes a line has room for. */
+/** Learns how many bytes a line has room for. */
 function measure() {
-  if (!view) return;
   const room = the("dump").clientWidth - 66;
-  perLine = room >= 16 * 24 ? 16 : 8;
-  hasText = room >= perLine * 24 + perLine * 8 + 18;
-  the("dump").scrollTop = 0;
+  perLine = room >= 16 * CELL ? 16 : 8;
+  hasText = room >= perLine * CELL + perLine * 8 + 18;
+  dump.measure();
+  tree.measure();
+}
+
+/** Draws the dump and the tree again, for another width of the page. */
+function fit() {
+  if (the("panes").hidden) return;
+  measure();
+  if (!view) return;
   dump.set(Math.ceil(view.bytes.length / perLine));
+  dump.reveal(Math.floor(cursor / perLine));
+  tree.show();
 }
 
 // ---- What is given ----
@@ -154,25 +202,46 @@ function wrongDigit(count, letter) {
   return new TypeError(`There is no hexadecimal digit at digit ${numbered(count + 1)}, but ${shown}.`);
 }
 
-/** The bytes of digits, between which there may be spaces, or of the text of a node record. */
-function bytesOfText(text) {
-  if (/^\s*enr:/.test(text)) return bytesOfNodeText(text);
-  const bytes = new Uint8Array(Math.ceil(text.length / 2));
+/** How many characters are in front of the digits. */
+const frontOf = (text) => /^\s*(?:0x)?/i.exec(text)[0].length;
+
+/** The bytes of digits by their character codes, between which there may be spaces, step by step. They end at another character, if one is there. */
+function* bytesOfDigits(length, codeAt, from) {
+  const bytes = new Uint8Array(Math.ceil(length / 2));
   let count = 0;
-  for (let at = /^\s*(?:0x)?/i.exec(text)[0].length; at < text.length; at++) {
-    const digit = digitOf(text.charCodeAt(at));
+  let at = from;
+  for (; at < length; at++) {
+    if (at % ITEMS === 0) yield;
+    const code = codeAt(at);
+    const digit = digitOf(code);
     if (digit >= 0) {
       bytes[count >> 1] = bytes[count >> 1] * 16 + digit;
       count++;
-    } else if (!/\s/.test(text[at])) throw wrongDigit(count, String.fromCodePoint(text.codePointAt(at)));
+    } else if (!/\s/.test(String.fromCharCode(code))) break;
   }
-  if (count % 2) throw new TypeError(`There are ${numbered(count)} digits: the last byte has only one.`);
-  return bytes.slice(0, count / 2);
+  return { bytes: bytes.subarray(0, count >> 1), count, at };
 }
+
+/** The bytes of text: digits, or a node record. */
+function* bytesOfText(text) {
+  if (/^\s*enr:/.test(text)) return bytesOfNodeText(text);
+  const { bytes, count, at } = yield* bytesOfDigits(text.length, (place) => text.charCodeAt(place), frontOf(text));
+  if (at < text.length) throw wrongDigit(count, String.fromCodePoint(text.codePointAt(at)));
+  if (count % 2) throw oddDigits(count);
+  return bytes;
+}
+
+const oddDigits = (count) => new TypeError(`There are ${numbered(count)} digits: the last byte has only one.`);
 
 /** Shows the bytes of the address, behind its #. */
 function readLink() {
-  const text = decodeURIComponent(location.hash.slice(1));
+  let text = location.hash.slice(1);
+  try {
+    text = decodeURIComponent(text);
+  } catch (error) {
+    // A sign of percent that begins no character is left as it is.
+    if (!(error instanceof URIError)) throw error;
+  }
   if (!text) return;
   the("input").value = text.length > LARGE_TEXT ? "" : text;
   readText(text);
@@ -194,61 +263,36 @@ async function link() {
 function readText(text) {
   the("example").value = "";
   if (text.trim() === "") {
+    begin();
     refuse("Paste bytes, or choose an example.");
     the("verdict").className = "verdict";
-    the("input-note").textContent = "";
     return;
   }
   const isLarge = text.length > LARGE_TEXT;
   if (isLarge) the("input").value = "";
-  try {
-    const bytes = bytesOfText(text);
-    show(bytes, { note: isLarge ? `${counted(bytes.length, "byte")} were pasted, which is too many to be edited in the box. The box is empty for other input.` : "" });
-  } catch (error) {
-    if (!(error instanceof TypeError)) throw error;
-    refuse(error.message);
-  }
+  take(fromText(text, isLarge));
+}
+
+function* fromText(text, isLarge) {
+  const bytes = yield* bytesOfText(text);
+  return { bytes, note: isLarge ? `${counted(bytes.length, "byte")} were pasted, which is too many to be edited in the box. The box is empty for other input.` : "" };
 }
 
 async function readFile(file) {
   if (file.size > MOST_BYTES * 2) return refuse(`The file has ${counted(file.size, "byte")}. This page reads up to ${numbered(MOST_BYTES)}.`);
   const bytes = new Uint8Array(await file.arrayBuffer());
-  // A file of digits is read as digits.
-  const isText = bytes.length > 1 && /^\s*(0x)?[0-9a-f\s]+$/i.test(new TextDecoder("latin1").decode(bytes));
   the("input").value = "";
-  try {
-    const given = isText ? bytesOfText(new TextDecoder("latin1").decode(bytes)) : bytes;
-    show(given, { note: `The file “${file.name}”, read as ${isText ? "hexadecimal digits" : "bytes"}: ${counted(given.length, "byte")}.` });
-  } catch (error) {
-    if (!(error instanceof TypeError)) throw error;
-    refuse(error.message);
-  }
+  take(fromFile(file.name, bytes));
 }
 
-/** The strings and lists of a JSON. */
-function checked(value, path) {
-  if (path.length > 256) throw new TypeError("There are more than 256 lists, one in the other.");
-  const where = path.length ? `At [${path.join("][")}]` : "The whole";
-  if (Array.isArray(value)) return value.map((each, at) => checked(each, [...path, at]));
-  if (typeof value !== "string" || !/^0x(?:[0-9a-f]{2})*$/i.test(value)) throw new TypeError(`${where} is neither an array nor a string of 0x and pairs of hexadecimal digits.`);
-  return `0x${value.slice(2)}`;
-}
-
-function readJson() {
-  the("json-fault").textContent = "";
-  try {
-    const item = codec.encode(checked(JSON.parse(the("json").value), []));
-    const front = view ? view.bytes.slice(0, view.start) : new Uint8Array(0);
-    const bytes = new Uint8Array(front.length + item.length);
-    bytes.set(front);
-    bytes.set(item, front.length);
-    const isLarge = bytes.length * 2 > LARGE_TEXT;
-    the("input").value = isLarge ? "" : toHex(bytes);
-    show(bytes, { note: `Written from the JSON: ${counted(bytes.length, "byte")}.`, fromJson: true });
-  } catch (error) {
-    if (!(error instanceof TypeError || error instanceof SyntaxError || error instanceof RlpError)) throw error;
-    the("json-fault").textContent = error instanceof SyntaxError ? `This is no JSON: ${error.message}` : error.message;
-  }
+/** A file of digits is read as digits. */
+function* fromFile(name, bytes) {
+  const from = frontOf(String.fromCharCode(...bytes.subarray(0, 99)));
+  const digits = yield* bytesOfDigits(bytes.length, (place) => bytes[place], from);
+  const isText = bytes.length > 1 && digits.count > 0 && digits.at === bytes.length;
+  if (isText && digits.count % 2) throw oddDigits(digits.count);
+  const shown = isText ? digits.bytes : bytes;
+  return { bytes: shown, note: `The file “${name}”, read as ${isText ? "hexadecimal digits" : "bytes"}: ${counted(shown.length, "byte")}.` };
 }
 
 function soon(call) {
@@ -258,15 +302,11 @@ function soon(call) {
 
 function listen() {
   the("input").addEventListener("input", () => soon(() => readText(the("input").value)));
-  the("input").addEventListener("paste", (event) => {
-    const text = event.clipboardData?.getData("text/plain") ?? "";
-    if (text.length <= LARGE_TEXT) return;
-    event.preventDefault();
-    readText(text);
-  });
-  the("json").addEventListener("input", () => soon(readJson));
-  the("json-fill").addEventListener("click", () => showJson(true));
-  the("kind").addEventListener("change", () => view && show(view.bytes, { note: the("input-note").textContent }));
+  the("input").addEventListener("paste", (event) => readWithoutBox(event, readText));
+  the("json").addEventListener("input", () => soon(() => readJson(the("json").value)));
+  the("json").addEventListener("paste", (event) => readWithoutBox(event, readJson));
+  the("json-save").addEventListener("click", saveJson);
+  the("kind").addEventListener("change", () => view && take(given(view.bytes, the("input-note").textContent)));
   the("clear").addEventListener("click", () => {
     the("input").value = the("json").value = "";
     readText("");
@@ -296,7 +336,7 @@ function listen() {
   });
   let width = window.innerWidth;
   window.addEventListener("resize", () => {
-    if (window.innerWidth !== width) measure();
+    if (window.innerWidth !== width) fit();
     width = window.innerWidth;
   });
 }

@@ -26,6 +26,29 @@ function whatOf(item) {
   return isPart ? `list, ${counted(view.children[item], "item")} read` : `list of ${counted(view.children[item], "item")}`;
 }
 
+/** The style of a byte, but for what is chosen. */
+function styleOf(byte, item) {
+  const kind = byte < view.start ? " type" : view.marks.has(byte) ? " wrong" : item === NOTHING ? " rest" : "";
+  return `b${kind}${item === NOTHING ? "" : ` c${item % 8} ${view.isHead(item, byte) ? "h" : "p"}`}`;
+}
+
+// A byte that isn't chosen, of which the others are copies.
+const CELL_OF_BYTE = element("span", "b", "00");
+CELL_OF_BYTE.setAttribute("role", "option");
+CELL_OF_BYTE.setAttribute("aria-selected", "false");
+
+function cellOf(byte, from, to) {
+  const item = view.itemAt(byte);
+  const cell = CELL_OF_BYTE.cloneNode(true);
+  cell.className = `${styleOf(byte, item)}${byte >= from && byte < to ? " on" : ""}${byte === cursor ? " cursor" : ""}`;
+  cell.firstChild.data = PAIRS[view.bytes[byte]];
+  cell.id = `b${byte}`;
+  cell.setAttribute("data-byte", byte);
+  cell.setAttribute("data-item", item);
+  if (byte === cursor) cell.setAttribute("aria-selected", "true");
+  return cell;
+}
+
 function lineOfBytes(line) {
   const row = element("div", "line");
   row.setAttribute("role", "presentation");
@@ -34,24 +57,12 @@ function lineOfBytes(line) {
   const at = element("span", "at", from.toString(16).padStart(5, "0"));
   at.setAttribute("aria-hidden", "true");
   row.append(at);
-  for (let byte = from; byte < to; byte++) {
-    const cell = element("span", "b", view.bytes[byte].toString(16).padStart(2, "0"));
-    const item = view.itemAt(byte);
-    const isType = byte < view.start;
-    cell.id = `b${byte}`;
-    cell.dataset.byte = byte;
-    cell.dataset.item = item;
-    cell.setAttribute("role", "option");
-    if (isType) cell.classList.add("type");
-    else if (view.marks.has(byte)) cell.classList.add("wrong");
-    else if (item === NOTHING) cell.classList.add("rest");
-    if (item !== NOTHING) cell.classList.add(`c${item % 8}`, view.isHead(item, byte) ? "h" : "p");
-    row.append(cell);
-  }
+  const [first, last] = chosen();
+  for (let byte = from; byte < to; byte++) row.append(cellOf(byte, first, last));
   if (hasText) {
     const shown = Array.from(view.bytes.subarray(from, to), (byte) => (byte >= 0x20 && byte < 0x7f ? String.fromCharCode(byte) : "·"));
     const text = element("span", "at", shown.join(""));
-    text.style.marginLeft = `${(perLine - (to - from)) * 24}px`;
+    if (to - from < perLine) text.style.marginLeft = `${(perLine - (to - from)) * CELL}px`;
     text.setAttribute("aria-hidden", "true");
     row.append(text);
   }
@@ -76,12 +87,14 @@ function aboutItem(item) {
 function nodeOf(line) {
   if (line === view.shown.length) return lastNode();
   const item = view.shown[line];
-  const node = element("div", `node c${item % 8}`);
+  const isOn = active !== NOTHING && line === view.lineOf(active);
+  const node = element("div", `node c${item % 8}${isOn ? " on" : ""}`);
   const depth = view.depth(item);
   const isList = view.isList(item);
   node.id = `n${item}`;
-  node.dataset.item = item;
+  node.setAttribute("data-item", item);
   node.setAttribute("role", "treeitem");
+  node.setAttribute("aria-selected", isOn);
   node.setAttribute("aria-level", depth + 1);
   node.setAttribute("aria-posinset", view.ranks[item] || 1);
   node.setAttribute("aria-setsize", depth > 0 ? view.children[view.parents[item]] : 1);
@@ -115,31 +128,40 @@ function lastNode() {
 const dump = new Lines(the("dump"), LINE, lineOfBytes);
 const tree = new Lines(the("tree"), NODE, nodeOf);
 
+/** From where to where the bytes of the active item are. */
+const chosen = () => (active === NOTHING ? [0, 0] : [view.offset(active), view.end(active)]);
+
+function mark(node, name, isOn) {
+  node.classList.toggle(name, isOn);
+  if (node.getAttribute("aria-selected") !== String(isOn)) node.setAttribute("aria-selected", isOn);
+}
+
 /** Marks the item that is active and the byte that is chosen, where they are in the document. */
 function paint() {
   if (!view) return;
-  const [from, to] = active === NOTHING ? [0, 0] : [view.offset(active), view.end(active)];
-  for (const cell of dump.window.querySelectorAll(".b")) {
+  const [from, to] = chosen();
+  for (const cell of dump.window.getElementsByClassName("b")) {
     const byte = Number(cell.dataset.byte);
     cell.classList.toggle("on", byte >= from && byte < to);
-    cell.classList.toggle("cursor", byte === cursor);
-    cell.setAttribute("aria-selected", byte === cursor);
+    mark(cell, "cursor", byte === cursor);
   }
   const line = active === NOTHING ? NOTHING : view.shown[view.lineOf(active)];
-  for (const node of tree.window.children) {
-    const isOn = Number(node.dataset.item) === line && line !== NOTHING;
-    node.classList.toggle("on", isOn);
-    node.setAttribute("aria-selected", isOn);
-  }
+  for (const node of tree.window.children) mark(node, "on", Number(node.dataset.item) === line && line !== NOTHING);
   for (const row of the("record").tBodies[0].rows) {
     const first = Number(row.dataset.item);
     row.classList.toggle("on", active >= first && view.end(active) <= view.end(first) && active !== NOTHING);
   }
-  const chosen = document.getElementById(`b${cursor}`);
-  chosen?.setAttribute("aria-label", describe(cursor));
-  chosen ? the("dump").setAttribute("aria-activedescendant", chosen.id) : the("dump").removeAttribute("aria-activedescendant");
-  const node = document.getElementById(`n${line}`);
-  node ? the("tree").setAttribute("aria-activedescendant", node.id) : the("tree").removeAttribute("aria-activedescendant");
+  point();
+}
+
+/** Says where the keyboard is, where that is in the document. */
+function point() {
+  const cell = document.getElementById(`b${cursor}`);
+  const node = active === NOTHING ? null : document.getElementById(`n${view.shown[view.lineOf(active)]}`);
+  cell?.setAttribute("aria-label", describe(cursor));
+  for (const [box, found] of [[dump.box, cell], [tree.box, node]]) {
+    found ? box.setAttribute("aria-activedescendant", found.id) : box.removeAttribute("aria-activedescendant");
+  }
 }
 
 /** Chooses a byte and its item, and shows both, but moves nothing where the choice came from. */

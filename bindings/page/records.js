@@ -78,32 +78,50 @@ function firstHeaderOf(bytes) {
 }
 
 /** The block that some bytes are, by its shape: a header and lists of transactions, of ommers, and since Shanghai of withdrawals. */
-function blockOf(bytes) {
+function* blockOf(bytes) {
   const header = bytes[0] >= 0xc0 ? firstHeaderOf(bytes) : null;
+  yield;
   const parts = header && orNull(() => [...codec.tree(bytes)]);
+  yield;
   if (!parts || parts.length < 3 || parts.length > 4 || !parts.every(({ isList }) => isList)) return null;
   const names = new Map(header.items.map(({ name, offset }) => [parts[0].offset + offset, name]));
   for (const { isList, offset, headerLength, payloadLength } of [...parts[1]].slice(0, MOST_NAMED)) {
     const found = isList ? orNull(() => codec.transaction(bytes.subarray(offset, offset + headerLength + payloadLength))) : null;
     for (const { name, offset: inner } of found?.items ?? []) names.set(offset + inner, name);
+    yield;
   }
   const told = ({ length }, at) => (at === 0 ? `block ${header.fields.number}, as since ${header.fork}` : counted(length, "entry", "entries"));
   const items = parts.map(({ offset, headerLength, payloadLength }, at) => ({ name: PARTS_OF_BLOCK[at], kind: "told", offset, headerLength, payloadLength }));
   return { what: "block", fork: header.fork, items, names, fields: Object.fromEntries(parts.map((part, at) => [PARTS_OF_BLOCK[at], told(part, at)])) };
 }
 
+const PARTS_OF_LOG = ["address", "topics", "data"];
+
+/** The names of the parts of logs by their offsets, or null if one is no log, step by step. */
+function* namesOfLogs(logs, start) {
+  const names = new Map();
+  for (const log of logs) {
+    if (!log.isList || log.length !== 3) return null;
+    for (const [at, name] of PARTS_OF_LOG.entries()) names.set(log.at(at).offset + start, name);
+    yield;
+  }
+  return names;
+}
+
 /** The receipt that some bytes are, by its shape: a status or a root, gas, a bloom filter of 256 bytes, and logs. */
-function receiptOf(bytes) {
+function* receiptOf(bytes) {
   const start = bytes[0] < 0x80 ? 1 : 0;
   const parts = bytes.length > start && bytes.length <= MOST_OF_RECEIPT && bytes[start] >= 0xc0 ? orNull(() => [...codec.tree(bytes.subarray(start))]) : null;
-  const isLog = ({ isList, length }) => isList && length === 3;
-  if (parts?.length !== 4 || parts[2].payloadLength !== 256 || parts[1].payloadLength > 8 || !parts[3].isList || ![...parts[3]].every(isLog)) return null;
+  yield;
+  if (parts?.length !== 4 || parts[2].payloadLength !== 256 || parts[1].payloadLength > 8 || !parts[3].isList) return null;
   const [first, gas, bloom, logs] = parts;
   if ([first, gas, bloom].some(({ isList }) => isList) || (first.payloadLength > 1 && first.payloadLength !== 32)) return null;
+  const inLogs = yield* namesOfLogs(logs, start);
+  if (!inLogs) return null;
   const names = [first.payloadLength === 32 ? "stateRoot" : "status", "cumulativeGasUsed", "logsBloom", "logs"];
   const kinds = [first.payloadLength === 32 ? "bytes" : "number", "number", "bytes", "list"];
   const number = ({ bytes: digits }) => (digits.length > 0 ? BigInt(toHex(digits)) : 0n);
-  const values = parts.map((part, at) => (kinds[at] === "number" ? number(part) : part.value()));
+  const values = parts.map((part, at) => (kinds[at] === "number" ? number(part) : kinds[at] === "list" ? part : part.bytes));
   const items = parts.map(({ offset, headerLength, payloadLength }, at) => ({ name: names[at], kind: kinds[at], offset: offset + start, headerLength, payloadLength }));
-  return { what: "receipt", items, fields: Object.fromEntries(names.map((name, at) => [name, values[at]])) };
+  return { what: "receipt", items, names: inLogs, fields: Object.fromEntries(names.map((name, at) => [name, values[at]])) };
 }

@@ -1,17 +1,7 @@
 // What is read of some bytes.
 
-/** Gives others a turn. */
-const others = () => new Promise((resolve) => setTimeout(resolve));
-
-/** What an iterator returns in the end, with turns for others in between, or null if it isn't wanted any more. */
-async function inTurns(steps, isWanted) {
-  for (;;) {
-    const { done, value } = steps.next();
-    if (done) return value;
-    await others();
-    if (!isWanted()) return null;
-  }
-}
+// How many items a step looks at.
+const ITEMS = 1 << 13;
 
 /** The items of some bytes, the first fault, and the fields where they are a record. */
 class View {
@@ -26,25 +16,24 @@ class View {
     this.start = 0;
   }
 
-  /** Reads bytes, with turns for others in between. If the view isn't wanted any more, there is none. */
-  static async of(bytes, kind, isWanted) {
+  /** Reads bytes, step by step. */
+  static *of(bytes, kind) {
     const made = new View(bytes);
-    const rest = () => bytes.length > LARGE_JSON && others();
-    await rest();
-    made.#readRecord(kind);
-    await rest();
-    const rows = isWanted() && (await made.#rows(isWanted));
-    if (!rows) return null;
-    await rest();
-    made.#read(rows);
+    yield* made.#readRecord(kind);
+    yield;
+    const rows = yield* made.#rows();
+    yield;
+    yield* made.#read(rows);
+    yield;
+    made.list();
     return made;
   }
 
   /** The rows of the items up to the first fault, which is kept. */
-  async #rows(isWanted) {
+  *#rows() {
     const part = this.bytes.subarray(this.start);
-    const found = await inTurns(codec.inspectInSteps(part), isWanted);
-    if (!found?.fault) return found?.rows;
+    const found = yield* codec.inspectInSteps(part);
+    if (!found.fault) return found.rows;
     const { fault } = found;
     const place = fault.place + this.start;
     this.fault = { name: fault.name, why: new RlpError(fault.status, { place }).message, place, mark: place };
@@ -52,65 +41,73 @@ class View {
     // The item is shown, and the bytes behind it are marked.
     const { headerLength, payloadLength } = codec.header(part);
     this.fault.mark = this.start + headerLength + payloadLength;
-    return (await inTurns(codec.inspectInSteps(part.subarray(0, headerLength + payloadLength)), isWanted))?.rows;
+    return (yield* codec.inspectInSteps(part.subarray(0, headerLength + payloadLength))).rows;
   }
 
   /** What the page asks of each item, by its row. */
-  #read({ words, length }) {
+  *#read({ words, length }) {
     this.words = words;
     this.count = length;
-    this.parents = new Int32Array(length).fill(NOTHING);
+    this.parents = new Int32Array(length);
     this.children = new Uint32Array(length);
     this.ranks = new Uint32Array(length);
     this.deepest = 0;
     const open = [];
     for (let item = 0; item < length; item++) {
+      if (item % ITEMS === 0) yield;
       const depth = words[item * 8 + 6];
       open[depth] = item;
-      if (depth === 0) continue;
-      this.parents[item] = open[depth - 1];
-      this.ranks[item] = ++this.children[open[depth - 1]];
+      this.parents[item] = depth > 0 ? open[depth - 1] : NOTHING;
+      if (depth > 0) this.ranks[item] = ++this.children[open[depth - 1]];
       if (depth > this.deepest) this.deepest = depth;
     }
-    this.names = new Map([...(this.record?.items.map(({ offset, name }) => [offset, name]) ?? []), ...(this.record?.names ?? [])]);
+    this.names = this.record?.names ?? new Map();
+    for (const { offset, name } of this.record?.items ?? []) this.names.set(offset, name);
     const fits = { transaction: [9], header: [15, 16, 17, 20, 21] };
     this.hints = this.hints.filter(({ what }) => !this.fault && fits[what].includes(this.children[0]));
     if (this.recordFault?.error.place !== undefined) this.marks.set(this.recordFault.error.place, toldOf(this.recordFault.error));
     if (this.fault) this.marks.set(this.fault.mark, `${this.fault.name}: ${this.fault.why}`);
-    this.list();
   }
 
-  #readRecord(kind) {
+  /** Keeps the record that a call gives, or its fault. Answers whether there is one. */
+  #attempt(what, call) {
+    try {
+      this.record = { what, ...call() };
+    } catch (error) {
+      if (!(error instanceof RlpError)) throw error;
+      this.recordFault = { what, error };
+    }
+    return this.record !== null;
+  }
+
+  *#readRecord(kind) {
     const { bytes } = this;
     const isTyped = bytes.length > 1 && bytes[0] < 0x80 && bytes[1] >= 0xc0;
-    const attempt = (what, call) => {
-      try {
-        this.record = { what, ...call() };
-      } catch (error) {
-        if (!(error instanceof RlpError)) throw error;
-        this.recordFault = { what, error };
-      }
-      return this.record !== null;
-    };
-    const isTransaction = () => attempt("transaction", () => transactionOf(bytes));
-    if (kind === "transaction") isTransaction();
-    if (kind === "header") attempt("header", () => codec.headerFields(bytes));
+    if (kind === "transaction") this.#attempt(kind, () => transactionOf(bytes));
+    if (kind === "header") this.#attempt(kind, () => codec.headerFields(bytes));
     if (kind === "node record") {
       this.record = nodeRecordOf(bytes);
       this.recordFault = { what: kind, error: new TypeError("it has a signature of 64 bytes, a number, and keys in order with their values") };
     }
-    if (kind === "guess" && bytes.length > 0 && !isTransaction()) {
-      const ofTransaction = this.recordFault;
-      const known = isTyped && ofTransaction.error.status !== UNKNOWN_TYPE;
-      const isHeader = !known && attempt("header", () => codec.headerFields(bytes));
-      if (!isHeader) this.record = (known ? null : nodeRecordOf(bytes) ?? blockOf(bytes)) ?? receiptOf(bytes);
-      // A list with the right number of fields may be meant as a record.
-      const isMeant = ({ error }) => error.field > 0 && error.status !== MISSING_FIELD;
-      this.hints = this.record || known ? [] : [ofTransaction, this.recordFault].filter(isMeant);
-      if (!known) this.recordFault = null;
-    }
+    if (kind === "guess" && bytes.length > 0) yield* this.#guess(isTyped);
     if (this.record) this.recordFault = null;
     if (isTyped && ["transaction", "receipt"].includes(this.record?.what ?? this.recordFault?.what)) this.start = 1;
+  }
+
+  /** Tries one record after the other. */
+  *#guess(isTyped) {
+    const { bytes } = this;
+    if (this.#attempt("transaction", () => transactionOf(bytes))) return;
+    yield;
+    const ofTransaction = this.recordFault;
+    const known = isTyped && ofTransaction.error.status !== UNKNOWN_TYPE;
+    const isHeader = !known && this.#attempt("header", () => codec.headerFields(bytes));
+    yield;
+    if (!isHeader) this.record = (known ? null : nodeRecordOf(bytes) ?? (yield* blockOf(bytes))) ?? (yield* receiptOf(bytes));
+    // A list with the right number of fields may be meant as a record.
+    const isMeant = ({ error }) => error.field > 0 && error.status !== MISSING_FIELD;
+    this.hints = this.record || known ? [] : [ofTransaction, this.recordFault].filter(isMeant);
+    if (!known) this.recordFault = null;
   }
 
   offset(item) {

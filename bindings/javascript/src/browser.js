@@ -2,7 +2,7 @@
 export * from "./codec.js";
 import { functionsOf, load } from "./codec.js";
 
-export const { encode, decode, isCanonical, flatten, tree, inspect, inspectInSteps, header, transaction, headerFields } = functionsOf(
+export const { encode, encodeInSteps, decode, isCanonical, flatten, tree, inspect, inspectInSteps, header, transaction, headerFields } = functionsOf(
   await load(fetch(new URL("rlp.wasm", import.meta.url))),
 );
 export const RLP = { encode, decode };

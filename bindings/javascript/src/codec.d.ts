@@ -208,13 +208,16 @@ export interface Header {
   items: Field[];
 }
 
-/** The functions over one instance of the module. All are done when they return; none keeps its arguments. */
+/** The functions over one instance of the module. All but those in steps are done when they return, and none keeps its arguments. */
 export class Codec {
   constructor(instance: WebAssembly.Instance);
   /** How many bytes of memory the library has. It grows to what the largest call needed, and stays so. */
   readonly memorySize: number;
   /** The encoding. Throws a TypeError for a value that has none, and an RlpError for lists that nest too deep. */
   encode(input: Input): Uint8Array;
+  /** The same in steps of some thousands of items or a call of the library, between which a page can answer. It yields how many items
+   * have been found. */
+  encodeInSteps(input: Input): Generator<number, Uint8Array, void>;
   /** The value whose canonical encoding the bytes are. No bytes at all are the empty string, as for `@ethereumjs/rlp`. */
   decode(bytes: ByteString, options?: false | (Options & { stream?: false })): Decoded;
   /** The value of the item that the bytes begin with, and the bytes behind it. */
@@ -226,7 +229,8 @@ export class Codec {
   tree(bytes: Bytes, options?: Options): Tree;
   /** The items up to the first fault, which is null if there is none. */
   inspect(bytes: Bytes, options?: Options): Inspected;
-  /** The same in steps of some thousands of items, so that a page stays at work. Other calls of the codec end it by an Error. */
+  /** The same in steps of a call of the library or some thousands of items, between which a page can answer. It yields how many bytes have
+   * been looked at. Other calls of the codec end it by an Error. */
   inspectInSteps(bytes: Bytes, options?: Options): Generator<number, Inspected, void>;
   /** The item that the bytes begin with. Others may follow it. */
   header(bytes: Bytes): Item;
@@ -238,7 +242,7 @@ export class Codec {
 
 export type Functions = Pick<
   Codec,
-  "encode" | "decode" | "isCanonical" | "flatten" | "tree" | "inspect" | "inspectInSteps" | "header" | "transaction" | "headerFields"
+  "encode" | "encodeInSteps" | "decode" | "isCanonical" | "flatten" | "tree" | "inspect" | "inspectInSteps" | "header" | "transaction" | "headerFields"
 >;
 
 /** Compiles the module, from its bytes or the answer of `fetch`, and makes a codec with a memory of its own. */

@@ -13,13 +13,18 @@ const OK = 0;
 const NO_ROOM = 13;
 const TOO_DEEP = 14;
 export const DEPTH_LIMIT = 256;
+// A header has at most so many bytes. What the library answers of a header depends on no others, but for how many there are.
+const MOST_OF_HEADER = 9;
 // How many items a walk looks at before others have a turn.
-const STEP = 1 << 14;
+const STEP = 1 << 12;
 
 function depthOf(depth) {
   if (!Number.isInteger(depth) || depth < 0) throw new RangeError("maxDepth isn't a whole number from 0");
   return Math.min(depth, DEPTH_LIMIT);
 }
+
+/** Whether bytes begin as a string of more than 55 bytes does, which is canonical if its header is. */
+const isLongString = (bytes) => bytes[0] > 0xb7 && bytes[0] < 0xc0;
 
 /** What an iterator returns in the end. */
 function finished(steps) {
@@ -57,28 +62,33 @@ export class Codec {
     return wordsAt(words, result / 4 + HEADER_LEN) + wordsAt(words, result / 4 + PAYLOAD_LEN);
   }
 
-  /** Calls a function that fills rows behind the bytes, with all the room that there is, and once more with what it needs. */
+  /** Calls a function that fills rows behind the bytes, with all the room that there is. */
+  #ask(call, length, rows) {
+    const { start, size, result } = this.#arena;
+    return call(BigInt(start), BigInt(length), BigInt(rows), BigInt(Math.floor((size - rows) / ROW)), BigInt(result));
+  }
+
+  /** The same, and once more with the room that it needs. */
   #fill(bytes, call, isFirst = false) {
     const arena = this.#arena;
     const rows = arena.begin(bytes);
     const length = isFirst ? this.#firstEnd(bytes.length) : bytes.length;
-    const ask = () => call(BigInt(arena.start), BigInt(length), BigInt(rows), BigInt(Math.floor((arena.size - rows) / ROW)), BigInt(arena.result));
-    let status = ask();
+    let status = this.#ask(call, length, rows);
     if (status === NO_ROOM) {
       arena.reach(rows + arena.count * ROW);
-      status = ask();
+      status = this.#ask(call, length, rows);
     }
     return { status, rows, length, count: arena.count };
   }
 
-  #flattened(bytes, depth, isFirst) {
-    return this.#fill(bytes, (at, len, rows, cap, count) => this.#calls.rlp_flatten(at, len, depth, rows, cap, count), isFirst);
+  #flatten(depth) {
+    return (at, len, rows, cap, count) => this.#calls.rlp_flatten(at, len, depth, rows, cap, count);
   }
 
   /** The rows of all the bytes, or of the item that they begin with. */
   #rowsOf(bytes, maxDepth, isFirst = false) {
     const depth = depthOf(maxDepth);
-    const found = this.#flattened(bytes, depth, isFirst);
+    const found = this.#fill(bytes, this.#flatten(depth), isFirst);
     if (found.status !== OK) throw new RlpError(found.status, { place: this.#walk(found.length, depth) });
     return found;
   }
@@ -87,6 +97,11 @@ export class Codec {
   #view(rows, count, length) {
     const { bytes, words, start } = this.#arena;
     return new Rows(this.#arena, words.subarray(rows / 4, rows / 4 + count * 8), bytes.subarray(start, start + length));
+  }
+
+  /** Throws if there was another call since. */
+  #goOn(call) {
+    if (this.#arena.calls !== call) throw new Error("another call has taken the memory of this one");
   }
 
   /** Where the item begins that rlp_flatten refuses. */
@@ -105,7 +120,7 @@ export class Codec {
     for (let count = 1; place < length || ends.length === 1; count++) {
       if (count % STEP === 0) {
         yield place;
-        if (this.#arena.calls !== call) throw new Error("another call has taken the memory of this one");
+        this.#goOn(call);
       }
       while (ends.length > 1 && place === ends[ends.length - 1]) ends.pop();
       const open = ends.length - 1;
@@ -128,24 +143,44 @@ export class Codec {
   }
 
   encode(input) {
-    const arena = this.#arena;
+    return finished(this.encodeInSteps(input));
+  }
+
+  /** The same as an iterator. Its steps are some thousands of items, or a call of the library. It returns what `encode` does. */
+  *encodeInSteps(input) {
     // For each item its string, or nothing for a list, and its depth.
     const strings = [];
     const depths = [];
     let size = 0;
-    const add = (value, depth) => {
-      depths.push(depth);
+    // The list that is walked, and where, and the same of the lists around it.
+    let [list, at] = [[input], 0];
+    const outer = [];
+    for (let count = 1; at < list.length || outer.length > 0; count++) {
+      if (count % STEP === 0) yield depths.length;
+      if (at === list.length) {
+        [list, at] = outer.pop();
+        continue;
+      }
+      const value = list[at++];
+      depths.push(outer.length);
       if (Array.isArray(value)) {
-        if (depth >= DEPTH_LIMIT) throw new RlpError(TOO_DEEP);
+        if (outer.length >= DEPTH_LIMIT) throw new RlpError(TOO_DEEP);
         strings.push(undefined);
-        for (let at = 0; at < value.length; at++) add(value[at], depth + 1);
-        return;
+        outer.push([list, at]);
+        [list, at] = [value, 0];
+        continue;
       }
       const string = this.#outside(value instanceof Uint8Array ? value : stringOf(value));
       strings.push(string);
       size += string.length;
-    };
-    add(input, 0);
+    }
+    if (depths.length > STEP) yield depths.length;
+    return this.#encoded(strings, depths, size);
+  }
+
+  /** The encoding of items, of which `encodeInSteps` says how they are given. */
+  #encoded(strings, depths, size) {
+    const arena = this.#arena;
     arena.calls++;
     const items = strings.length;
     const from = arena.start + items * ROW;
@@ -201,11 +236,23 @@ export class Codec {
     return whole;
   }
 
+  /** The long string that bytes are, or that they begin with, and how many bytes its encoding has. There is none if the bytes are refused. */
+  #longString(bytes, isFirst) {
+    const arena = this.#arena;
+    arena.begin(bytes, MOST_OF_HEADER);
+    const status = this.#calls.rlp_header(BigInt(arena.start), BigInt(bytes.length), BigInt(arena.result));
+    const { headerLength, payloadLength } = itemAt(arena.words, arena.result / 4);
+    const length = headerLength + payloadLength;
+    return status === OK && (isFirst || length === bytes.length) ? { data: bytes.slice(headerLength, length), length } : null;
+  }
+
   decode(input, options = false) {
     const { maxDepth = DEPTH_LIMIT, stream = false } = typeof options === "object" && options !== null ? options : { stream: Boolean(options) };
     const bytes = this.#outside(stringOf(input));
-    const found = bytes.length > 0 && this.#rowsOf(bytes, maxDepth, stream);
-    const data = found ? this.#valuesOf(found) : new Uint8Array(0);
+    const depth = depthOf(maxDepth);
+    const string = isLongString(bytes) ? this.#longString(bytes, stream) : null;
+    const found = string ?? (bytes.length > 0 && this.#rowsOf(bytes, depth, stream));
+    const data = string?.data ?? (found ? this.#valuesOf(found) : new Uint8Array(0));
     return stream ? { data, remainder: bytes.slice(found ? found.length : 0) } : data;
   }
 
@@ -222,7 +269,7 @@ export class Codec {
   isCanonical(input, { maxDepth = DEPTH_LIMIT } = {}) {
     const bytes = this.#outside(bytesOf(input));
     const { length } = bytes;
-    this.#arena.begin(bytes);
+    this.#arena.begin(bytes, isLongString(bytes) ? MOST_OF_HEADER : length);
     return this.#calls.rlp_is_canonical(BigInt(this.#arena.start), BigInt(length), depthOf(maxDepth)) === 1;
   }
 
@@ -238,24 +285,37 @@ export class Codec {
     return finished(this.inspectInSteps(input, options));
   }
 
-  /** The same as an iterator, which looks at some thousands of items at a time, and returns what `inspect` does. */
+  /** The same as an iterator. Its steps are a call of the library, or some thousands of items. It returns what `inspect` does. */
   *inspectInSteps(input, { maxDepth = DEPTH_LIMIT } = {}) {
     const bytes = this.#outside(bytesOf(input));
     const depth = depthOf(maxDepth);
     const { length } = bytes;
-    const { status, rows, count } = this.#flattened(bytes, depth);
-    if (status === OK) return { rows: this.#view(rows, count, length).copy(), fault: null };
+    const arena = this.#arena;
+    const rows = arena.begin(bytes);
+    const call = arena.calls;
+    yield 0;
+    this.#goOn(call);
+    let status = this.#ask(this.#flatten(depth), length, rows);
+    if (status === NO_ROOM) {
+      yield 0;
+      this.#goOn(call);
+      arena.reach(rows + arena.count * ROW);
+      status = this.#ask(this.#flatten(depth), length, rows);
+    }
+    yield 0;
+    this.#goOn(call);
+    if (status === OK) return { rows: this.#view(rows, arena.count, length).copy(), fault: null };
     const seen = new WordsOfRows();
     const copy = bytes.slice();
     const place = yield* this.#steps(length, depth, seen);
-    return { rows: new Rows(null, seen.words.slice(0, seen.used), copy), fault: new RlpError(status, { place }) };
+    return { rows: new Rows(null, seen.words.subarray(0, seen.used), copy), fault: new RlpError(status, { place }) };
   }
 
   header(input) {
     const bytes = this.#outside(bytesOf(input));
     const { length } = bytes;
     const arena = this.#arena;
-    arena.begin(bytes);
+    arena.begin(bytes, MOST_OF_HEADER);
     const status = this.#calls.rlp_header(BigInt(arena.start), BigInt(length), BigInt(arena.result));
     if (status !== OK) throw new RlpError(status, { place: 0 });
     return itemAt(arena.words, arena.result / 4);
@@ -340,6 +400,6 @@ export async function load(source) {
 
 /** The functions of a codec, each by itself. */
 export function functionsOf(codec) {
-  const names = ["encode", "decode", "isCanonical", "flatten", "tree", "inspect", "inspectInSteps", "header", "transaction", "headerFields"];
+  const names = ["encode", "encodeInSteps", "decode", "isCanonical", "flatten", "tree", "inspect", "inspectInSteps", "header", "transaction", "headerFields"];
   return Object.fromEntries(names.map((name) => [name, codec[name].bind(codec)]));
 }

@@ -3,7 +3,7 @@ export * from "./codec.js";
 import module from "./module.js";
 import { fromBase64, functionsOf, load } from "./codec.js";
 
-export const { encode, decode, isCanonical, flatten, tree, inspect, inspectInSteps, header, transaction, headerFields } = functionsOf(
+export const { encode, encodeInSteps, decode, isCanonical, flatten, tree, inspect, inspectInSteps, header, transaction, headerFields } = functionsOf(
   await load(fromBase64(module)),
 );
 export const RLP = { encode, decode };

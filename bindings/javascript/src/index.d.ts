@@ -2,6 +2,7 @@ import type { Codec } from "./codec.js";
 
 export * from "./codec.js";
 export const encode: Codec["encode"];
+export const encodeInSteps: Codec["encodeInSteps"];
 export const decode: Codec["decode"];
 export const isCanonical: Codec["isCanonical"];
 export const flatten: Codec["flatten"];

@@ -204,12 +204,12 @@ export class Arena {
     return wordsAt(this.words, this.result / 4);
   }
 
-  /** Begins a call over bytes, which are copied to the start. Answers the place behind them for rows. */
-  begin(bytes) {
+  /** Begins a call over bytes, of which those that it reads are copied to the start. Answers the place behind all for rows. */
+  begin(bytes, read = bytes.length) {
     this.calls++;
     const rows = Math.ceil((this.start + bytes.length) / ROW) * ROW;
     this.reach(rows + 64 * ROW);
-    this.bytes.set(bytes, this.start);
+    this.bytes.set(read < bytes.length ? bytes.subarray(0, read) : bytes, this.start);
     return rows;
   }
 }

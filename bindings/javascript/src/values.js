@@ -41,9 +41,12 @@ function ofNumber(number) {
   return number == 0 ? EMPTY : fromHex(number.toString(16));
 }
 
+/** The bytes of an array without what a class above it, as Node's Buffer, does in its own way. */
+const plainly = (bytes) => (bytes.constructor === Uint8Array ? bytes : new Uint8Array(bytes.buffer, bytes.byteOffset, bytes.length));
+
 /** The string of a value that is no list. */
 export function stringOf(value) {
-  if (value instanceof Uint8Array) return value;
+  if (value instanceof Uint8Array) return plainly(value);
   if (typeof value === "string") return value.startsWith("0x") ? fromHex(value) : utf8.encode(value);
   if (typeof value === "bigint" || typeof value === "number") return ofNumber(value);
   if (value === null || value === undefined) return EMPTY;
@@ -52,7 +55,7 @@ export function stringOf(value) {
 
 /** The bytes that a caller gives to be read. */
 export function bytesOf(value) {
-  if (value instanceof Uint8Array) return value;
+  if (value instanceof Uint8Array) return plainly(value);
   if (typeof value === "string" && value.startsWith("0x")) {
     if (value.length % 2) throw new TypeError("there is half a byte");
     return fromHex(value);

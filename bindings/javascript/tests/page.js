@@ -1,117 +1,124 @@
-// page.js PAGE PACKAGE [PICTURES]: tests inspector.html and the package in Chromium, which CHROMIUM may name, and puts pictures into a folder.
-// It ends with `N passed, M failed`. It speaks to the browser through a pipe, so it needs no package.
-import { spawn } from "node:child_process";
+// page.js PAGE PACKAGE [PICTURES]: tests inspector.html and the package in Chromium, and puts pictures into a folder.
+// It ends with `N passed, M failed`.
 import fs from "node:fs";
 import { createServer } from "node:http";
-import os from "node:os";
 import path from "node:path";
 import { fileURLToPath, pathToFileURL } from "node:url";
+import { ask, attach, awaited, call, check, close, complaints, folder, goTo, key, longestTask, over, picture, requests, scheme, see, seeText, send, size, state, textOf } from "./browser.js";
+
+// The most milliseconds of a processor that a task of the page takes, for any input of 170 KB and while it is scrolled.
+const MOST_BUSY = 50;
+const LOADED = `!["", "Loading the module.", undefined].includes(document.getElementById("verdict")?.textContent)`;
 
 const here = path.dirname(fileURLToPath(import.meta.url));
 const [page, packaged, pictures] = process.argv.slice(2);
-const folder = fs.mkdtempSync(path.join(os.tmpdir(), "page-"));
-const flags = ["--headless=new", "--remote-debugging-pipe", `--user-data-dir=${folder}`, "--no-first-run", "--disable-gpu", "--hide-scrollbars", "--disable-background-networking", "--disable-component-update", "--disable-dev-shm-usage", "--no-sandbox"];
-const browser = spawn(process.env.CHROMIUM ?? "chromium", [...flags, "about:blank"], { stdio: ["ignore", "ignore", "ignore", "pipe", "pipe"] });
 
-setTimeout(() => {
-  console.log("The browser has no answer.");
-  browser.kill();
-  process.exit(1);
-}, 300_000).unref();
+/** Forgets what was told of the last input, so that the next is awaited. */
+const forget = () => ask(`document.getElementById("verdict").textContent = document.getElementById("json-fault").textContent = ""`);
 
-const waiting = new Map();
-const requests = [];
-const complaints = [];
-let last = 0;
-let rest = "";
-let session;
-
-browser.stdio[4].on("data", (data) => {
-  const messages = (rest + data).split("\0");
-  rest = messages.pop();
-  for (const message of messages.map((text) => JSON.parse(text))) {
-    if (message.id) {
-      const { resolve, reject } = waiting.get(message.id);
-      waiting.delete(message.id);
-      message.error ? reject(new Error(message.error.message)) : resolve(message.result);
-    } else if (message.method === "Network.requestWillBeSent") requests.push(message.params.request.url);
-    else if (message.method === "Runtime.exceptionThrown") complaints.push(message.params.exceptionDetails.exception?.description ?? message.params.exceptionDetails.text);
-    else if (message.method === "Page.javascriptDialogOpening") complaints.push("a dialog");
-  }
-});
-
-function send(method, params = {}) {
-  const id = ++last;
-  browser.stdio[3].write(`${JSON.stringify({ id, method, params, ...(session && { sessionId: session }) })}\0`);
-  return new Promise((resolve, reject) => waiting.set(id, { resolve, reject }));
+/** What is told of the input: the verdict, which comes last, or the fault of a JSON. */
+async function told() {
+  const texts = () => ask(`["verdict", "json-fault"].map((id) => document.getElementById(id).textContent)`);
+  return (await awaited(texts, (found) => found.some((text) => text !== ""))).join("");
 }
 
-async function ask(expression) {
-  const { result, exceptionDetails } = await send("Runtime.evaluate", { expression, awaitPromise: true, returnByValue: true });
-  if (exceptionDetails) throw new Error(exceptionDetails.exception?.description ?? exceptionDetails.text);
-  return result.value;
-}
-
-const pause = (time) => new Promise((resolve) => setTimeout(resolve, time));
-const textOf = (id) => ask(`document.getElementById("${id}").textContent`);
-const call = (body, ...given) => ask(`(${body})(${given.map((each) => JSON.stringify(each)).join(", ")})`);
-
-/** Gives text to a box, and waits until the page has read it. */
+/** Gives text to a box. Answers what is told of it. */
 async function give(id, text) {
+  await forget();
   await call((box, given) => {
-    document.getElementById("verdict").textContent = "";
     document.getElementById(box).value = given;
     document.getElementById(box).dispatchEvent(new Event("input", { bubbles: true }));
   }, id, text);
-  // A busy machine shows the input late.
-  for (let turns = 0; turns < 100 && (await textOf("verdict")) === ""; turns++) await pause(20);
-  await pause(200);
-  return textOf("verdict");
+  return told();
 }
 
-async function key(name) {
-  for (const type of ["keyDown", "keyUp"]) await send("Input.dispatchKeyEvent", { type, key: name, code: name, ...(name === "Tab" && { windowsVirtualKeyCode: 9 }) });
+/** Chooses one of several. Answers what is told of it. */
+async function choose(id, value) {
+  await forget();
+  await call((box, wanted) => {
+    document.getElementById(box).value = wanted;
+    document.getElementById(box).dispatchEvent(new Event("change"));
+  }, id, value);
+  return told();
 }
 
-async function over(selector) {
-  const at = await call((wanted) => {
-    const found = document.querySelector(wanted);
-    found.scrollIntoView({ block: "center" });
-    const { x, y, width, height } = found.getBoundingClientRect();
-    return { x: x + Math.min(width / 2, 60), y: y + height / 2 };
-  }, selector);
-  await send("Input.dispatchMouseEvent", { type: "mouseMoved", ...at });
-  await pause(30);
-  return at;
+/** Gives text to be pasted. */
+const hold = (text) => ask(`window.given = new DataTransfer(), window.given.setData("text/plain", "${text}")`);
+
+/** Pastes the text that was given into a box, in a task of its own. */
+async function paste(box = "input") {
+  await forget();
+  await ask(`setTimeout(() => document.getElementById("${box}").dispatchEvent(new ClipboardEvent("paste", { clipboardData: window.given, cancelable: true }))), 0`);
 }
 
-const size = (width, height = 900) => send("Emulation.setDeviceMetricsOverride", { width, height, deviceScaleFactor: 1, mobile: false });
-const scheme = (value) => send("Emulation.setEmulatedMedia", { features: [{ name: "prefers-color-scheme", value }] });
-
-async function picture(name) {
-  if (!pictures) return;
-  await ask("scrollTo(0, 0)");
-  const { cssContentSize } = await send("Page.getLayoutMetrics");
-  const clip = { x: 0, y: 0, width: await ask("innerWidth"), height: Math.min(cssContentSize.height, 3000), scale: 1 };
-  const { data } = await send("Page.captureScreenshot", { format: "png", clip, captureBeyondViewport: true });
-  fs.mkdirSync(pictures, { recursive: true });
-  fs.writeFileSync(path.join(pictures, `${name}.png`), Buffer.from(data, "base64"));
-}
-
-let passed = 0;
-let failed = 0;
-function check(name, found, wanted) {
-  const same = wanted instanceof RegExp ? wanted.test(found) : JSON.stringify(found) === JSON.stringify(wanted);
-  if (same) return void passed++;
-  failed++;
-  console.log(`${name}: found ${JSON.stringify(found)}, wanted ${wanted instanceof RegExp ? wanted : JSON.stringify(wanted)}`);
-}
+const draw = (name) => pictures && picture(path.join(pictures, `${name}.png`));
 
 const LEGACY = "f86780862d79883d2000825208945df9b87991262f6ba471f09758cde1c0fc1de734827a69801ca088ff6cf0fefd94db46111149ae4bfc179e9b94721fffd821d38d16464b3f71d0a045e0aff800961cfce805daef7016b9b675c137a6a41a548f7b60a3484c06a33a";
 const TYPED = "02db0108843b9aca008504a817c800825208800600c080823333824444";
+// The header of a block, which is among the examples.
+let HEADER = "";
 const fields = () => ask(`Object.fromEntries([...document.querySelectorAll("#record tbody tr")].map((row) => [row.cells[0].textContent, [...row.cells[1].children].map((each) => each.textContent)]))`);
 const marked = () => ask(`[...document.querySelectorAll("#dump .wrong")].map((each) => Number(each.dataset.byte))`);
 const digits = (bytes) => Buffer.from(bytes).toString("hex");
+
+/** Does something, and checks that no task of the page was long. */
+async function busyAtMost(name, work) {
+  const { count, busy, long } = await longestTask(work);
+  console.log(`page: ${name}: of ${count} tasks the longest took ${busy.toFixed(0)} ms of a processor and ${long.toFixed(0)} of a clock`);
+  check(`${name}: tasks were seen`, count > 0, true);
+  check(`${name}: the longest task, ${busy} ms of at most ${MOST_BUSY}`, busy <= MOST_BUSY, true);
+}
+
+/** Inputs of 170 KB, of several kinds. */
+function large() {
+  const list = (...parts) => {
+    const payload = Buffer.concat(parts);
+    const length = Buffer.from(payload.length.toString(16).padStart(6, "0").replace(/^(00)+/, ""), "hex");
+    return Buffer.concat([payload.length < 56 ? Buffer.of(0xc0 + payload.length) : Buffer.concat([Buffer.of(0xf7 + length.length), length]), payload]);
+  };
+  const transactions = list(...Array(1640).fill(Buffer.from(LEGACY, "hex")));
+  const nested = Array(250).fill(0).reduce((inner) => list(inner), list());
+  return {
+    transactions,
+    "single bytes": list(Buffer.alloc(172_000, 5)),
+    "a fault at the end": list(Buffer.alloc(171_998, 5), Buffer.of(0x81, 0x05)),
+    "one long string": Buffer.concat([Buffer.of(0xba, 0x02, 0x9f, 0xe0), Buffer.alloc(172_000, "a")]),
+    "deep nesting": list(...Array(Math.floor(172_000 / nested.length)).fill(nested)),
+    "a block": list(Buffer.from(HEADER, "hex"), transactions, list()),
+  };
+}
+
+/** Scrolls through both panes in jumps, one in each frame. */
+async function scrollThrough() {
+  for (let at = 0; at < 20; at++) {
+    for (const box of ["dump", "tree"].map((id) => document.getElementById(id))) box.scrollTop = (box.scrollHeight * at) / 20;
+    await new Promise(requestAnimationFrame);
+  }
+}
+
+/** The texts that are seen whose contrast with what is behind them is below 4.5. */
+function faint() {
+  const paint = document.createElement("canvas").getContext("2d", { willReadFrequently: true });
+  // The colours of the layers from the lowest to the highest, as one.
+  const mixed = (colours) => {
+    paint.clearRect(0, 0, 1, 1);
+    for (const colour of colours) {
+      paint.fillStyle = colour;
+      paint.fillRect(0, 0, 1, 1);
+    }
+    return paint.getImageData(0, 0, 1, 1).data;
+  };
+  const light = (data) => [0.2126, 0.7152, 0.0722].reduce((sum, part, at) => sum + part * (data[at] <= 10 ? data[at] / 3294 : ((data[at] / 255 + 0.055) / 1.055) ** 2.4), 0);
+  const behind = (node) => (node ? [...behind(node.parentElement), getComputedStyle(node).backgroundColor] : ["Canvas"]);
+  const texts = [...document.querySelectorAll("body *")].filter((node) => node.checkVisibility() && [...node.childNodes].some((child) => child.nodeType === 3 && child.data.trim()));
+  const pairs = texts.map((node) => [node, getComputedStyle(node).color]);
+  for (const box of document.querySelectorAll("textarea")) pairs.push([box, getComputedStyle(box, "::placeholder").color], [box, getComputedStyle(box).color]);
+  const contrast = ([node, colour]) => {
+    const [low, high] = [light(mixed(behind(node))), light(mixed([...behind(node), colour]))].sort((one, other) => one - other);
+    return (high + 0.05) / (low + 0.05);
+  };
+  return pairs.filter((pair) => contrast(pair) < 4.5).map((pair) => `${pair[0].className} “${pair[0].textContent.slice(0, 20)}” ${contrast(pair).toFixed(2)}`);
+}
 
 const cases = {
   async "the page loads and asks for nothing"() {
@@ -133,8 +140,7 @@ const cases = {
   async "a spoiled transaction"() {
     check("hint", await give("input", LEGACY.replace("825208", "820008")), /^Canonical.*As a transaction it has a fault: RlpInvalidIndirection: .* in field 3, gasLimit, at byte 10/);
     check("not marked", await marked(), []);
-    await ask(`document.getElementById("kind").value = "transaction", document.getElementById("kind").dispatchEvent(new Event("change"))`);
-    check("verdict", await textOf("verdict"), /^Canonical.*No transaction: RlpInvalidIndirection: .* in field 3, gasLimit, at byte 10/);
+    check("verdict", await choose("kind", "transaction"), /^Canonical.*No transaction: RlpInvalidIndirection: .* in field 3, gasLimit, at byte 10/);
     check("marked", await marked(), [10]);
     await ask(`document.getElementById("kind").value = "guess"`);
   },
@@ -147,11 +153,10 @@ const cases = {
     check("bytes after it", await ask(`document.getElementById("input").value`), `0x${TYPED.replace("02db0108", "02db0109")}`);
   },
   async "a header"() {
-    await ask(`document.getElementById("example").value = "header of block 1", document.getElementById("example").dispatchEvent(new Event("change"))`);
+    check("verdict", await choose("example", "header of block 1"), /A block header, as since Frontier/);
     const found = await fields();
     check("fields", Object.keys(found).length, 15);
     check("number, timestamp", [found.number, found.timestamp], [["1", "0x1"], ["1438269988", "0x55ba4224"]]);
-    check("verdict", await textOf("verdict"), /A block header, as since Frontier/);
   },
   async "signing bytes"() {
     const eip155 = "ec098504a817c800825208943535353535353535353535353535353535353535880de0b6b3a764000080018080";
@@ -174,12 +179,13 @@ const cases = {
     check("key", found.secp256k1, ["0x03ca634cae0d49acb401d8a4c6b6fe8c55b70d115bf400769cc1400f3258cd3138"]);
     check("no base64", await give("input", "enr:-IS4*"), "The text behind “enr:” isn't base64 for addresses of the web.");
     check("keys out of order", await give("input", `f84bb840${"11".repeat(64)}018275640182696402`), /^Canonical: 77 bytes, a list of 6 items, 7 items in all, lists 1 deep\.$/);
-    await ask(`document.getElementById("kind").value = "node record", document.getElementById("kind").dispatchEvent(new Event("change"))`);
-    check("asked for", await textOf("verdict"), /No node record: it has a signature of 64 bytes, a number, and keys in order with their values\.$/);
+    check("asked for", await choose("kind", "node record"), /No node record: it has a signature of 64 bytes, a number, and keys in order with their values\.$/);
     await ask(`document.getElementById("kind").value = "guess"`);
   },
   async "a block and receipts"() {
-    const header = await ask(`(document.getElementById("example").value = "header of block 1", document.getElementById("example").dispatchEvent(new Event("change")), document.getElementById("input").value)`);
+    await choose("example", "header of block 1");
+    const header = await ask(`document.getElementById("input").value`);
+    HEADER = header;
     const listOf = (...parts) => {
       const payload = Buffer.concat(parts.map((part) => Buffer.from(part, "hex")));
       return Buffer.concat([Buffer.of(0xf9, payload.length >> 8, payload.length & 255), payload]).toString("hex");
@@ -189,36 +195,33 @@ const cases = {
     check("its parts", await fields(), { header: ["block 1, as since Frontier"], transactions: ["3 entries"], ommers: ["0 entries"] });
     check("names in it", await ask(`[...document.querySelectorAll("#tree .what:not(.kind)")].slice(0, 4).map((each) => each.textContent)`), ["list of 3 items", "header", "parentHash", "ommersHash"]);
     await ask(`document.getElementById("tree").scrollTop = 24 * 19`);
-    await pause(100);
-    check("and in a transaction", await ask(`[...document.querySelectorAll("#tree .what:not(.kind)")].some((each) => each.textContent === "gasPrice")`), true);
+    await see("and in a transaction", `[...document.querySelectorAll("#tree .what:not(.kind)")].some((each) => each.textContent === "gasPrice")`, true);
     check("no block", await give("input", listOf(header, "c0")), /^Canonical: 536 bytes, a list of 2 items, 18 items in all, lists 2 deep\.$/);
     const log = `f83a94${"11".repeat(20)}e1a0${"22".repeat(32)}820102`;
     const receipt = listOf("01", "825208", `b90100${"00".repeat(256)}`, `f83c${log}`);
     check("receipt", await give("input", receipt), /^Canonical: 328 bytes, a list of 4 items, 10 items in all, lists 4 deep\. A receipt, by its shape\.$/);
     const found = await fields();
     check("its fields", [found.status, found.cumulativeGasUsed, found.logs], [["1", "0x1"], ["21000", "0x5208"], [`1 entry: [ [ "0x${"11".repeat(20)}", [ "0x${"22".repeat(32)}" ], "0x0102" ] ]`]]);
+    check("names in a log", await ask(`["n6", "n7", "n9"].map((id) => document.querySelector("#" + id + " .what").textContent)`), ["address", "topics", "data"]);
     check("typed receipt", await give("input", `02${receipt}`), /^Canonical: 329 bytes, a list of 4 items, .* A receipt, by its shape\.$/);
   },
   async "a link"() {
     await give("input", TYPED);
     check("offered", await ask(`document.getElementById("link").disabled`), false);
     await ask(`document.getElementById("link").click()`);
-    await pause(100);
+    await seeText("told", "link-note", /behind its #, which is sent to nobody\.$/);
     check("the address", await ask("location.hash"), `#0x${TYPED}`);
-    check("told", await textOf("link-note"), /behind its #, which is sent to nobody\.$/);
     await give("input", "");
     check("not offered", await ask(`document.getElementById("link").disabled`), true);
     await ask(`location.hash = "0x${LEGACY}"`);
-    await pause(200);
-    check("followed", await textOf("verdict"), /A legacy transaction\.$/);
-    await send("Page.navigate", { url: "about:blank" });
-    await send("Page.navigate", { url: `${pathToFileURL(page).href}#${TYPED}` });
-    await pause(1000);
-    check("opened", [await textOf("verdict"), await ask(`document.getElementById("input").value`)], [await textOf("verdict"), TYPED]);
-    check("read", await textOf("verdict"), /An EIP-1559 transaction\.$/);
+    await seeText("followed", "verdict", /A legacy transaction\.$/);
+    await goTo(`${pathToFileURL(page).href}#${TYPED}`, LOADED);
+    await seeText("read", "verdict", /An EIP-1559 transaction\.$/);
+    check("opened", await ask(`document.getElementById("input").value`), TYPED);
     await ask(`location.hash = "<img src=x onerror=alert(1)>"`);
-    await pause(200);
-    check("hostile", await textOf("verdict"), "There is no hexadecimal digit at digit 1, but “<”.");
+    await seeText("hostile", "verdict", "There is no hexadecimal digit at digit 1, but “<”.");
+    await ask(`location.hash = "%zz"`);
+    await seeText("a sign of percent", "verdict", "There is no hexadecimal digit at digit 1, but “%”.");
   },
   async "faults at their bytes"() {
     check("needless header", await give("input", "cd83646f6783676f648105c20102"), /^Not canonical. RlpInvalidIndirection: .*at byte 9\./);
@@ -256,30 +259,30 @@ const cases = {
   async "mouse"() {
     await give("input", LEGACY);
     await over("#b20");
-    check("item of a byte", await ask(`document.querySelector("#tree .on").id`), "n4");
-    check("in words", await textOf("place"), "Byte 20, 0x2f: payload of a string of 20 bytes, to, at 13, header 1, payload 20.");
+    await see("item of a byte", `document.querySelector("#tree .on")?.id`, "n4");
+    await seeText("in words", "place", "Byte 20, 0x2f: payload of a string of 20 bytes, to, at 13, header 1, payload 20.");
     await over("#n2 .what");
-    check("bytes of an item", await ask(`[...document.querySelectorAll("#dump .b.on")].map((each) => Number(each.dataset.byte))`), [3, 4, 5, 6, 7, 8, 9]);
+    await see("bytes of an item", `[...document.querySelectorAll("#dump .b.on")].map((each) => Number(each.dataset.byte))`, [3, 4, 5, 6, 7, 8, 9]);
     await over("#record tbody tr:nth-child(5)");
-    check("a field", await ask(`document.querySelector("#tree .on").id`), "n5");
+    await see("a field", `document.querySelector("#tree .on")?.id`, "n5");
   },
   async "keyboard"() {
     await give("input", LEGACY);
     await ask(`document.getElementById("dump").focus()`);
     for (let count = 0; count < 4; count++) await key("ArrowRight");
-    check("byte", await ask(`document.getElementById("dump").getAttribute("aria-activedescendant")`), "b4");
-    check("its item", await ask(`document.querySelector("#tree .on").id`), "n2");
+    await see("byte", `document.getElementById("dump").getAttribute("aria-activedescendant")`, "b4");
+    await see("its item", `document.querySelector("#tree .on")?.id`, "n2");
     await key("Tab");
-    check("the tree is next", await ask(`document.activeElement.id`), "tree");
+    await see("the tree is next", `document.activeElement.id`, "tree");
     await key("ArrowDown");
-    check("item", await ask(`document.getElementById("tree").getAttribute("aria-activedescendant")`), "n3");
+    await see("item", `document.getElementById("tree").getAttribute("aria-activedescendant")`, "n3");
     await key("ArrowLeft");
     await key("ArrowLeft");
-    check("closed", await ask(`[document.getElementById("n0").getAttribute("aria-expanded"), document.querySelectorAll("#tree .node").length]`), ["false", 1]);
+    await see("closed", `[document.getElementById("n0").getAttribute("aria-expanded"), document.querySelectorAll("#tree .node").length]`, ["false", 1]);
     await key("ArrowRight");
-    check("open", await ask(`document.querySelectorAll("#tree .node").length`), 10);
+    await see("open", `document.querySelectorAll("#tree .node").length`, 10);
     await key("Tab");
-    check("the fields are next", await ask(`document.activeElement.textContent`), "nonce");
+    await see("the fields are next", `document.activeElement.textContent`, "nonce");
   },
   async "hostile text"() {
     const hostile = `<img src=x onerror="alert(1)"><script>alert(2)</script>`;
@@ -307,81 +310,122 @@ const cases = {
     const { root } = await send("DOM.getDocument");
     const { nodeId } = await send("DOM.querySelector", { nodeId: root.nodeId, selector: "#file" });
     await send("DOM.setFileInputFiles", { nodeId, files: [binary] });
-    await pause(200);
-    check("bytes", [await textOf("verdict"), await textOf("input-note")], ["Canonical: 9 bytes, a list of 2 items, 3 items in all, lists 1 deep.", "The file “a<b>.bin”, read as bytes: 9 bytes."]);
+    await see("bytes", `["verdict", "input-note"].map((id) => document.getElementById(id).textContent)`, ["Canonical: 9 bytes, a list of 2 items, 3 items in all, lists 1 deep.", "The file “a<b>.bin”, read as bytes: 9 bytes."]);
     const text = path.join(folder, "b.txt");
     fs.writeFileSync(text, "0xc88363617483\n646f67\n");
     await send("DOM.setFileInputFiles", { nodeId, files: [text] });
-    await pause(200);
-    check("digits", await textOf("input-note"), "The file “b.txt”, read as hexadecimal digits: 9 bytes.");
+    await seeText("digits", "input-note", "The file “b.txt”, read as hexadecimal digits: 9 bytes.");
     await call(() => {
       const dataTransfer = new DataTransfer();
       dataTransfer.items.add(new File([Uint8Array.of(0xc1, 0x80)], "dropped.rlp"));
       document.dispatchEvent(new DragEvent("drop", { dataTransfer, bubbles: true, cancelable: true }));
     });
-    await pause(200);
-    check("dropped", await textOf("input-note"), "The file “dropped.rlp”, read as bytes: 2 bytes.");
+    await seeText("dropped", "input-note", "The file “dropped.rlp”, read as bytes: 2 bytes.");
     await call(() => {
       const dataTransfer = new DataTransfer();
       dataTransfer.items.add(new File([new Uint8Array(5 << 20)], "large.rlp"));
       document.dispatchEvent(new DragEvent("drop", { dataTransfer, bubbles: true, cancelable: true }));
     });
-    await pause(400);
-    check("too large", await textOf("verdict"), "There are 5,242,880 bytes. This page reads up to 4,194,304.");
+    await seeText("too large", "verdict", "There are 5,242,880 bytes. This page reads up to 4,194,304.");
   },
   async "170 KB"() {
-    const item = Buffer.from(`f86780862d79883d2000825208945df9b87991262f6ba471f09758cde1c0fc1de734827a69801ca088ff6cf0fefd94db46111149ae4bfc179e9b94721fffd821d38d16464b3f71d0a045e0aff800961cfce805daef7016b9b675c137a6a41a548f7b60a3484c06a33a`, "hex");
-    const list = (payload) => Buffer.concat([Buffer.of(0xfa, payload.length >> 16, (payload.length >> 8) & 255, payload.length & 255), payload]);
-    const given = { "transactions": list(Buffer.concat(Array(1640).fill(item))), "single bytes": list(Buffer.alloc(172_000, 5)), "a fault at the end": list(Buffer.concat([Buffer.alloc(171_998, 5), Buffer.of(0x81, 0x05)])) };
-    for (const [name, bytes] of Object.entries(given)) {
-      const times = await call(async (text) => {
-        const box = document.getElementById("input");
-        let longest = 0;
-        const watch = new PerformanceObserver((seen) => seen.getEntries().forEach(({ duration }) => (longest = Math.max(longest, duration))));
-        watch.observe({ entryTypes: ["longtask"] });
-        const data = new DataTransfer();
-        data.setData("text/plain", text);
-        const began = performance.now();
-        box.dispatchEvent(new ClipboardEvent("paste", { clipboardData: data, cancelable: true }));
-        const shown = performance.now() - began;
-        await new Promise((resolve) => setTimeout(resolve, 300));
-        const nodes = document.querySelectorAll("*").length;
-        const dump = document.getElementById("dump");
-        const scrolled = performance.now();
-        for (let at = 0; at < 20; at++) {
-          dump.scrollTop = (dump.scrollHeight * at) / 20;
-          document.getElementById("tree").scrollTop = (document.getElementById("tree").scrollHeight * at) / 20;
-          await new Promise(requestAnimationFrame);
-        }
-        return { shown: Math.round(shown), longest: Math.round(longest), nodes, scroll: Math.round((performance.now() - scrolled) / 20) };
-      }, digits(bytes));
-      console.log(`170 KB, ${name}:`, JSON.stringify(times), (await textOf("verdict")).slice(0, 160));
-      check(`${name}: shown in a second`, times.shown < 1000, true);
-      check(`${name}: no long stall`, times.longest < 400, true);
-      check(`${name}: few nodes`, times.nodes < 3000, true);
+    for (const [name, bytes] of Object.entries(large())) {
+      await hold(digits(bytes));
+      await busyAtMost(name, async () => {
+        await paste();
+        check(`${name}: verdict`, await told(), /^(Canonical|Not canonical)/);
+        await call(scrollThrough);
+      });
+      const nodes = await ask(`document.querySelectorAll("*").length`);
+      check(`${name}: few nodes, ${nodes}`, nodes < 3000, true);
     }
-    check("no JSON unasked", await ask(`[document.getElementById("json").value, document.getElementById("json-fill").hidden]`), ["", true]);
-    check("the last byte", await ask(`(document.getElementById("dump").scrollTop = 1e9, new Promise((resolve) => setTimeout(() => resolve([...document.querySelectorAll("#dump .b")].at(-1).id), 100)))`), "b172003");
+  },
+  async "the JSON of 170 KB"() {
+    const { transactions } = large();
+    const strings = ["", "2d79883d2000", "5208", "5df9b87991262f6ba471f09758cde1c0fc1de734", "7a69", "", "1c", "88ff6cf0fefd94db46111149ae4bfc179e9b94721fffd821d38d16464b3f71d0", "45e0aff800961cfce805daef7016b9b675c137a6a41a548f7b60a3484c06a33a"];
+    const json = JSON.stringify(Array(1640).fill(strings.map((each) => `0x${each}`)), null, 1);
+    await hold(digits(transactions));
+    await paste();
+    await told();
+    check("no JSON unasked", await ask(`[document.getElementById("json").value, document.getElementById("json-save").hidden]`), ["", false]);
+    await send("Page.setDownloadBehavior", { behavior: "allow", downloadPath: folder });
+    const saved = path.join(folder, "item.json");
+    await busyAtMost("saved", async () => {
+      await ask(`setTimeout(() => document.getElementById("json-save").click()), 0`);
+      await awaited(() => fs.existsSync(saved) && fs.statSync(saved).size, (found) => found === json.length);
+    });
+    check("as it is written elsewhere", fs.readFileSync(saved, "utf8") === json, true);
+    await hold(json.replaceAll("\n", " ").replaceAll('"', '\\"'));
+    await busyAtMost("pasted JSON", async () => {
+      await paste("json");
+      check("the bytes back", await told(), /^Canonical: 172,204 bytes, a list of 1,640 items/);
+    });
+    check("with no text in a box", await ask(`["input", "json"].map((id) => document.getElementById(id).value)`), ["", ""]);
+  },
+  async "the last byte"() {
+    await hold(digits(large()["single bytes"]));
+    await paste();
+    await told();
+    await ask(`document.getElementById("dump").scrollTop = 1e9`);
+    await see("is shown", `[...document.querySelectorAll("#dump .b")].at(-1).id`, "b172003");
+    for (const [id, first, end] of [["dump", "b0", "b172003"], ["tree", "n0", "n172000"]]) {
+      await ask(`document.getElementById("${id}").focus()`);
+      for (const [name, wanted] of [["Home", first], ["End", end]]) {
+        await key(name);
+        await see(`${name} in the ${id}`, `document.getElementById("${id}").getAttribute("aria-activedescendant")`, wanted);
+      }
+    }
+    await key("Home");
+    await key("ArrowLeft");
+    await see("the list closed", `[document.querySelectorAll("#tree .node").length, document.getElementById("tree").scrollTop]`, [1, 0]);
+  },
+  async "scrolled while it is read"() {
+    await hold(digits(large()["single bytes"]));
+    await paste();
+    await call(async () => {
+      for (let at = 0; document.getElementById("verdict").textContent === ""; at++) {
+        for (const id of ["dump", "tree"]) document.getElementById(id).scrollTop = at % 2 ? 99_999 : 0;
+        await new Promise((resolve) => setTimeout(resolve));
+      }
+      for (const id of ["dump", "tree"]) document.getElementById(id).scrollTop = 99_999;
+    });
+    // 99,999 pixels are 4,545 lines of 16 bytes, and 4,166 items.
+    for (const [box, id] of [["dump", "b72720"], ["tree", "n4166"]]) await see(`the ${box}`, `document.querySelector("#${box} #${id}")?.id`, id);
+    const nodes = await ask(`document.querySelectorAll("*").length`);
+    check(`few nodes, ${nodes}`, nodes < 3000, true);
+  },
+  async "one input after the other"() {
+    await hold(digits(large().transactions));
+    await paste();
+    for (const id of ["dump", "tree"]) await ask(`document.getElementById("${id}").scrollTop = 99`);
+    check("the last one counts", await choose("example", "lists in lists"), /^Canonical: 13 bytes/);
+    await ask("new Promise((resolve) => setTimeout(resolve, 300))");
+    check("and stays", await textOf("verdict"), /^Canonical: 13 bytes/);
+    check("its items", await ask(`document.querySelectorAll("#tree .node").length`), 7);
   },
   async "widths and schemes"() {
-    await ask(`document.getElementById("example").value = "transaction of EIP-7702", document.getElementById("example").dispatchEvent(new Event("change"))`);
+    await choose("example", "transaction of EIP-7702");
     for (const [width, wanted] of [[1280, 16], [390, 8]]) {
       await size(width);
-      await pause(250);
+      await see(`${width} px: bytes of a line`, `document.querySelector("#dump .line").querySelectorAll(".b").length`, wanted);
       check(`${width} px: no scrolling to the side`, await ask("document.scrollingElement.scrollWidth <= document.scrollingElement.clientWidth"), true);
-      check(`${width} px: bytes of a line`, await ask(`document.querySelector("#dump .line").querySelectorAll(".b").length`), wanted);
       check(`${width} px: the dump fits`, await ask(`document.getElementById("dump").scrollWidth - document.getElementById("dump").clientWidth`), 0);
       for (const value of ["light", "dark"]) {
         await scheme(value);
-        await pause(100);
-        await picture(`${width}-${value}`);
+        await see(value, "getComputedStyle(document.body).backgroundColor", value === "dark" ? "rgb(22, 24, 27)" : "rgb(255, 255, 255)");
+        check(`${width} px, ${value}: contrast`, await call(faint), []);
+        await draw(`${width}-${value}`);
       }
-      check("dark", await ask("getComputedStyle(document.body).backgroundColor"), "rgb(22, 24, 27)");
       await scheme("light");
     }
     await size(1280);
     await give("input", "cd83646f6783676f648105c20102");
-    await picture("1280-fault");
+    for (const value of ["light", "dark"]) {
+      await scheme(value);
+      check(`a fault, ${value}: contrast`, await call(faint), []);
+      await draw(`1280-fault-${value}`);
+    }
+    await scheme("light");
   },
   async "the package in a browser"() {
     const types = { ".js": "text/javascript", ".wasm": "application/wasm" };
@@ -392,8 +436,7 @@ const cases = {
     });
     await new Promise((resolve) => server.listen(0, "127.0.0.1", resolve));
     const before = requests.length;
-    await send("Page.navigate", { url: `http://127.0.0.1:${server.address().port}/empty.html` });
-    await pause(500);
+    await goTo(`http://127.0.0.1:${server.address().port}/empty.html`, true);
     for (const name of ["browser", "embedded"]) {
       const found = await call(async (from) => {
         const { encode, decode, flatten, toHex, transaction } = await import(`/src/${from}.js`);
@@ -428,28 +471,22 @@ const cases = {
 };
 
 try {
-  const { targetInfos } = await send("Target.getTargets");
-  const { targetId } = targetInfos.find(({ type }) => type === "page");
-  ({ sessionId: session } = await send("Target.attachToTarget", { targetId, flatten: true }));
-  for (const domain of ["Page", "Runtime", "Network", "DOM"]) await send(`${domain}.enable`);
+  await attach();
   await size(1280);
-  await send("Page.navigate", { url: pathToFileURL(page).href });
-  await pause(1500);
+  await goTo(pathToFileURL(page).href, LOADED);
   for (const [name, run] of Object.entries(cases)) {
-    const before = failed;
+    const { failed } = state;
+    state.running = name;
     try {
       await run();
     } catch (error) {
-      failed++;
+      state.failed++;
       console.log(error.stack);
     }
-    console.log(`page: ${name}: ${failed === before ? "passed" : "FAILED"}`);
+    console.log(`page: ${name}: ${failed === state.failed ? "passed" : "FAILED"}`);
   }
 } finally {
-  session = undefined;
-  await send("Browser.close").catch(() => {});
-  await pause(300);
-  fs.rmSync(folder, { recursive: true, force: true });
+  await close();
 }
-console.log(`${passed} passed, ${failed} failed`);
-process.exit(failed || !passed ? 1 : 0);
+console.log(`${state.passed} passed, ${state.failed} failed`);
+process.exit(state.failed || !state.passed ? 1 : 0);

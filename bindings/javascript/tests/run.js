@@ -309,12 +309,22 @@ function testSteps() {
   const steps = rlp.inspectInSteps(data);
   let step;
   for (step = steps.next(); !step.done; step = steps.next()) count++;
-  check("steps", [count, step.value.rows.length, step.value.fault.name, step.value.fault.place], [2, 40_001, "RlpInvalidIndirection", 40_003]);
+  check("steps", [count, step.value.rows.length, step.value.fault.name, step.value.fault.place], [11, 40_001, "RlpInvalidIndirection", 40_003]);
   check("the same at once", [...rlp.inspect(data).rows], [...step.value.rows]);
   const ended = rlp.inspectInSteps(data);
   ended.next();
   rlp.isCanonical("0x80");
   check("steps after another call", thrown(() => ended.next()), "Error");
+  const value = Array.from({ length: 10_000 }, (_, at) => (at % 2 ? [at, [], "text"] : at));
+  const given = [];
+  const encoding = rlp.encodeInSteps(value);
+  for (step = encoding.next(); !step.done; step = encoding.next()) {
+    given.push(step.value);
+    rlp.isCanonical("0x80");
+  }
+  check("steps of encode", [given.length, given.at(-1), given.every((count, at) => at === 0 || count > given[at - 1])], [9, 25_001, true]);
+  check("what they give", step.value, rlp.encode(value));
+  check("a fault in a step", thrown(() => [...rlp.encodeInSteps([1, [true]])]), "TypeError");
 }
 
 function testValues() {
@@ -353,6 +363,33 @@ function testValues() {
   })();
   check("an error's parts", [error.name, error.status, error.field, error.fieldName, error.place, error instanceof Error], ["RlpIncorrectListLen", 5, 10, undefined, 11, true]);
   check("the embedded module", rlp.toHex(embedded.encode(["cat"])), "0xc483636174");
+}
+
+/** Long strings, of which the header alone is looked at, and bytes of Node's class. */
+function testLongStrings() {
+  for (const length of [56, 255, 256, 65_536, 1 << 20]) {
+    const string = new Uint8Array(length).fill(length);
+    const data = plain.encode(string);
+    const value = rlp.decode(data);
+    check(`a string of ${length} bytes`, [value, rlp.isCanonical(data)], [string, true]);
+    check("one byte less", [thrown(rlp.decode, data.subarray(0, -1)), rlp.isCanonical(data.subarray(0, -1))], ["RlpIsTooShort", false]);
+    const more = plain.joined([data, Uint8Array.of(1, 2)]);
+    check("two bytes more", [thrown(rlp.decode, more), rlp.isCanonical(more), rlp.decode(more, true)], ["RlpIsTooBig", false, { data: string, remainder: Uint8Array.of(1, 2) }]);
+    check("its header", rlp.header(more), { offset: 0, headerLength: data.length - length, payloadLength: length, depth: 0, isList: false });
+    value.fill(1);
+    check("it is a copy", data[data.length - 1], length & 255);
+  }
+  check("its depth", thrown(rlp.decode, plain.encode(new Uint8Array(60)), { maxDepth: -1 }), "RangeError");
+  check("a needless length", thrown(rlp.decode, `0xb837${"00".repeat(55)}`), "RlpInvalidIndirection");
+  const data = plain.encode(new Uint8Array(64 << 20));
+  rlp.header(data);
+  const began = process.cpuUsage();
+  for (let count = 0; count < 100; count++) rlp.header(data);
+  const { user, system } = process.cpuUsage(began);
+  checkThat("a header of 64 MiB is read without copying them", user + system < 200_000);
+  const given = Buffer.from("c28105ff", "hex").subarray(2);
+  for (const found of [rlp.decode(given, true).remainder, rlp.decode(given, true).data]) check("no Buffer is given", found.constructor, Uint8Array);
+  check("nor among fields", rlp.transaction(Buffer.from("c9808080808003808080", "hex")).fields.data.constructor, Uint8Array);
 }
 
 /** Memory: growth, rows that another call took, bytes that lie in the memory itself, and calls beyond count. */
@@ -399,7 +436,7 @@ async function testMemory() {
 }
 
 const began = Date.now();
-for (const test of [testVectors, testRecords, testNames, testValues, testTree, testSteps, testRandom, testSpoiledRecords, testStatuses, testMemory]) {
+for (const test of [testVectors, testRecords, testNames, testValues, testTree, testSteps, testLongStrings, testRandom, testSpoiledRecords, testStatuses, testMemory]) {
   await test();
   console.log(`${test.name}: ${((Date.now() - began) / 1000).toFixed(1)} s`);
 }

@@ -1,5 +1,5 @@
 // What the declarations have to allow and to refuse. It is compiled, not run.
-import { decode, encode, flatten, headerFields, inspectInSteps, load, transaction, tree, RLP, RlpError, type Decoded, type Input, type Tree } from "../src/index.js";
+import { decode, encode, encodeInSteps, flatten, headerFields, inspectInSteps, load, transaction, tree, RLP, RlpError, type Decoded, type Input, type Tree } from "../src/index.js";
 
 const value: Input = ["cat", ["dog", ""], 1000, 5n, new Uint8Array(2), null];
 const bytes: Uint8Array = encode(value);
@@ -19,6 +19,8 @@ const item: Tree | undefined = tree(bytes).at(-1);
 const strings: Uint8Array[] = Array.from(tree(bytes), (each) => each.bytes);
 // @ts-expect-error: there may be no such item
 item.bytes;
+const written = encodeInSteps(value).next();
+const whole: Uint8Array | number = written.value;
 const steps = inspectInSteps(bytes).next();
 if (steps.done) void steps.value.fault?.place;
 // @ts-expect-error: a value with no encoding

@@ -16,10 +16,22 @@ pub use Rattle.rlp_codec.specs.Form
 pub use Rattle.rlp_codec.specs.Sums
 -- the laws of codecs
 pub use Rattle.rlp_codec.specs.Laws
--- the codec of a custom type, from those of its fields, with its laws
-pub mod Codec
 -- what a reader of items has left
 pub mod Left
+-- the codec of a custom type, from those of its fields, with its laws
+pub mod Codec
+-- the proofs of the laws, and what follows from them; readers of definitions don't need them
+pub use Rattle.rlp_codec.proofs.StringLaws
+pub use Rattle.rlp_codec.proofs.ListLaws
+pub use Rattle.rlp_codec.proofs.FieldLaws
+pub use Rattle.rlp_codec.proofs.GroupLaws
+pub use Rattle.rlp_codec.proofs.StructLaws
+pub use Rattle.rlp_codec.proofs.SumLaws
+pub use Rattle.rlp_codec.proofs.RawLaws
+pub use Rattle.rlp_codec.proofs.EachField
+pub use Rattle.rlp_codec.proofs.Places
+pub use Rattle.rlp_codec.proofs.Readings
+pub use Rattle.rlp_codec.proofs.Corollaries
 -- the faults of decoding
 pub use Rattle.rlp_values.specs.declared.error.DecoderError
 -- the lengths that a header announces

@@ -1,13 +1,20 @@
 //! Laws over the definitions, as public functions. Each contract is the law, and a body that calls
 //! the function may use it. Most of these functions do nothing. Those that return a `Result` make a
-//! call and return its result, which the law is about. `struct_is_read` counts items, and `raw_item_is_read` frames one.
+//! call and return its result, which the law is about.
 
 mod described;
+mod reading;
 mod round_trip;
+mod strict;
 mod uints;
 mod views;
 
 pub use described::{finished_buffers_tell_items, stream_joins_what_is_described};
+pub use reading::{
+    arrays_are_read, bool_is_read, bytes_are_read, encodings_are_raw_items, field_is_read,
+    number_is_read, one_reading, option_is_read, option_of_bytes_is_read, option_of_option_is_read,
+    options_are_read, raw_item_is_read, string_is_read, struct_is_read, text_is_read,
+};
 pub use rlp_values::laws::{
     cuts_begin_one_another, digits_are_canonical, encoding_has_its_depth,
     encoding_in_front_is_unique, encoding_is_framed, encoding_is_prefix_free, frame_is_of_framed,
@@ -24,7 +31,11 @@ pub use rlp_write::laws::{
 };
 pub use round_trip::{
     encoding_is_decoded, encoding_is_read_back, list_is_decoded, list_is_read_back,
-    scalar_is_decoded,
+    scalar_is_decoded, scalar_is_read,
+};
+pub use strict::{
+    lenient_views_ignore_what_follows, strict_fault_is_read, strict_option_is_read,
+    strict_values_are_read, whole_encoding_is_read,
 };
 pub use uints::{equal_numbers_are_equal_uints, uints_compare_as_numbers};
 pub use views::{

@@ -29,10 +29,8 @@ impl<T: Decodable> Decodable for ListField<T> {
     ghost reading = { list_reading (λ l. vec_items l.0) T.reading };
 
     fn decode(alloc: Global, rlp: &Rlp<'_>) -> Result<ListField<T>, DecoderError> {
-        match rlp.as_list(alloc) {
-            Ok(values) => Ok(ListField(values)),
-            Err(fault) => Err(fault),
-        }
+        let values = rlp.as_list(alloc)?;
+        Ok(ListField(values))
     }
 }
 
@@ -109,13 +107,9 @@ impl<T: Decodable, Q: DecodeFields> DecodeFields for (T, Q) {
         let Some(item) = fields.next() else {
             return Err(DecoderError::RlpIncorrectListLen);
         };
-        match T::decode(alloc, &item) {
-            Ok(value) => match Q::decode_fields(alloc, fields) {
-                Ok(others) => Ok((value, others)),
-                Err(fault) => Err(fault),
-            },
-            Err(fault) => Err(fault),
-        }
+        let value = T::decode(alloc, &item)?;
+        let others = Q::decode_fields(alloc, fields)?;
+        Ok((value, others))
     }
 }
 

@@ -22,3 +22,5 @@ pub mod Places
 pub mod KindLaws
 -- types that are read from the whole first item of a view
 pub mod FirstItemLaws
+-- each view gives one value or has one fault
+pub mod Readings

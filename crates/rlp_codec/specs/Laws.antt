@@ -1,11 +1,13 @@
 -- What codecs promise.
-use Rattle.std.specs.Prelude.{ℕ, ◌≡◌, ◌^◌, ◌<◌, Bool, true, false, List, [], ◌++◌, length, map, Ok}
+use Rattle.std.specs.Prelude.{ℕ, ◌≡◌, ◌^◌, ◌<◌, ◌⊎◌, Bool, true, false, List, [], ◌++◌, length, map, Ok}
 use Rattle.std.specs.List.{AllByRecursion}
 use Rattle.rlp_format.specs.Format.Item.{Item}
 use Rattle.rlp_format.specs.Format.WrittenHeader.{AreBytes}
 use Rattle.rlp_format.specs.Format.Encoding.{IsSized, encoding}
 use Rattle.rlp_values.specs.Views.View.{View, Holds, strict_view_of}
-use Rattle.rlp_codec.specs.Form.{Form, FieldsForm, FieldsReading, Reading}
+use Rattle.rlp_values.specs.declared.error.DecoderError.{DecoderError}
+use Rattle.rlp_values.specs.Values.ValueReading.{IsSameFault}
+use Rattle.rlp_codec.specs.Form.{Faults, Form, FieldsForm, FieldsReading, Gives, Reading}
 use Rattle.rlp_codec.specs.Sums.{CasesForm}
 
 -- The view of the bytes, strict or lenient as `is_strict` says.
@@ -46,6 +48,13 @@ pub record IsLawful {A : Type 0} (c : Form A) : Type 0 where
 pub record IsReadBack {A : Type 0} (c : Form A) : Type 0 where
   pub told : IsSeen c
   pub back : ReadsBack false c
+
+-- A view has one answer: it gives one value, as contracts see it, or has one fault, and not both.
+pub record HasOneAnswer {A : Type 0} (r : Reading A) (v : View) : Type 0 where
+  pub some : ((m : r.M) × ((r.read v).result ≡ Ok m)) ⊎ ((e : DecoderError) × Faults r v e)
+  pub one_value : (x y : A) → Gives r v x → Gives r v y → r.seen x ≡ r.seen y
+  pub one_fault : (e f : DecoderError) → Faults r v e → Faults r v f → IsSameFault e f
+  pub not_both : (x : A) (e : DecoderError) → Gives r v x → ¬ Faults r v e
 
 -- The codec with the members of the traits of a type.
 abbrev pub form_of : {A : Type 0} → (A → Type 0) → (A → Item) → Reading A → Form A

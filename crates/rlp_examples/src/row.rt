@@ -119,11 +119,7 @@ impl Encodable for Row {
 }
 
 impl Decodable for Row {
-    ghost gives = { row.gives };
-
-    ghost faults = { row.faults };
-
-    ghost may_lack_memory = { row.may_lack };
+    ghost reading = { row.reading };
 
     fn decode(alloc: Global, rlp: &Rlp<'_>) -> Result<Row, DecoderError> {
         rlp::decode_fields!(

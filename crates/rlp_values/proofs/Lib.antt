@@ -8,7 +8,5 @@ pub mod Views
 pub mod Trees
 -- values, and which bytes give them
 pub mod Values
--- for authors of types: the rules for a body that reads one string
-pub mod OneString
 -- headers and strings, by the first byte
 mod FirstBytes

@@ -22,8 +22,6 @@ pub mod StringsHeld
 pub mod Numbers
 -- one value or one fault of a type that is read from one string
 pub mod OneReading
--- encodings that are read back
-pub mod RoundTrips
 -- the items of a view by number
 pub mod Numbered
 -- bytes that are exactly one item
@@ -34,20 +32,10 @@ pub mod Slices
 pub mod WholeLists
 -- encodings of lists that are read back
 pub mod ListRoundTrips
--- lists of values that are read back
-pub mod ValueLists
--- structs that are read back, and the rules for bodies that read them
-pub mod Structs
 -- values that are read strictly
 pub mod StrictReads
 -- lists of values that are read strictly
 pub mod StrictLists
--- structs that are read strictly
-pub mod StrictStructs
--- a field and those after it
-pub mod Fields
--- types whose values a view gives if and only if it holds their encodings
-pub mod ExactReads
 -- text and depth, by those of the items
 pub mod Texts
 -- the depth of an item's bytes
@@ -60,11 +48,3 @@ pub mod Sums
 pub mod Groups
 -- values with equal items: they agree
 pub mod Told
--- whole structs, read back and read strictly
-pub mod WholeStructs
--- fields that may be missing together
-pub mod OptionalGroups
--- fields of a part of a value before others
-pub mod Parts
--- lists of a tag and a payload
-pub mod Tagged

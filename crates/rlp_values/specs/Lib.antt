@@ -6,7 +6,3 @@ pub mod Views
 pub mod Values
 -- lemmas for the laws of traits and for authors of types; readers of definitions don't need them
 pub mod Lemmas
--- the codec of a custom type, from those of its fields
-pub mod Codec
--- codecs of raw items, and of types whose values are of several types
-pub mod Codecs

@@ -10,15 +10,9 @@ pub mod RoundTrip
 pub mod FaultText
 -- the place of a reader of fields
 pub mod FieldPlace
--- the fields of a struct: how many items they may be, what items give them, and why there are none
-pub mod FieldReading
--- fields of a part of a value, and others after them
-pub mod Parts
 -- one reading of a struct
 pub mod StructReading
 -- items that are kept as the bytes of their encodings
 pub mod RawItem
 -- values of several types, and why there is none
 pub mod Sums
--- when two values agree, by when their parts do
-pub mod Same

@@ -72,8 +72,11 @@ pub(crate) const OTHERS: &str = "
     lenient value Option u8:
     c5 | Ok(None)
     c0ff | Ok(None)
+    c182 | Ok(None)
     c20582 | Ok(Some(5))
+    c305b800 | Ok(Some(5))
     c20506 | Err(RlpIncorrectListLen)
+    c3810506 | Err(RlpIncorrectListLen)
     05 | Err(RlpExpectedToBeList)
     c100 | Err(RlpInvalidIndirection)
 

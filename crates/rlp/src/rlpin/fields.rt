@@ -61,10 +61,8 @@ impl<'a> Rlp<'a> {
             → item_at self.now i ≡ Err f.past) }
         ensures fault { IfErr result (λ e. items_fault self.now ≡ Some e) }
     {
-        match self.check_items() {
-            Ok(()) => Ok(Fields::over(self)),
-            Err(fault) => Err(fault),
-        }
+        self.check_items()?;
+        Ok(Fields::over(self))
     }
 
     /// The same as [`Rlp::fields`] for a list of `len` items. Fails with `RlpIncorrectListLen` if
@@ -78,15 +76,10 @@ impl<'a> Rlp<'a> {
         ensures fault { IfErr result (λ e. (item_count self.now ≡ Err e)
             ⊎ ((e ≡ RlpIncorrectListLen) × IsOkAnd (item_count self.now) (λ n. n ≢ len))) }
     {
-        match self.item_count() {
-            Ok(count) => {
-                if count != len {
-                    return Err(DecoderError::RlpIncorrectListLen);
-                }
-                Ok(Fields::over(self))
-            }
-            Err(fault) => Err(fault),
+        if self.item_count()? != len {
+            return Err(DecoderError::RlpIncorrectListLen);
         }
+        Ok(Fields::over(self))
     }
 }
 
@@ -123,15 +116,13 @@ impl<'a> Fields<'a> {
         ensures { MatchResult result (λ f. items_of rlp.now ≡ Ok f.views)
             (λ e. items_of rlp.now ≡ Err (fault_of e)) }
     {
-        match rlp.counted_items() {
-            Ok((items, count)) => Ok(Fields {
-                items: ItemReader::new(items),
-                strict: rlp.is_strict(),
-                left: count,
-                counted: true,
-            }),
-            Err(fault) => Err(fault),
-        }
+        let (items, count) = rlp.counted_items()?;
+        Ok(Fields {
+            items: ItemReader::new(items),
+            strict: rlp.is_strict(),
+            left: count,
+            counted: true,
+        })
     }
 
     /// A reader of the items of a view, or of no items if the view isn't a list.
@@ -193,10 +184,8 @@ impl<'a> Fields<'a> {
         ensures none { IfErr (next_item self.old) (λ e. result ≡ Err e) }
         ensures next { self.new ≡ after_next self.old }
     {
-        match self.next_view() {
-            Ok(item) => item.as_val(alloc),
-            Err(fault) => Err(fault),
-        }
+        let item = self.next_view()?;
+        item.as_val(alloc)
     }
 
     /// The values of the items of the next item, as [`Rlp::list_at`] reads them.
@@ -210,10 +199,8 @@ impl<'a> Fields<'a> {
         ensures none { IfErr (next_item self.old) (λ e. result ≡ Err e) }
         ensures next { self.new ≡ after_next self.old }
     {
-        match self.next_view() {
-            Ok(item) => item.as_list(alloc),
-            Err(fault) => Err(fault),
-        }
+        let item = self.next_view()?;
+        item.as_list(alloc)
     }
 
     /// Tests that all items were taken. Fails with `RlpIncorrectListLen` if one is left.

@@ -141,10 +141,8 @@ impl<'a> Rlp<'a> {
     pub fn item_count(&self) -> Result<usize, DecoderError>
         ensures { result ≡ item_count self.now }
     {
-        match self.counted_items() {
-            Ok((_, count)) => Ok(count),
-            Err(fault) => Err(fault),
-        }
+        let (_, count) = self.counted_items()?;
+        Ok(count)
     }
 
     /// The length of the string that the view begins with, or 0 if it begins with no framed string.
@@ -306,20 +304,11 @@ impl<'a> Rlp<'a> {
         ensures fault { IfErr result (λ e. Faults (list_reading (λ xs. xs) T.reading) self.now e
             ⊎ (e ≡ OutOfMemory)) }
     {
-        let mut items = match Fields::of_list(self) {
-            Ok(items) => items,
-            Err(fault) => return Err(fault),
-        };
+        let mut items = Fields::of_list(self)?;
         let mut values = Vec::new(alloc);
         while let Some(item) = items.next() {
-            let value = match T::decode(alloc, &item) {
-                Ok(value) => value,
-                Err(fault) => return Err(fault),
-            };
-            match values.push(value) {
-                Ok(()) => {}
-                Err(_) => return Err(DecoderError::OutOfMemory),
-            }
+            let value = T::decode(alloc, &item)?;
+            values.push(value)?;
         }
         Ok(values)
     }
@@ -333,10 +322,8 @@ impl<'a> Rlp<'a> {
             ⊎ ((e ≡ OutOfMemory) × IsTrue T.reading.takes_memory)) }
         ensures none { IfErr (item_at self.now index) (λ e. result ≡ Err e) }
     {
-        match self.at(index) {
-            Ok(item) => item.as_val(alloc),
-            Err(fault) => Err(fault),
-        }
+        let item = self.at(index)?;
+        item.as_val(alloc)
     }
 
     /// The values of the items of the item at `index`, counted from 0: [`Rlp::at`], and then
@@ -351,10 +338,8 @@ impl<'a> Rlp<'a> {
             ⊎ (e ≡ OutOfMemory)) }
         ensures none { IfErr (item_at self.now index) (λ e. result ≡ Err e) }
     {
-        match self.at(index) {
-            Ok(item) => item.as_list(alloc),
-            Err(fault) => Err(fault),
-        }
+        let item = self.at(index)?;
+        item.as_list(alloc)
     }
 
     /// A decoder of the view's bytes, of the same kind. A strict decoder fails with `RlpIsTooBig`

@@ -61,14 +61,8 @@ impl<G: FixedFields> DecodeFields for Groups<G> {
             if fields.is_empty() {
                 return Ok(Groups(groups));
             }
-            let group = match G::decode_fields(alloc, fields) {
-                Ok(group) => group,
-                Err(fault) => return Err(fault),
-            };
-            match groups.push(group) {
-                Ok(()) => {}
-                Err(_) => return Err(DecoderError::OutOfMemory),
-            }
+            let group = G::decode_fields(alloc, fields)?;
+            groups.push(group)?;
             turns -= 1;
         }
         Ok(Groups(groups))

@@ -26,10 +26,8 @@ impl<T: Decodable> DecodeFields for OptionalField<T> {
         let Some(item) = fields.next() else {
             return Ok(OptionalField(None));
         };
-        match T::decode(alloc, &item) {
-            Ok(value) => Ok(OptionalField(Some(value))),
-            Err(fault) => Err(fault),
-        }
+        let value = T::decode(alloc, &item)?;
+        Ok(OptionalField(Some(value)))
     }
 }
 
@@ -51,9 +49,7 @@ impl<S: DecodeFields> DecodeFields for OptionalGroup<S> {
         if fields.is_empty() {
             return Ok(OptionalGroup(None));
         }
-        match S::decode_fields(alloc, fields) {
-            Ok(values) => Ok(OptionalGroup(Some(values))),
-            Err(fault) => Err(fault),
-        }
+        let values = S::decode_fields(alloc, fields)?;
+        Ok(OptionalGroup(Some(values)))
     }
 }

@@ -11,8 +11,8 @@ use Rattle.rlp_format.specs.Format.Item.{Item, list_of}
 use Rattle.rlp_format.specs.Format.Encoding.{BeginsWith, IsSized, encoding}
 use Rattle.rlp_values.specs.Format.Header.{HasHeader, header, payload_info}
 use Rattle.rlp_values.specs.Format.Framing.{fault, framing}
-use Rattle.rlp_values.specs.Format.Split.{begins_as_list, items, rest}
-use Rattle.rlp_values.specs.Format.Strict.{strict_fault, strict_fault_in, strict_list_fault}
+use Rattle.rlp_values.specs.Format.Split.{begins_as_list}
+use Rattle.rlp_values.specs.Format.Strict.{strict_fault, strict_fault_in}
 use Rattle.rlp_values.specs.Views.View.{Holds, HoldsItem, View, item_at, item_count, item_views, items_fault, list_fault}
 use Rattle.rlp_format.specs.Lemmas.Encodings.{front_sized}
 use Rattle.rlp_values.specs.Lemmas.Frames.{encoding_item, framing_is, longer}

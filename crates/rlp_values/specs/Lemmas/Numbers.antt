@@ -6,9 +6,7 @@ use Rattle.std.specs.Int.Digits.{number_from_digits}
 use Rattle.rlp_format.specs.Format.WrittenHeader.{big_endian, AreBytes}
 use Rattle.rlp_format.specs.Values.Value.{FitsBytes}
 use Rattle.rlp_values.specs.declared.error.DecoderError.TheVariants.{RlpInvalidIndirection}
-use Rattle.rlp_values.specs.Values.ValueReading.{IsDigitsFault, too_long, leading_zero, GivesNumber, FaultsAsNumber, GivesValue, FaultsAs, IsLengthFault}
-use Rattle.rlp_values.specs.Values.ValueReading.{shorter, longer, no_string, no_value}
-use Rattle.rlp_values.specs.declared.error.DecoderError.{DecoderError}
+use Rattle.rlp_values.specs.Values.ValueReading.{IsDigitsFault, too_long, leading_zero, GivesNumber}
 use Rattle.rlp_values.specs.Views.View.{View, HoldsString}
 use Rattle.rlp_values.specs.Lemmas.StringsHeld.{low_held}
 use Rattle.rlp_format.specs.Lemmas.Digits.{bytes_held}
@@ -37,12 +35,6 @@ pub gives_number : (width : ℕ) (v : View) (d : List ℕ) → HoldsString v d �
     × (big_endian (number_from_digits 256 d) ≡ d) → GivesNumber width v (number_from_digits 256 d)
 gives_number width v d stands (fits, again) = record { fits = fits; begins = subst (HoldsString v) (sym again) stands }
 
--- if a view begins with a string of digits that have a fault, the view has this fault
-pub number_fault : (width : ℕ) (v : View) (d : List ℕ) (e : DecoderError) → HoldsString v d → IsDigitsFault width d e → FaultsAsNumber width v e
-number_fault width v d e stands faulty = no_value d e stands faulty
-
-pub ruleset number_answers = (gives_number, no_string, number_fault)
-
 -- ---- a view that begins with a number of one digit
 
 -- if a view begins with a digit from 1 to 0x7f, and a strict one ends there, the digit is the number that it gives
@@ -70,7 +62,3 @@ zeros_in_front (suc k) zero digits = refl
 zeros_in_front (suc k) (suc n) digits = zeros_in_front k n digits
 
 -- ---- a view that begins with a string that is no array of n bytes
-
--- if a view begins with a string of another length, the view has the fault of that length
-pub array_fault : (n : ℕ) (v : View) (d : List ℕ) (e : DecoderError) → HoldsString v d → IsLengthFault n d e → FaultsAs (IsLengthFault n) v e
-array_fault n v d e stands faulty = no_value d e stands faulty

@@ -1,24 +1,22 @@
 -- A raw item stands for the item that its bytes encode.
 use Rattle.std.proofs.Common.{◌≡◌, ◌≤◌, ◌<◌, ◌^◌, ℕ, zero, suc, Bool, true, false, List, [], ◌∷◌, ◌++◌, length, map, refl, sym, ap, ◌∙◌, subst, arith}
-use Rattle.std.proofs.Common.{append-nil, Result, Ok, Err, leb-true, ◌⊎◌, inl, inr}
+use Rattle.std.proofs.Common.{append-nil, Result, Ok, Err, leb-true}
 use Rattle.rlp_values.specs.declared.error.DecoderError.{DecoderError}
-use Rattle.rlp_values.specs.declared.error.DecoderError.TheVariants.{OutOfMemory, RlpExpectedToBeData}
+use Rattle.rlp_values.specs.declared.error.DecoderError.TheVariants.{RlpExpectedToBeData}
 use Rattle.rlp_format.specs.Format.Item.{Item, Items, is_list, string, list, no_items, item_and, items_from, listed, list_of, item_depth, items_depth}
 use Rattle.rlp_format.specs.Format.Encoding.{BeginsWith, encoding, IsSized}
 use Rattle.rlp_values.specs.Format.Framing.{frame}
 use Rattle.rlp_values.specs.Format.Split.{begins_as_list, items}
-use Rattle.rlp_values.specs.Format.Strict.{IsCanonical, IsCanonicalWithin, unless}
+use Rattle.rlp_values.specs.Format.Strict.{IsCanonicalWithin, unless}
 use Rattle.rlp_values.specs.Format.StringReading.{read_string}
-use Rattle.rlp_values.specs.Views.Depth.{depth}
 use Rattle.rlp_values.specs.Views.View.{View, Holds, HoldsItem, strict_view_of, view_string}
-use Rattle.rlp_values.specs.Values.RawItem.{FaultsAsRaw, IsRawFault, IsRawItem, MayLackAsRaw, deepest_raw_item, faulty_frame, item_by, item_within}
-use Rattle.rlp_values.specs.Values.RawItem.{not_canonical, not_framed, raw_item_of, string_or_none, too_deep, view_frame}
-use Rattle.rlp_values.specs.Values.ValueReading.{GivesValue}
+use Rattle.rlp_values.specs.Values.RawItem.{IsRawItem, deepest_raw_item, item_by, item_within}
+use Rattle.rlp_values.specs.Values.RawItem.{raw_item_of, string_or_none, view_frame}
 use Rattle.rlp_format.specs.Lemmas.Encodings.{AllSized, front_sized, items_from-listed, list_written, parts_sized}
 use Rattle.rlp_values.specs.Lemmas.Frames.{encoding_framed}
 use Rattle.rlp_values.specs.Lemmas.Strings.{string_list, string_only}
 use Rattle.rlp_values.specs.Lemmas.Views.{items_of_list, list_shape}
-use Rattle.rlp_values.specs.Lemmas.Depths.{depth_of_item, not_list}
+use Rattle.rlp_values.specs.Lemmas.Depths.{not_list}
 use Rattle.rlp_values.specs.Lemmas.StringsHeld.{held_begins, held_read}
 use Rattle.rlp_values.specs.Lemmas.WholeItems.{strict_fault-encoding}
 
@@ -113,37 +111,7 @@ framed_by true b x fits holds (more, is) =
 pub view_frame-held : (v : View) (x : Item) → length v.bytes < 2 ^ 64 → HoldsItem v x → view_frame v ≡ Ok (encoding x)
 view_frame-held v x fits holds = framed_by v.is_strict v.bytes x fits holds (held_begins v x holds)
 
--- the encoding of an item within the depth has no fault
-raw_told : (f : List ℕ) (x : Item) (e : DecoderError) → IsSized x → f ≡ encoding x → item_depth x ≤ deepest_raw_item → ¬ IsRawFault f e
-raw_told f x e sized is deep (too_deep deeper custom) =
-    let same : depth f ≡ item_depth x = depth_of_item x f sized ([], is ∙ sym (append-nil (encoding x))) in omega (arith, deep, deeper, same)
-raw_told f x e sized is deep (not_canonical low other custom) = other (x, is)
-
--- a raw item has no fault
-pub raw_has_no_fault : (b : List ℕ) (e : DecoderError) → length b < 2 ^ 64 → IsRawItem b → ¬ IsRawFault b e
-raw_has_no_fault b e fits raw =
-    let (x, is, deep) = raw_is b raw in raw_told b x e (front_sized x b [] fits (is ∙ sym (append-nil (encoding x)))) is deep
-
--- a view that holds the encoding of a raw item has no fault
-pub raw_sound : (v : View) (b : List ℕ) → length v.bytes < 2 ^ 64 → IsRawItem b → HoldsItem v (raw_item_of b) → (e : DecoderError) → ¬ FaultsAsRaw v e
-raw_sound v b fits fit holds e (not_framed none) = let is = view_frame-held v (raw_item_of b) fits holds in cc
-raw_sound v b fits fit holds e (faulty_frame f framed bad) =
-    let is : view_frame v ≡ Ok (encoding (raw_item_of b)) = view_frame-held v (raw_item_of b) fits holds in
-    let same : f ≡ encoding (raw_item_of b) = cc in
-    let (more, begins) = held_begins v (raw_item_of b) holds in
-    raw_told f (raw_item_of b) e (front_sized (raw_item_of b) v.bytes more fits begins) same (shallow_within deepest_raw_item b) bad
-
 -- ---- rules for bodies
-
--- bytes that nest within the depth and aren't a raw item aren't canonical
-pub not_canonical_if : (b : List ℕ) → length b < 2 ^ 64 → ¬ IsRawItem b → depth b ≤ deepest_raw_item → ¬ IsCanonical b
-not_canonical_if b fits other low (x, is) =
-    let sized : IsSized x = front_sized x b [] fits (is ∙ sym (append-nil (encoding x))) in
-    let same : depth b ≡ item_depth x = depth_of_item x b sized ([], is ∙ sym (append-nil (encoding x))) in
-    other (raw_if b (x, is, let deep : item_depth x ≤ deepest_raw_item = omega (arith, low, same) in deep))
-
--- for `RawItem::new`
-pub ruleset raw_faults = (too_deep, not_canonical, raw_if)
 
 -- the item of bytes that begin as a list is a list
 pub list_by : (x : Item) (b : List ℕ) → length b < 2 ^ 64 → b ≡ encoding x → begins_as_list b ≡ is_list x
@@ -181,17 +149,3 @@ pub raw_string_read : (b : List ℕ) (v : View) (e : DecoderError) → length b 
 raw_string_read b v e fits strict is begins none =
     let (d, whole) = raw_is_string b fits is begins in
     held_read (strict_view_of b) d e fits whole (subst (λ v. view_string v ≡ Err e) strict none)
-
--- the value that is read from the first item
-pub raw_given : (v : View) (f : List ℕ) → length f < 2 ^ 64 → Holds v.is_strict v.bytes f → IsRawItem f → GivesValue IsRawItem raw_item_of v f
-raw_given v f fits holds is =
-    record { fits = is; begins = subst (λ c. Holds v.is_strict v.bytes c) (sym (raw_encoding f fits is)) holds }
-
--- why no value is read from the first item
-pub raw_fails : (v : View) (f g : List ℕ) (e : DecoderError) → view_frame v ≡ Ok f → g ≡ f → IsRawFault g e ⊎ ((e ≡ OutOfMemory) × IsRawItem g)
-    → FaultsAsRaw v e ⊎ ((e ≡ OutOfMemory) × MayLackAsRaw v)
-raw_fails v f g e is same (inl bad) = inl (faulty_frame g (is ∙ ap Ok (sym same)) bad)
-raw_fails v f g e is same (inr (lacks, raw)) = inr (lacks, record { bytes = g; framed = is ∙ ap Ok (sym same); is = raw })
-
--- for the `decode` of a raw item
-pub ruleset raw_reading = (raw_given, raw_fails, not_framed)

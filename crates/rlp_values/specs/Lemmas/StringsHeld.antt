@@ -39,9 +39,6 @@ held_only v d fits holds = read_by v.is_strict v.bytes d fits holds
 pub held_read : (v : View) (d : List ℕ) (e : DecoderError) → length v.bytes < 2 ^ 64 → HoldsString v d → view_string v ≡ Err e → ⊥
 held_read v d e fits holds is = let same : Ok d ≡ Err e = sym (held_only v d fits holds) ∙ is in cc
 
-pub same_held : (v : View) (d s : List ℕ) → length v.bytes < 2 ^ 64 → HoldsString v d → HoldsString v s → d ≡ s
-same_held v d s fits one two = let same = sym (held_only v d fits one) ∙ held_only v s fits two in cc
-
 -- the right result for the string of bytes that are read as this
 abbrev pub ReadsHeld : Bool → List ℕ → Result (List ℕ) DecoderError → Type 0
 ReadsHeld strict b r = MatchResult r (λ d. Holds strict b (encoding (string d))) (λ e. (d : List ℕ) → ¬ Holds strict b (encoding (string d)))

@@ -95,10 +95,6 @@ whole_list b xs bytes is same =
 pub whole_sized : (x : Item) (b : List ℕ) → length b < 2 ^ 64 → b ≡ encoding x → IsSized x
 whole_sized x b fits is = front_sized x b [] fits (is ∙ sym (append-nil (encoding x)))
 
--- equal lists of bytes have the same first bytes, and the same others
-pub parts_same : (f g : List ℕ) (fs gs : List (List ℕ)) → f ∷ fs ≡ g ∷ gs → (f ≡ g) × (fs ≡ gs)
-parts_same f g fs gs e = (let h : f ≡ g = cc in h, let t : fs ≡ gs = cc in t)
-
 pub strict_list_fault-encoding : (xs : List Item) (b : List ℕ) → IsSized (list_of xs) → b ≡ encoding (list_of xs) → strict_list_fault b ≡ None
 unfolding strict_list_fault
 strict_list_fault-encoding xs b sized is =

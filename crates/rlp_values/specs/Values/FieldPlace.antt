@@ -5,15 +5,6 @@ use Rattle.rlp_values.specs.Format.Split.{items, split}
 use Rattle.rlp_values.specs.Format.Strict.{after_items}
 use Rattle.rlp_values.specs.Views.View.{View, item_at, items_fault}
 
--- The view whose items are the fields, and the number of items that the reader took.
-pub record FieldPlace : Type 0 where
-  pub view : View
-  pub place : ℕ
-
--- a reader of these fields, with the number of items that it took
-abbrev pub field_place : View → ℕ → FieldPlace
-field_place v n = record { view = v; place = n }
-
 -- These bytes are left after the first `place` items of a view. Past the last item each number has the fault of what follows the items.
 pub record IsAtPlace (v : View) (place : ℕ) (left : List ℕ) : Type 0 where
   pub told : items_fault v ≡ None

@@ -1,14 +1,12 @@
 -- Items that are kept as the bytes of their encodings.
-use Rattle.std.specs.Prelude.{ℕ, zero, suc, ◌≡◌, ◌≤◌, ◌<◌, List, [], map, codes, Result, Ok, Err}
+use Rattle.std.specs.Prelude.{ℕ, zero, suc, List, [], map, Result, Ok, Err}
 use Rattle.rlp_values.specs.declared.error.DecoderError.{DecoderError}
 use Rattle.rlp_format.specs.Format.Item.{Item, string, list_of}
 use Rattle.rlp_values.specs.Format.Framing.{frame}
 use Rattle.rlp_values.specs.Format.Split.{items}
-use Rattle.rlp_values.specs.Format.Strict.{IsCanonical, IsCanonicalWithin, unless}
+use Rattle.rlp_values.specs.Format.Strict.{IsCanonicalWithin, unless}
 use Rattle.rlp_values.specs.Format.StringReading.{read_string}
-use Rattle.rlp_values.specs.Views.Depth.{depth}
 use Rattle.rlp_values.specs.Views.View.{View, frame_fault}
-use Rattle.rlp_values.specs.Values.ValueReading.{IsCustom}
 
 -- the string that was read, or no bytes for a fault
 abbrev pub string_or_none : Result (List ℕ) DecoderError → List ℕ
@@ -40,22 +38,6 @@ IsRawItem b = IsCanonicalWithin deepest_raw_item b
 abbrev pub raw_item_of : List ℕ → Item
 raw_item_of b = item_within deepest_raw_item b
 
--- Why bytes aren't a raw item: lists nest deeper, or the bytes aren't the encoding of any item.
-pub data IsRawFault (b : List ℕ) (e : DecoderError) : Type 0 where
-  too_deep : deepest_raw_item < depth b → IsCustom (codes "item nests too deep") e → IsRawFault b e
-  not_canonical : depth b ≤ deepest_raw_item → ¬ IsCanonical b → IsCustom (codes "item is not canonical") e → IsRawFault b e
-
 -- the bytes of the first item of a view, or why there is none; a strict view has only that item
 abbrev pub view_frame : View → Result (List ℕ) DecoderError
 view_frame v = unless (frame_fault v) (frame v.bytes)
-
--- Why a view gives no raw item: it doesn't begin with a framed item, or the bytes of that item aren't a raw item.
-pub data FaultsAsRaw (v : View) (e : DecoderError) : Type 0 where
-  not_framed : view_frame v ≡ Err e → FaultsAsRaw v e
-  faulty_frame : (f : List ℕ) → view_frame v ≡ Ok f → IsRawFault f e → FaultsAsRaw v e
-
--- memory may run out for the copy of a raw item
-pub record MayLackAsRaw (v : View) : Type 0 where
-  pub bytes : List ℕ
-  pub framed : view_frame v ≡ Ok bytes
-  pub is : IsRawItem bytes

@@ -1,0 +1,7 @@
+use Rattle.rlp_values.specs.Views.View.{view_of}
+use Rattle.rlp_codec.specs.Form.{byte_array}
+use Rattle.rlp_codec.proofs.Readings.{array_whole, one_reading}
+use Rattle.rlp.proofs.laws.reading.arrays_are_read.Goals as goal
+
+pub returns : goal.returns
+returns c = λ n. one_reading (byte_array n) (view_of c.args.bytes.now) (array_whole n)

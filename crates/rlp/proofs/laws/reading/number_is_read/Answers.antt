@@ -1,0 +1,7 @@
+use Rattle.rlp_values.specs.Views.View.{view_of}
+use Rattle.rlp_codec.specs.Form.{number}
+use Rattle.rlp_codec.proofs.Readings.{number_whole, one_reading}
+use Rattle.rlp.proofs.laws.reading.number_is_read.Goals as goal
+
+pub returns : goal.returns
+returns c = λ width. one_reading (number width) (view_of c.args.bytes.now) (number_whole width)
