@@ -31,11 +31,11 @@ pub use rlp_write::laws::{
 };
 pub use round_trip::{
     encoding_is_decoded, encoding_is_read_back, list_is_decoded, list_is_read_back,
-    scalar_is_decoded,
+    scalar_is_decoded, scalar_is_read,
 };
 pub use strict::{
     lenient_views_ignore_what_follows, strict_fault_is_read, strict_option_is_read,
-    strict_values_are_read,
+    strict_values_are_read, whole_encoding_is_read,
 };
 pub use uints::{equal_numbers_are_equal_uints, uints_compare_as_numbers};
 pub use views::{

@@ -56,7 +56,9 @@ fn laws_of_views_and_values() {
     laws::lenient_views_ignore_what_follows(&LIST);
     laws::strict_values_are_read(&LIST);
     laws::strict_option_is_read::<u64>(&LIST);
+    laws::whole_encoding_is_read::<u64>(&LIST);
     laws::encoding_is_read_back::<u64>(&LIST);
+    laws::scalar_is_read::<u64>(&LIST);
     laws::list_is_read_back::<u64>(&LIST);
     laws::encodings_are_raw_items(&LIST);
     laws::equal_numbers_are_equal_uints(&Uint { bytes: [0, 1] }, &Uint { bytes: [0, 1] });

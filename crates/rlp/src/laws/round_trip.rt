@@ -5,6 +5,7 @@ ghost use Rattle.rlp_values.specs.declared.error.DecoderError.TheVariants.{OutOf
 ghost use Rattle.rlp_format.specs.Format.Encoding.{BeginsWith, encoding};
 ghost use Rattle.rlp_format.specs.Format.Item.{list_of};
 ghost use Rattle.rlp_values.specs.Values.RoundTrip.{ReadsBack};
+ghost use Rattle.rlp_values.specs.Values.ValueReading.{GivesValue};
 ghost use Rattle.rlp_values.specs.Format.Split.{items};
 ghost use Rattle.rlp_format.specs.Values.Value.{AreAlike};
 ghost use Rattle.rlp_values.specs.Views.View.{HoldsItem, view_of};
@@ -19,6 +20,13 @@ use std::alloc::Global;
 pub fn encoding_is_read_back<T: RoundTrip>(bytes: &[u8])
     ensures { (v : T) → T.fits v → HoldsItem (view_of bytes.now) (T.item v)
         → ReadsBack T.fits T.item (Gives T.reading) (Faults T.reading) (view_of bytes.now) v }
+{}
+
+/// Bytes give a value of a type with [`Scalar`] if and only if the value fits and the bytes begin with
+/// its encoding.
+pub fn scalar_is_read<T: Scalar>(bytes: &[u8])
+    ensures { (v : T) → Gives T.reading (view_of bytes.now) v
+        ↔ GivesValue T.fits T.item (view_of bytes.now) v }
 {}
 
 /// If bytes begin with the encoding of a list of values, the items are the encodings of the values,

@@ -10,6 +10,7 @@ ghost use Rattle.rlp_values.specs.Format.Split.{begins_as_list, items};
 ghost use Rattle.rlp_values.specs.Format.StringReading.{read_string};
 ghost use Rattle.rlp_values.specs.Format.Strict.{IsCanonical, strict_fault};
 ghost use Rattle.rlp_format.specs.Format.Item.{Item, list_of, string};
+ghost use Rattle.rlp_values.specs.Values.RoundTrip.{ReadsStrictly};
 ghost use Rattle.rlp_values.specs.Values.ValueReading.{HasOneReading};
 ghost use Rattle.rlp_codec.specs.Form.{Faults, Gives, byte_array, byte_string, number, option_reading, text, truth_value};
 ghost use Rattle.rlp_format.specs.Values.Value.{AreAlike, bit, number_item, option_item};
@@ -48,6 +49,12 @@ pub fn lenient_views_ignore_what_follows(bytes: &[u8])
     ensures at { (i : ℕ) → item_with_place (view_of bytes.now) i
         ≡ (if begins_as_list bytes.now then item_by (view_of bytes.now) i (framing bytes.now)
         else Err RlpExpectedToBeList) }
+{}
+
+/// A strict view gives a value of a type with [`StrictRead`] if and only if the value fits and the
+/// bytes are its encoding. The view has no fault then.
+pub fn whole_encoding_is_read<T: StrictRead>(bytes: &[u8])
+    ensures { (v : T) → ReadsStrictly T.fits T.item (Gives T.reading) (Faults T.reading) bytes.now v }
 {}
 
 /// A strict view gives one value of a number of each width, of a `bool`, of a byte string, of
