@@ -64,7 +64,20 @@ module _ {A : Type 0} (c : Form A) where
 
   -- ---- the law of `Scalar`
 
+  pub gives_exactly : IsReadBack c → GivesOnly false c → (b : List ℕ) (v : A) → AreBytes b → length b < 2 ^ 64
+      → Gives c.reading (view_of b) v ↔ GivesValue c.Fits c.item (view_of b) v
+  gives_exactly law exact b v bytes fits = (
+    λ given. let h = exact.only b v bytes fits given in record { fits = h.0; begins = h.1 },
+    λ g. law.back.back b v fits g.fits g.begins,
+  )
+
   -- ---- the law of `StrictRead`
+
+  pub gives_strictly : IsLawful c → AlwaysReadsStrictly c.Fits c.item (Gives c.reading) (Faults c.reading)
+  gives_strictly law b v bytes fits = record {
+    exact = (λ given. law.exact.only b v bytes fits given, λ (fit, is). (law.back true).back b v fits fit is);
+    sound = λ fit is e. not_both c.reading (strict_view_of b) v e ((law.back true).back b v fits fit is);
+  }
 
   -- contracts see two values that fit and have the same item alike, if the encoding of the item is shorter than 2^64
   pub told_by_item : IsReadBack c → (x y : A) → c.Fits x → c.Fits y → c.item x ≡ c.item y → IsSized (c.item x) → c.reading.seen x ≡ c.reading.seen y
@@ -141,6 +154,22 @@ module _ {A : Type 0} (c : Form A) where
   list_memory law b vs (Ok w) fits all begins fault = tt
   list_memory law b vs (Err e) fits all begins fault =
       ⊎_elim (λ bad. absurd (let same = sym (lists_back law b vs fits all begins) ∙ bad in let no : ⊥ = cc in no)) (λ memory. memory) fault
+
+  -- the items of the encoding of a list of values give the values in their places
+  each_given : IsReadBack c → (vs : List A) → AllByRecursion c.Fits vs → AllByRecursion IsSized (map c.item vs)
+      → GivesEach (Gives c.reading) (views_of false (map c.item vs)) vs
+  each_given law [] all sized = tt
+  each_given law (v ∷ vs) (fit, all) (one, sized) = (item_back c false law.back v one fit, each_given law vs all sized)
+
+  -- a view that begins with the encoding of a list of values that fit gives the list
+  pub list_given : IsReadBack c → (b : List ℕ) (vs : List A) → length b < 2 ^ 64 → All c.Fits vs → BeginsWith b (encoding (list_of (map c.item vs)))
+      → GivesList (Gives c.reading) (view_of b) vs
+  list_given law b vs fits all (more, begins) = record {
+    is_list = refl;
+    each = subst (λ views. GivesEach (Gives c.reading) views vs)
+        (sym (item_views-list (map c.item vs) b (front_sized (list_of (map c.item vs)) b more fits begins) (more, begins)))
+        (each_given law vs (recursion_from_All c.Fits vs all) (items_sized false b (map c.item vs) fits (more, begins)));
+  }
 
   -- item i of the encoding of a list gives the values that fit and are alike to value i, and has no fault
   pub list_item_back : IsReadBack c → (before after : List A) (x : A) (b : List ℕ) → length b < 2 ^ 64 → c.Fits x

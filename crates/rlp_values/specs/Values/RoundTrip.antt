@@ -23,3 +23,7 @@ pub record ReadsStrictly {A : Type 0} (Fits : A → Type 0) (item : A → Item) 
 abbrev pub AlwaysReadsBack : {A : Type 0} → (A → Type 0) → (A → Item) → (View → A → Type 0) → (View → DecoderError → Type 0) → Type 0
 AlwaysReadsBack {A} Fits item gives faults = (b : List ℕ) (v : A) → length b < 2 ^ 64 → Fits v → BeginsWith b (encoding (item v))
     → ReadsBack Fits item gives faults (view_of b) v
+
+-- what the law of `StrictRead` says about a type
+abbrev pub AlwaysReadsStrictly : {A : Type 0} → (A → Type 0) → (A → Item) → (View → A → Type 0) → (View → DecoderError → Type 0) → Type 0
+AlwaysReadsStrictly {A} Fits item gives faults = (b : List ℕ) (v : A) → AreBytes b → length b < 2 ^ 64 → ReadsStrictly Fits item gives faults b v
