@@ -1,5 +1,5 @@
 -- What a key signs: the same bytes have one meaning.
-use Rattle.std.proofs.Common.{◌≡◌, ℕ, ◌^◌, ◌<◌, List, ◌∷◌, [], length, refl, sym, ap, ◌∙◌, arith, Ok, Err}
+use Rattle.std.proofs.Common.{◌≡◌, ℕ, ◌^◌, ◌<◌, List, ◌∷◌, [], length, refl, sym, ap, ◌∙◌, arith, Err}
 use Rattle.rlp.specs.Format.Item.{list_of}
 use Rattle.rlp.specs.Format.Encoding.{encoding}
 use Rattle.rlp_codec.specs.Form.{custom}

@@ -9,7 +9,6 @@ use Rattle.rlp.specs.Codec.{plain}
 use Rattle.rlp_records.proofs.Alone.{alone_strings, list_alone_begins}
 use Rattle.rlp_records.proofs.Bytes.{strings_held}
 use Rattle.rlp_records.specs.Alone.{bytes_alone}
-use Rattle.rlp_records.specs.Bounded.{is_read_type}
 use Rattle.rlp_transactions.proofs.OtherTypes.{or_strings}
 use Rattle.rlp_transactions.specs.AnyTransaction.{any_alone, any_sum, any_transaction, known_type}
 use Rattle.rlp_transactions.specs.LegacyTransaction.{signed_legacy_transaction}

@@ -1,5 +1,5 @@
 -- Values of a type beside strings that are none of the items of the type.
-use Rattle.std.proofs.Common.{◌≡◌, ℕ, ◌^◌, ◌<◌, ◌⊎◌, inl, inr, ⊎_elim, Bool, true, false, IsTrue, if◌then◌else◌, List, [], ◌∷◌, length, refl, sym, ap, ◌∙◌, subst}
+use Rattle.std.proofs.Common.{◌≡◌, ℕ, ◌^◌, ◌<◌, ◌⊎◌, inl, inr, Bool, true, false, IsTrue, if◌then◌else◌, List, [], ◌∷◌, length, refl, sym, ap, ◌∙◌, subst}
 use Rattle.std.proofs.Common.{leb-true, Result, Ok, Err}
 use Rattle.std.proofs.lemmas.Bool.{cond-true, cond-false}
 use Rattle.rlp.specs.DecoderError.{DecoderError}
@@ -14,8 +14,8 @@ use Rattle.rlp_values.specs.Format.StringReading.{read_string}
 use Rattle.rlp_values.specs.Lemmas.Strings.{string_list}
 use Rattle.rlp_values.specs.Lemmas.StringsHeld.{ReadsHeld, held_begins, held_fault, held_only, held_reads}
 use Rattle.rlp_values.specs.Lemmas.Sums.{list_first}
-use Rattle.rlp_codec.specs.Form.{Answer, Fault, Form, Reading, here, map_answer, map_value, seen_fault, string_of}
-use Rattle.rlp_codec.specs.Laws.{GivesOnly, IsLawful, IsSeen, ReadsBack, viewed}
+use Rattle.rlp_codec.specs.Form.{Answer, Fault, Form, here, map_answer, map_value, seen_fault, string_of}
+use Rattle.rlp_codec.specs.Laws.{GivesOnly, IsLawful, IsSeen, viewed}
 use Rattle.rlp_codec.specs.Sums.{sum_map}
 
 -- What a view gives whose string is r: the string if it is one that `is` tells, and else what the type gives.

@@ -4,7 +4,7 @@ use Rattle.std.proofs.Common.{refl, ap, ◌∙◌, ltb, ltb-false, arith}
 use Rattle.std.proofs.lemmas.Bool.{cond-true, cond-false}
 use Rattle.rlp_codec.specs.Form.{Fault, fixed_of, is_too_big, is_too_short, map_value}
 use Rattle.rlp_codec.specs.Kinds.{read_kind}
-use Rattle.rlp_codec.proofs.KindLaws.{HaveKinds, kinds_read}
+use Rattle.rlp_codec.proofs.KindLaws.{kinds_read}
 use Rattle.rlp_codec.proofs.StringLaws.{array_strings}
 use Rattle.rlp.specs.Codec.{Codec, string_type}
 use Rattle.rlp_transactions.specs.declared.recipient.Recipient.{Recipient}

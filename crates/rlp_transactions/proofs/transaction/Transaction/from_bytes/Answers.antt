@@ -1,4 +1,4 @@
-use Rattle.std.proofs.Common.{◌<◌, ◌^◌, length, arith}
+use Rattle.std.proofs.Common.{arith}
 use Rattle.rlp.specs.Lemmas.Reading.{bytes_held}
 use Rattle.rlp_records.proofs.Bytes.{read_memory, read_whole}
 use Rattle.rlp_transactions.proofs.Strings.{transaction_strings}
