@@ -7,7 +7,7 @@ import shutil
 from scratch import ROOT, Scratch, contents, text_of
 
 SCRIPT = ROOT / "tools" / "add-to"
-RLP = ["rlp_format", "rlp_write", "rlp_values", "rlp"]
+RLP = ["rlp_format", "rlp_write", "rlp_values", "rlp_codec", "rlp"]
 
 
 def lines_here():
@@ -136,7 +136,7 @@ class AddTo(Scratch):
         shutil.rmtree(self.crate("rlp_values"))
         self.write("crates.txt", text_of(self.folder / "crates.txt").replace(f"{lines_here()['rlp_values']}\n", ""))
         self.passes(SCRIPT, "--update", ".")
-        self.assertEqual(self.lines().index(lines_here()["rlp_values"]), 3)
+        self.assertEqual(self.lines().index(lines_here()["rlp_values"]), 4)
         self.assertEqual({path: content for path, content in contents(self.folder).items() if path != "crates.txt"}, {path: content for path, content in wanted.items() if path != "crates.txt"})
 
     def test_update_keeps_the_crates_of_others(self):

@@ -29,7 +29,6 @@ pub use Rattle.rlp_codec.proofs.StructLaws
 pub use Rattle.rlp_codec.proofs.SumLaws
 pub use Rattle.rlp_codec.proofs.RawLaws
 pub use Rattle.rlp_codec.proofs.EachField
-pub use Rattle.rlp_codec.proofs.Places
 pub use Rattle.rlp_codec.proofs.Readings
 pub use Rattle.rlp_codec.proofs.Corollaries
 -- the faults of decoding

@@ -123,9 +123,6 @@ module _ (b : List ℕ) (old new : List RlpItem) (old_type type count status : �
     unknown_answer low none same number done = unknown k p whole low none
         (ap transaction_result whole ∙ unknown_is k p (ap begins_as_list (sym whole) ∙ low) none) same number done
 
-  pub empty_answer : b ≡ [] → type ≡ old_type → count ≡ 0 → status ≡ 2 → Answered
-  empty_answer none same number done = nothing none (ap transaction_result none) same number done
-
 -- ---- found exactly where the codec reads
 
 faulty_not_found : (e : Fault) (status : ℕ) → status ≡ fault_number e → ¬ IsFound status

@@ -258,8 +258,5 @@ module _ {A P : Type 0} (value : P → Option A) (c : Form A) where
   pub optional_told : IsSeen c → AreSeen (optional value c)
   optional_told law = optional_group_told value (one c) (one_told c law)
 
-  pub optional_back : (is_strict : Bool) → ReadsBack is_strict c → TakesBack is_strict (optional value c)
-  optional_back is_strict law = optional_group_back value (one c) is_strict refl (one_back c is_strict law)
-
   pub optional_lawful : IsLawful c → AreLawful (optional value c)
   optional_lawful law = optional_group_lawful value (one c) refl (one_lawful c law)

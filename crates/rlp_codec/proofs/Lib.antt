@@ -16,8 +16,6 @@ pub mod GroupLaws
 pub mod RawLaws
 -- fields of one type, as the values of an array
 pub mod EachField
--- the paths of faults
-pub mod Places
 -- types whose values are strings of several kinds
 pub mod KindLaws
 -- types that are read from the whole first item of a view

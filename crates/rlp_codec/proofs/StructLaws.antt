@@ -41,36 +41,6 @@ module _ {M : Type 0} (accepts : ℕ → Bool) (read : List View → Taken M) (v
       let h = by_items (here (Err incorrect_list_len)) items (cond-false (accepts (length vs)) _ _ wrong) in
       record { fault = h.0; at = h.1 }
 
-  fails_by : (inner : Path) (left : List View) (e : Fault) → items_of v ≡ Ok vs → accepts (length vs) ≡ true
-      → ended (read vs).result ≡ Err (left, e) → (go_on (read vs) (λ t. all_taken t.0 t.1)).path ≡ inner
-      → StructFails ((length vs - 1 - length left) ∷ inner) e
-  fails_by inner left e items right fails within =
-      let h = by_items _ items (cond-true (accepts (length vs)) _ _ right) in
-      record {
-        fault = h.0 ∙ ap outcome fails;
-        at = h.1 ∙ ap (λ r. path_in (length vs) r (go_on (read vs) (λ t. all_taken t.0 t.1)).path) fails
-            ∙ ap (λ p. (length vs - 1 - length left) ∷ p) within;
-      }
-
-  -- a field fails, and these views are after its item
-  pub field_failed : (left : List View) (e : Fault) → items_of v ≡ Ok vs → accepts (length vs) ≡ true → (read vs).result ≡ Err (left, e)
-      → StructFails ((length vs - 1 - length left) ∷ (read vs).path) e
-  field_failed left e items right fails =
-      fails_by (read vs).path left e items right (ap ended fails) (ap (λ r. path_by r (read vs).path (λ t. (all_taken t.0 t.1).path)) fails)
-
-  -- an item is left, and these views after it
-  pub item_left : (m : M) (item : View) (left : List View) → items_of v ≡ Ok vs → accepts (length vs) ≡ true
-      → (read vs).result ≡ Ok (m, item ∷ left) → StructFails ((length vs - 1 - length left) ∷ []) incorrect_list_len
-  item_left m item left items right took =
-      fails_by [] left incorrect_list_len items right (ap ended took) (ap (λ r. path_by r (read vs).path (λ t. (all_taken t.0 t.1).path)) took)
-
-  -- all fields are read
-  pub all_read : (m : M) → items_of v ≡ Ok vs → accepts (length vs) ≡ true → (read vs).result ≡ Ok (m, [])
-      → (go_on (here (items_of v)) (read_struct accepts read)).result ≡ Ok m
-  all_read m items right took =
-      let h = by_items _ items (cond-true (accepts (length vs)) _ _ right) in
-      h.0 ∙ ap outcome (ap ended took)
-
 -- a list of fewer than 2^64 items isn't as wide as this
 pub too_wide : (w n : ℕ) (b : Bool) → 2 ^ 64 ≤ w → n < 2 ^ 64 → (leb w n && b) ≡ false
 too_wide w n b wide few = ap (λ c. c && b) (lt-leb w n (omega (arith, wide, few)))

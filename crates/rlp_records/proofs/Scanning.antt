@@ -24,10 +24,6 @@ use Rattle.rlp_records.specs.Bounded.{bytes_counted, is_encoding, is_read_type, 
 
 -- ---- payloads
 
-pub no_list_counted : (b : List ℕ) → begins_as_list b ≡ false → 0 ≡ payload_items b
-no_list_counted b kind =
-    sym (cond-false (begins_as_list b) (if is_encoding b then items_in (raw_item_of b) else bytes_counted b (strict_fault b)) 0 kind)
-
 pub walk_counted : (b : List ℕ) (old new : List FlatItem) (n : ℕ) → length b < 2 ^ 64 → begins_as_list b ≡ true
     → IsWalked (λ item. item) b 0 0 256 old 0 new n → n ≡ payload_items b
 walk_counted b old new n short kind walked =

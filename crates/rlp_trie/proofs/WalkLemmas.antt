@@ -304,21 +304,3 @@ pub end_proves : (all : List (List ℕ)) (reference : Item) (path : List ℕ) (r
     → IfOk r (λ value. HasValue (IsKnown all) reference path (option_map vec_items value))
 end_proves all reference path (Ok value) walk = value_of_walk all all reference path (option_map vec_items value) (λ b held. held) walk
 end_proves all reference path (Err e) walk = tt
-
-pub end_fails : (all : List (List ℕ)) (reference : Item) (path : List ℕ) (r : Result (Option (Vec ℕ)) ProofFault) → IsEnd all reference path r
-    → IfErr r (λ e. Walk all reference path (Err e) ⊎ (e ≡ OutOfMemory))
-end_fails all reference path (Ok value) walk = tt
-end_fails all reference path (Err e) walk = walk
-
-pub agrees_found : (r : Result (Option (Vec ℕ)) ProofFault) (value : Option (List ℕ)) → Agrees r (Ok value) → IfOk r (λ given. option_map vec_items given ≡ value)
-agrees_found (Ok given) value same = same
-agrees_found (Err e) value lacks = tt
-
-pub agrees_lacks : (r : Result (Option (Vec ℕ)) ProofFault) (value : Option (List ℕ)) → Agrees r (Ok value) → IfErr r (λ e. e ≡ OutOfMemory)
-agrees_lacks (Ok given) value same = tt
-agrees_lacks (Err e) value lacks = lacks
-
-pub agrees_refused : (r : Result (Option (Vec ℕ)) ProofFault) (fault : ProofFault) → Agrees r (Err fault)
-    → IsErrAnd r (λ e. IsSameKind e fault ⊎ (e ≡ OutOfMemory))
-agrees_refused (Ok given) fault never = never
-agrees_refused (Err e) fault is = is

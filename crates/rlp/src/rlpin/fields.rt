@@ -86,6 +86,7 @@ impl<'a> Rlp<'a> {
 impl<'a> Fields<'a> {
     /// A reader of the items of the list that the view begins with. Fails as [`Rlp::item_count`]
     /// does. It walks over the items of a strict view, but not over those of a lenient view.
+    #[inline(always)]
     #[tactic(auto, using(rlp_codec::proofs::ListLaws::items_told))]
     pub fn of(rlp: &Rlp<'a>) -> Result<Fields<'a>, DecoderError>
         ensures { MatchResult result (λ f. items_of rlp.now ≡ Ok f.views)

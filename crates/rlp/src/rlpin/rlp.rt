@@ -138,11 +138,17 @@ impl<'a> Rlp<'a> {
     /// Fails with `RlpExpectedToBeList` if there is no byte, or the first byte begins a string. A
     /// list that isn't framed has no items. A strict view must be exactly one list. After the first
     /// fault come those of [`Rlp::payload_info`] and of bytes that follow the items in the list.
+    #[tactic(auto, unfolding(rlp_values::specs::Views::View::item_count, rlp_values::specs::Format::Split::items))]
     pub fn item_count(&self) -> Result<usize, DecoderError>
         ensures { result ≡ item_count self.now }
     {
-        let (_, count) = self.counted_items()?;
-        Ok(count)
+        if self.strict {
+            return self.walked_count();
+        }
+        if !self.is_list() {
+            return Err(DecoderError::RlpExpectedToBeList);
+        }
+        Ok(self.iter().len())
     }
 
     /// The length of the string that the view begins with, or 0 if it begins with no framed string.
@@ -461,6 +467,15 @@ impl<'a> Rlp<'a> {
         }
         let items = self.items();
         Ok((items, count_items(items)))
+    }
+
+    /// The same as [`Rlp::item_count`], out of line.
+    #[inline(never)]
+    fn walked_count(&self) -> Result<usize, DecoderError>
+        ensures { result ≡ item_count self.now }
+    {
+        let (_, count) = self.counted_items()?;
+        Ok(count)
     }
 
     /// The items of a list that is all of the bytes, and their number, by one walk over it.
