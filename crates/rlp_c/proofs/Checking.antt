@@ -1,15 +1,15 @@
 -- The walk over the fields of a record.
-use Rattle.std.proofs.Common.{◌≡◌, ℕ, zero, suc, ◌+◌, ◌<◌, Bool, true, false, List, [], ◌∷◌, length, map, refl, sym, ap, ◌∙◌, subst, arith, Option, Some, None, Ok, Err}
+use Rattle.std.proofs.Common.{◌≡◌, ⊎_elim, inl, inr, ℕ, zero, suc, ◌+◌, ◌<◌, Bool, true, false, List, [], ◌∷◌, length, map, refl, sym, ap, ◌∙◌, subst, arith, Option, Some, None, Ok, Err}
 use Rattle.std.proofs.Common.{ltb-true, nat_lt, ◌&&◌, Result}
 use Rattle.std.specs.Bool.{⊤}
 use Rattle.std.specs.List.{list_all, slice_get}
-use Rattle.std.proofs.lemmas.Bool.{cond-true, cond-false}
+use Rattle.std.proofs.lemmas.Bool.{cases_Bool, cond-true, cond-false}
 use Rattle.rlp_values.specs.declared.error.DecoderError.{DecoderError}
-use Rattle.rlp_values.specs.Format.Split.{items, payload, split}
+use Rattle.rlp_values.specs.Format.Split.{begins_as_list, items, payload, split}
 use Rattle.rlp_values.specs.Format.Strict.{strict_list_fault}
-use Rattle.rlp_values.specs.Views.View.{View, item_count, item_views, strict_view_of}
-use Rattle.rlp_values.specs.Lemmas.Numbered.{length-views}
-use Rattle.rlp_values.specs.Lemmas.StrictReads.{counted_items, counted_told, told_whole}
+use Rattle.rlp_values.specs.Views.View.{View, item_count, item_views, items_fault, strict_view_of}
+use Rattle.rlp_values.specs.Lemmas.Numbered.{item_count-fault, item_count-told, length-views}
+use Rattle.rlp_values.specs.Lemmas.StrictReads.{counted_items}
 use Rattle.rlp_codec.specs.Form.{Fault, and_then, fault_of, incorrect_list_len, map_fault, map_value, seen_fault}
 use Rattle.rlp_c.specs.declared.records.kinds.Kind.{Kind}
 use Rattle.rlp_c.specs.declared.records.kinds.Kind.TheVariants.{Number, Parity, Exactly, Recipient, Bytes, List as list_of}
@@ -17,11 +17,13 @@ use Rattle.rlp_c.specs.declared.records.kinds.Record.{Record}
 use Rattle.rlp_c.specs.declared.records.kinds.Record.TheVariants.{Legacy, AccessListPayload, FeeMarketPayload, BlobPayload, SetCodePayload, Header}
 use Rattle.rlp_c.specs.declared.records.kinds.Record.TheVariants.{AccessList, Access, Hashes, Authorizations, Authorization}
 use Rattle.rlp_c.specs.declared.item.RlpItem.{RlpItem}
-use Rattle.rlp_c.specs.Records.{IsRecordRead}
-use Rattle.rlp_c.specs.Rows.{IsItemized}
+use Rattle.rlp_c.specs.Places.{IsFound}
+use Rattle.rlp_c.specs.Records.{IsRecordRead, faulty_field}
+use Rattle.rlp_c.specs.Rows.{ArePlaced, IsItemized}
 use Rattle.rlp_c.specs.Fields.{field_result, record_result}
-use Rattle.rlp_c.specs.Kinds.{access, access_list_payload, authorization, blob_payload, fee_market_payload, header, kind_at, legacy, may_end, set_code_payload}
+use Rattle.rlp_c.specs.Kinds.{access, access_list_payload, authorization, blob_payload, fee_market_payload, header, kind_at, legacy, may_end, most_fields, set_code_payload}
 use Rattle.rlp_c.proofs.RecordTables.{record_table}
+use Rattle.rlp_c.proofs.Statuses.{faulty_not_found}
 use Rattle.rlp_c.proofs.Tables.{Left, by_table, placed, table}
 
 -- ---- lists in lists
@@ -102,12 +104,12 @@ module _ (r : Record) (b : List ℕ) where
   pub no_list : (e : DecoderError) → Err e ≡ item_count (strict_view_of b) → record_result r (strict_view_of b) ≡ Err (0, fault_of e)
   no_list e is = record_table r b ∙ ap (λ c. by_table r (map_value (λ (n : ℕ). item_views v) (seen_fault c))) (sym is)
 
-  module _ (n : ℕ) (count : Ok n ≡ item_count (strict_view_of b)) where
+  module _ (n : ℕ) (count : item_count (strict_view_of b) ≡ Ok n) where
     many : n ≡ length (item_views (strict_view_of b))
-    many = sym (length-views v ∙ counted_items v n (sym count))
+    many = sym (length-views v ∙ counted_items v n count)
 
     counted : record_result r (strict_view_of b) ≡ by_table r (Ok (item_views (strict_view_of b)))
-    counted = record_table r b ∙ ap (λ c. by_table r (map_value (λ (n : ℕ). item_views v) (seen_fault c))) (sym count)
+    counted = record_table r b ∙ ap (λ c. by_table r (map_value (λ (n : ℕ). item_views v) (seen_fault c))) count
 
     pub other_count : may_end r n ≡ false → record_result r (strict_view_of b) ≡ Err (0, incorrect_list_len)
     other_count wrong = counted ∙ cond-false (may_end r (length (item_views v))) _ _ (ap (may_end r) (sym many) ∙ wrong)
@@ -144,16 +146,41 @@ module _ (r : Record) (b : List ℕ) where
               placed_as (Err (views_in others, e)) (w.same ∙ next_is (Err e) is)
               ∙ ap (λ m. Err (m, e)) (omega (arith, w.total, ap length parts, views_length (split others)))
 
--- the answer for a list whose fields have no fault
-pub found_list : (r : Record) (place : ℕ) (b : List ℕ) (old new : List RlpItem) (old_count count status : ℕ) (x : ⊤) → record_result r (strict_view_of b) ≡ Ok x
-    → IsItemized place b old new old_count count status (strict_list_fault b)
-    → IsRecordRead r place b old new count status (record_result r (strict_view_of b))
-found_list r place b old new old_count count status x fine placed =
-    subst (IsRecordRead r place b old new count status) (sym fine)
-    (subst (IsItemized place b old new old_count count status) (by (item_count (strict_view_of b)) refl) placed)
-  where
-    by : (a : Result ℕ DecoderError) → item_count (strict_view_of b) ≡ a → strict_list_fault b ≡ None
-    by (Ok n) is = told_whole b (counted_told (strict_view_of b) n is)
-    by (Err e) is = let bad = no_list r b e (sym is) in absurd (let no : ⊥ = cc in no)
+-- ---- the answer for a list, after its items have places
+
+same_fault : (b : List ℕ) → items_fault (strict_view_of b) ≡ strict_list_fault b
+unfolding strict_list_fault
+same_fault b = ⊎_elim (λ kind. cond-true (begins_as_list b) _ _ kind)
+    (λ kind. cond-false (begins_as_list b) _ _ kind ∙ sym (cond-false (begins_as_list b) _ _ kind)) (cases_Bool (begins_as_list b))
+
+module _ (r : Record) (place : ℕ) (b : List ℕ) (old new : List RlpItem) (old_count count status : ℕ)
+    (split : IsItemized place b old new old_count count status (strict_list_fault b)) where
+  -- the places are those of all items
+  pub split_counted : IsFound status → item_count (strict_view_of b) ≡ Ok count
+  split_counted found = by (strict_list_fault b) refl split
+    where
+      by : (o : Option DecoderError) → strict_list_fault b ≡ o → IsItemized place b old new old_count count status o → item_count (strict_view_of b) ≡ Ok count
+      by None is placed = item_count-told (strict_view_of b) (same_fault b ∙ is) ∙ ap Ok (sym placed.0)
+      by (Some e) is fault = absurd (faulty_not_found (fault_of e) status fault.0 found)
+
+  -- the fields have no fault
+  pub found_list : (x : ⊤) → IsFound status → record_result r (strict_view_of b) ≡ Ok x → IsRecordRead r place b old new count status (record_result r (strict_view_of b))
+  found_list x found fine = subst (IsRecordRead r place b old new count status) (sym fine) (by (strict_list_fault b) split)
+    where
+      by : (o : Option DecoderError) → IsItemized place b old new old_count count status o → ArePlaced place b (items b) old new count status
+      by None placed = placed
+      by (Some e) fault = absurd (faulty_not_found (fault_of e) status fault.0 found)
+
+  -- the bytes aren't one list
+  pub no_list_read : (n : ℕ) → ¬ IsFound status → n ≡ faulty_field (most_fields r) (length (items b)) 0 status
+      → IsRecordRead r place b old new n status (record_result r (strict_view_of b))
+  no_list_read n none number = by (strict_list_fault b) refl split
+    where
+      by : (o : Option DecoderError) → strict_list_fault b ≡ o → IsItemized place b old new old_count count status o
+          → IsRecordRead r place b old new n status (record_result r (strict_view_of b))
+      by None is placed = absurd (none (⊎_elim (λ h. inl h.1) (λ h. inr h.1) placed.1))
+      by (Some e) is fault =
+          subst (IsRecordRead r place b old new n status) (sym (no_list r b e (sym (item_count-fault (strict_view_of b) e (same_fault b ∙ is)))))
+          (fault.0, number)
 
 pub ruleset walk = (no_list, other_count, checking_ends, checking_one)

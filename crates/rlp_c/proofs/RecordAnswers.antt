@@ -35,8 +35,7 @@ use Rattle.rlp_c.specs.Fields.{numbered, record_result}
 use Rattle.rlp_c.specs.Places.{IsFound, fields_in, fields_of, place_of}
 use Rattle.rlp_c.specs.Records.{IsRecordRead, IsTransactionRead, legacy, nothing, record_of_type, transaction_result, typed, unknown}
 use Rattle.rlp_c.specs.Rows.{ArePlaced}
-use Rattle.rlp_c.specs.Status.{fault_number}
-use Rattle.rlp_c.proofs.Statuses.{number_within}
+use Rattle.rlp_c.proofs.Statuses.{faulty_not_found}
 
 -- the first byte, and the others
 pub first_and_rest : (b : List ℕ) → 1 ≤ length b → b ≡ slice_index_or b 0 0 ∷ take (length b - 1) (drop 1 b)
@@ -124,10 +123,6 @@ module _ (b : List ℕ) (old new : List RlpItem) (old_type type count status : �
         (ap transaction_result whole ∙ unknown_is k p (ap begins_as_list (sym whole) ∙ low) none) same number done
 
 -- ---- found exactly where the codec reads
-
-faulty_not_found : (e : Fault) (status : ℕ) → status ≡ fault_number e → ¬ IsFound status
-faulty_not_found e status is (inl ok) = let within = number_within e in omega (arith, is, ok, within.0)
-faulty_not_found e status is (inr full) = let within = number_within e in omega (arith, is, full, within.1)
 
 other_not_found : (n status : ℕ) → status ≡ n → n ≢ 0 → n ≢ 13 → ¬ IsFound status
 other_not_found n status is some more (inl ok) = some (sym is ∙ ok)

@@ -1,6 +1,6 @@
 //! What C calls for records.
 
-ghost use Rattle.std.specs.Prelude.{◌≡◌, ◌+◌, ◌<◌, ◌^◌, ◌↔◌, IsOk, length};
+ghost use Rattle.std.specs.Prelude.{◌≡◌, ◌+◌, ◌<◌, ◌^◌, ◌↔◌, IsOk, IsTrue, length};
 ghost use Rattle.rlp_format.specs.Format.Encoding.{encoding};
 ghost use Rattle.rlp_values.specs.Format.Split.{items};
 ghost use Rattle.rlp_values.specs.Views.View.{strict_view_of};
@@ -17,11 +17,11 @@ ghost use Rattle.rlp_c.specs.Places.{IsFound, fields_in, fields_of, place_of};
 ghost use Rattle.rlp_c.specs.Records.{IsRecordRead, IsTransactionRead, faulty_field, record_of_type, transaction_result};
 ghost use Rattle.rlp_c.specs.Rows.{ArePlaced};
 
-use super::fields::check_list;
+use super::fields::check_counted;
 use super::kinds::{Record, most_fields};
 use crate::item::RlpItem;
 use crate::split::split_list;
-use crate::status::{RLP_UNKNOWN_TYPE, status_of};
+use crate::status::{RLP_NO_ROOM, RLP_OK, RLP_UNKNOWN_TYPE, status_of};
 use rlp::DecoderError;
 use rlp_values::framed::begins_as_list;
 use rlp_values::items::{ItemReader, count_items};
@@ -122,14 +122,26 @@ fn read_record(
     ensures { IsRecordRead list place bytes.now out.old out.new count.new result
         (record_result list (strict_view_of bytes.now)) }
 {
-    match check_list(list, bytes) {
-        Ok(()) => split_list(bytes, place, out, count),
+    let status = split_list(bytes, place, out, count);
+    if !is_found(status) {
+        *count = faulty_field(list, bytes, 0, status);
+        return status;
+    }
+    match check_counted(list, *count, bytes) {
+        Ok(()) => status,
         Err((number, fault)) => {
             let status = status_of(&fault);
             *count = faulty_field(list, bytes, number, status);
             status
         }
     }
+}
+
+/// Whether the status says that all items were found.
+fn is_found(status: u32) -> bool
+    ensures { IsTrue result ↔ IsFound status }
+{
+    status == RLP_OK || status == RLP_NO_ROOM
 }
 
 /// The number of the field that has the fault of this status, if the number that the fault came with

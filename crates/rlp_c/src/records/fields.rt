@@ -3,7 +3,7 @@
 ghost use Rattle.std.specs.Prelude.{◌≡◌, Ok, Err, MatchResult, OnOk};
 ghost use Rattle.std.specs.Int.Digits.{number_from_digits};
 ghost use Rattle.rlp_format.specs.Format.WrittenHeader.{big_endian};
-ghost use Rattle.rlp_values.specs.Views.View.{strict_view_of};
+ghost use Rattle.rlp_values.specs.Views.View.{item_count, strict_view_of};
 ghost use Rattle.rlp_codec.specs.Form.{and_then, bit_of, fault_of, fixed_of, number_of, string_of};
 ghost use Rattle.rlp_codec.specs.Kinds.{read_kind};
 ghost use Rattle.rlp_transactions.specs.Recipient.{account_of};
@@ -21,10 +21,24 @@ pub(crate) fn check_list(list: Record, bytes: &[u8]) -> Result<(), (usize, Decod
     ensures { MatchResult result (λ x. record_result list (strict_view_of bytes.now) ≡ Ok x)
         (λ e. record_result list (strict_view_of bytes.now) ≡ Err (e.0, fault_of e.1)) }
 {
-    let count = match Rlp::new_strict(bytes).item_count() {
-        Ok(count) => count,
-        Err(fault) => return Err((0, fault)),
-    };
+    match Rlp::new_strict(bytes).item_count() {
+        Ok(count) => check_counted(list, count, bytes),
+        Err(fault) => Err((0, fault)),
+    }
+}
+
+/// Does what [`check_list`] does, for a list of `count` items.
+#[cycle(fields)]
+#[tactic(auto, using(crate::proofs::Checking::walk))]
+pub(crate) fn check_counted(
+    list: Record,
+    count: usize,
+    bytes: &[u8],
+) -> Result<(), (usize, DecoderError)>
+    requires { item_count (strict_view_of bytes.now) ≡ Ok count }
+    ensures { MatchResult result (λ x. record_result list (strict_view_of bytes.now) ≡ Ok x)
+        (λ e. record_result list (strict_view_of bytes.now) ≡ Err (e.0, fault_of e.1)) }
+{
     if !may_end(list, count) {
         return Err((0, DecoderError::RlpIncorrectListLen));
     }
