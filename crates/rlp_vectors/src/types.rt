@@ -54,6 +54,16 @@ row f90161+05a001010101010101010101010101010101010101010101010101010101010101018
 row c105 = RlpIncorrectListLen
 row c28105 = RlpIncorrectListLen";
 
+/// Nests of no pairs and of one, and bytes that are no nest of pairs: a list of no lists and of two, a
+/// pair with a number that isn't in its shortest form, and a pair of one such number.
+const NESTS: &str = "\
+any_nest c1c0 = c1c0
+any_nest c4c3c20102 = c4c3c20102
+any_nest c0 = RlpIncorrectListLen
+any_nest c2c0c0 = RlpIncorrectListLen
+any_nest c5c4c3810501 = RlpInvalidIndirection
+any_nest c4c3c28105 = RlpIncorrectListLen";
+
 /// Messages: kind 1 with 0 and with 1024, kind 2 with no bytes and with the bytes `ca fe`. And bytes
 /// that are no message: no list, one item and three, a number of two bytes in front, kind 3, a list
 /// as the number of kind 1, and a byte after the list.
@@ -82,6 +92,7 @@ fn is_as(alloc: Global, kind: &str, bytes: &[u8], want: &str) -> bool {
         "lenient_pair" => is_read(alloc, rlp::decode::<Pair>(alloc, bytes), want),
         "message" => is_read(alloc, rlp::decode_strict::<Message>(alloc, bytes), want),
         "row" => is_row(alloc, rlp::decode_strict::<Row>(alloc, bytes), bytes, want),
+        "any_nest" => is_read(alloc, rlp::decode::<Nest<Inner>>(alloc, bytes), want),
         "nest" => is_nest(alloc, bytes),
         "nests" => are_nests(alloc, bytes),
         "uint32" => is_number(alloc, rlp::decode::<Uint<32>>(alloc, bytes), bytes, want),
@@ -174,7 +185,7 @@ pub(crate) fn all_met(alloc: Global, tables: &[&str]) -> Result<(), Fail> {
 #[test]
 fn types_go_both_ways(rt: HostRuntime) -> Result<(), Fail> {
     let alloc = rt.alloc();
-    all_met(alloc, &[VALUES, NUMBERS, CUSTOM, MESSAGES])?;
+    all_met(alloc, &[VALUES, NUMBERS, CUSTOM, NESTS, MESSAGES])?;
     assert!(rt; slices_are_fields(alloc)?, "slices");
     Ok(())
 }
