@@ -143,8 +143,7 @@ impl<'a> Rlp<'a> {
         ensures { result ≡ item_count self.now }
     {
         if self.strict {
-            let (_, count) = self.counted_items()?;
-            return Ok(count);
+            return self.walked_count();
         }
         if !self.is_list() {
             return Err(DecoderError::RlpExpectedToBeList);
@@ -468,6 +467,15 @@ impl<'a> Rlp<'a> {
         }
         let items = self.items();
         Ok((items, count_items(items)))
+    }
+
+    /// The same as [`Rlp::item_count`], out of line.
+    #[inline(never)]
+    fn walked_count(&self) -> Result<usize, DecoderError>
+        ensures { result ≡ item_count self.now }
+    {
+        let (_, count) = self.counted_items()?;
+        Ok(count)
     }
 
     /// The items of a list that is all of the bytes, and their number, by one walk over it.
