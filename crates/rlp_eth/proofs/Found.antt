@@ -24,8 +24,8 @@ module _ (s : List ℕ) where
   other_len : (f : Fault) → fixed_of 32 s ≡ Err f → length s ≢ 32
   other_len f none = λ same.
       let r : fixed_of 32 s ≡ Ok s =
-          cond-false (ltb (length s) 32) _ _ (le-ltb (length s) 32 (omega (arith, same)))
-          ∙ cond-false (ltb 32 (length s)) _ _ (le-ltb 32 (length s) (omega (arith, same))) in
+      cond-false (ltb (length s) 32) _ _ (le-ltb (length s) 32 (omega (arith, same)))
+      ∙ cond-false (ltb 32 (length s)) _ _ (le-ltb 32 (length s) (omega (arith, same))) in
       cc
 
   number_found : (f : Fault) → fixed_of 32 s ≡ Err f → hash_or_number_of s ≡ map_value inr (number_of 8 s)

@@ -3,7 +3,9 @@
 
 ghost use Rattle.rlp_eth.specs.Announcements.{new_block_hash, new_block_hashes, new_pooled_transaction_hashes, block_range_update, new_block, transactions};
 
-use rlp::{Decodable, DecoderError, Each, Encodable, ListOf, Rlp, RlpStream, RoundTrip, StrictRead, Uint};
+use rlp::{
+    Decodable, DecoderError, Each, Encodable, ListOf, Rlp, RlpStream, RoundTrip, StrictRead, Uint,
+};
 use rlp_ethereum::{AnyTransaction, Block, Hash};
 use std::alloc::{AllocError, Global};
 

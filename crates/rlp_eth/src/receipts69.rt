@@ -2,7 +2,9 @@
 
 ghost use Rattle.rlp_eth.specs.Receipts69.{block_receipts69, receipt69, receipts69};
 
-use rlp::{Decodable, DecoderError, Each, Encodable, ListOf, Rlp, RlpStream, RoundTrip, StrictRead};
+use rlp::{
+    Decodable, DecoderError, Each, Encodable, ListOf, Rlp, RlpStream, RoundTrip, StrictRead,
+};
 use rlp_ethereum::{Log, ReceiptStatus};
 use std::alloc::{AllocError, Global};
 
