@@ -255,6 +255,13 @@ macro_rules! decode_fields {
             [$($moves)* let ($field, $left) = $left;] [$($names)* $field] $($($others)*)?
         )
     };
+    (@next $head:tt $left:ident [$($moves:tt)*] [$($names:ident)*] ($($field:ident),+ $(,)?) $(, $($others:tt)*)?) => {
+        $crate::decode_fields!(
+            @next $head $left
+            [$($moves)* let $crate::Joined(group, $left) = $left; $(let ($field, group) = group;)+ let () = group;]
+            [$($names)* $($field)+] $($($others)*)?
+        )
+    };
     (@next $head:tt $left:ident [$($moves:tt)*] [$($names:ident)*] $field:ident: [..] $(, $($others:tt)*)?) => {
         $crate::decode_fields!(
             @next $head $left
