@@ -1,17 +1,17 @@
 -- The items of a view, as a reader of items begins with them.
 use Rattle.std.proofs.Common.{◌≡◌, ℕ, ◌≤◌, true, false, MatchResult, IfOk, List, [], ◌∷◌, ◌++◌, length, map, ◌<◌, ◌^◌, Bool, arith, Result, Ok, Err, None, Some, refl, sym, ap, ◌∙◌}
 use Rattle.std.proofs.lemmas.Bool.{cond-true, cond-false}
-use Rattle.rlp_values.specs.declared.error.DecoderError.{DecoderError}
-use Rattle.rlp_values.specs.declared.error.DecoderError.TheVariants.{RlpExpectedToBeList}
-use Rattle.rlp_values.specs.declared.header.PayloadInfo.{PayloadInfo}
-use Rattle.rlp_values.specs.Format.Framing.{fault, framing, value}
-use Rattle.rlp_values.specs.Format.Split.{begins_as_list, items, payload, payload_in, split}
-use Rattle.rlp_values.specs.Format.Strict.{after_items, strict_list_fault}
-use Rattle.rlp_values.specs.Lemmas.Numbered.{item_count-fault, item_count-told, payload-fault, told_begins}
-use Rattle.rlp_values.specs.Views.View.{View, item_at, item_count, items_fault, list_fault}
-use Rattle.rlp_values.proofs.Format.Splits.{length-split, split-nil}
-use Rattle.rlp_values.proofs.Format.StrictLists.{after_items-next, strict_counted, value-items}
-use Rattle.rlp_values.proofs.Views.InOrder.{framed_place, unframed_place}
+use Rattle.rlp_reading.specs.declared.error.DecoderError.{DecoderError}
+use Rattle.rlp_reading.specs.declared.error.DecoderError.TheVariants.{RlpExpectedToBeList}
+use Rattle.rlp_reading.specs.declared.header.PayloadInfo.{PayloadInfo}
+use Rattle.rlp_reading.specs.Format.Framing.{fault, framing, value}
+use Rattle.rlp_reading.specs.Format.Split.{begins_as_list, items, payload, payload_in, split}
+use Rattle.rlp_reading.specs.Format.Strict.{after_items, strict_list_fault}
+use Rattle.rlp_reading.proofs.Lemmas.Numbered.{item_count-fault, item_count-told, payload-fault, told_begins}
+use Rattle.rlp_reading.specs.Views.View.{View, item_at, item_count, items_fault, list_fault}
+use Rattle.rlp_reading.proofs.Format.Splits.{length-split, split-nil}
+use Rattle.rlp_reading.proofs.Format.StrictLists.{after_items-next, strict_counted, value-items}
+use Rattle.rlp_reading.proofs.Views.InOrder.{framed_place, unframed_place}
 use Rattle.rlp.specs.Left.{AreCounted, ItemsLeft, after_next}
 
 no_items : (b : List ℕ) → payload b ≡ [] → items b ≡ []

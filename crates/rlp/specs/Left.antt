@@ -1,7 +1,7 @@
 -- What a reader of the items of a list has left.
 use Rattle.std.specs.Prelude.{ℕ, ◌≡◌, ◌≤◌, Bool, true, List, [], ◌∷◌, length, Result, Ok, Err}
-use Rattle.rlp_values.specs.declared.error.DecoderError.{DecoderError}
-use Rattle.rlp_values.specs.Views.View.{View}
+use Rattle.rlp_reading.specs.declared.error.DecoderError.{DecoderError}
+use Rattle.rlp_reading.specs.Views.View.{View}
 
 -- The views of the items that are left, in order, and the error past the last item.
 pub record ItemsLeft : Type 0 where

@@ -1,15 +1,13 @@
 -- The definitions, in reading order. Each folder lists its files in that order, with a line on each. Each word is defined before it is used.
 
 -- items, and the bytes that they are written as
-pub use Rattle.rlp_values.specs.Format
+pub use Rattle.rlp_reading.specs.Format
 -- the results of a view's methods
-pub use Rattle.rlp_values.specs.Views
+pub use Rattle.rlp_reading.specs.Views
 -- values, their items, and which bytes give them
-pub use Rattle.rlp_values.specs.Values
+pub use Rattle.rlp_reading.specs.Values
 -- streams: their states, and what each call makes of one
 pub mod Streams
--- lemmas for the laws of traits and for authors of types; readers of definitions don't need them
-pub use Rattle.rlp_values.specs.Lemmas
 -- how the values of types are written and read
 pub use Rattle.rlp_codec.specs.Form
 -- values of several types
@@ -20,26 +18,15 @@ pub use Rattle.rlp_codec.specs.Laws
 pub mod Left
 -- the codec of a custom type, from those of its fields, with its laws
 pub mod Codec
--- the proofs of the laws, and what follows from them; readers of definitions don't need them
-pub use Rattle.rlp_codec.proofs.StringLaws
-pub use Rattle.rlp_codec.proofs.ListLaws
-pub use Rattle.rlp_codec.proofs.FieldLaws
-pub use Rattle.rlp_codec.proofs.GroupLaws
-pub use Rattle.rlp_codec.proofs.StructLaws
-pub use Rattle.rlp_codec.proofs.SumLaws
-pub use Rattle.rlp_codec.proofs.RawLaws
-pub use Rattle.rlp_codec.proofs.EachField
-pub use Rattle.rlp_codec.proofs.Readings
-pub use Rattle.rlp_codec.proofs.Corollaries
 -- the faults of decoding
-pub use Rattle.rlp_values.specs.declared.error.DecoderError
+pub use Rattle.rlp_reading.specs.declared.error.DecoderError
 -- the lengths that a header announces
-pub use Rattle.rlp_values.specs.declared.header.PayloadInfo
+pub use Rattle.rlp_reading.specs.declared.header.PayloadInfo
 -- what a view begins with
-pub use Rattle.rlp_values.specs.declared.prototype.Prototype
+pub use Rattle.rlp_reading.specs.declared.prototype.Prototype
 -- an item of a tree in flat form, and the fault of bytes that have none
-pub use Rattle.rlp_values.specs.declared.flat.FlatItem
-pub use Rattle.rlp_values.specs.declared.flat.TreeFault
+pub use Rattle.rlp_reading.specs.declared.flat.FlatItem
+pub use Rattle.rlp_reading.specs.declared.flat.TreeFault
 -- numbers that are kept as n bytes
 pub use Rattle.rlp_format.specs.declared.uint.Uint
 -- what prints of a number

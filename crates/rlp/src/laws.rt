@@ -15,7 +15,7 @@ pub use reading::{
     number_is_read, one_reading, option_is_read, option_of_bytes_is_read, option_of_option_is_read,
     options_are_read, raw_item_is_read, string_is_read, struct_is_read, text_is_read,
 };
-pub use rlp_values::laws::{
+pub use rlp_reading::laws::{
     cuts_begin_one_another, digits_are_canonical, encoding_has_its_depth,
     encoding_in_front_is_unique, encoding_is_framed, encoding_is_prefix_free, frame_is_of_framed,
     framing_is_read, header_is_read, headers_are_prefix_free, join_is_injective,

@@ -17,8 +17,8 @@ ghost use Rattle.std.specs.Vec.{vec_items};
 ghost use Rattle.rlp_format.specs.Format.Item.{list_of};
 ghost use Rattle.rlp_format.specs.Format.Encoding.{encoding};
 ghost use Rattle.rlp_format.specs.Values.Value.{AreAlike};
-ghost use Rattle.rlp_values.specs.declared.error.DecoderError.TheVariants.{OutOfMemory};
-ghost use Rattle.rlp_values.specs.Views.View.{strict_view_of, view_of};
+ghost use Rattle.rlp_reading.specs.declared.error.DecoderError.TheVariants.{OutOfMemory};
+ghost use Rattle.rlp_reading.specs.Views.View.{strict_view_of, view_of};
 ghost use Rattle.rlp_codec.specs.Form.{Faults, Gives, list_reading};
 
 mod impls;
@@ -29,7 +29,7 @@ mod traits;
 
 pub use impls::RawItem;
 pub use rlp_format::Uint;
-pub use rlp_values::{DecoderError, FlatItem, PayloadInfo, Prototype, TreeFault};
+pub use rlp_reading::{DecoderError, FlatItem, PayloadInfo, Prototype, TreeFault};
 pub use rlp_write::{
     AppendFields, BasicEncoder, Chain, EMPTY_LIST_RLP, Each, Encodable, FieldsOf, Flattened,
     ListOf, NULL_RLP, Optional, OptionalGroupOf, OptionalListOf, RlpStream, encode, encode_list,

@@ -2,8 +2,8 @@
 
 ghost use Rattle.std.specs.Prelude.{◌≡◌, ◌+◌, ◌⊎◌, ◌^◌, Ok, Err, Some, IfOk, IfErr, IsTrue, slice_get};
 ghost use Rattle.std.specs.Vec.{vec_items};
-ghost use Rattle.rlp_values.specs.declared.error.DecoderError.TheVariants.{OutOfMemory};
-ghost use Rattle.rlp_values.specs.Values.FaultText.{field_fault_text};
+ghost use Rattle.rlp_reading.specs.declared.error.DecoderError.TheVariants.{OutOfMemory};
+ghost use Rattle.rlp_reading.specs.Values.FaultText.{field_fault_text};
 ghost use Rattle.rlp_codec.specs.Form.{Faults, FieldsReading, Gives, fault_of, group_before, list_reading, no_fields, one_field, part_fields, struct_reading};
 
 mod groups;
@@ -15,7 +15,7 @@ use crate::traits::Decodable;
 pub use groups::{FixedFields, Groups};
 pub use optional::{OptionalField, OptionalGroup};
 pub use parts::Joined;
-use rlp_values::error::DecoderError;
+use rlp_reading::error::DecoderError;
 use std::alloc::Global;
 use std::error::Error;
 use std::fmt;

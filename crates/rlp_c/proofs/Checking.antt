@@ -4,12 +4,12 @@ use Rattle.std.proofs.Common.{ltb-true, nat_lt, ◌&&◌, Result}
 use Rattle.std.specs.Bool.{⊤}
 use Rattle.std.specs.List.{list_all, slice_get}
 use Rattle.std.proofs.lemmas.Bool.{cases_Bool, cond-true, cond-false}
-use Rattle.rlp_values.specs.declared.error.DecoderError.{DecoderError}
-use Rattle.rlp_values.specs.Format.Split.{begins_as_list, items, payload, split}
-use Rattle.rlp_values.specs.Format.Strict.{strict_list_fault}
-use Rattle.rlp_values.specs.Views.View.{View, item_count, item_views, items_fault, strict_view_of}
-use Rattle.rlp_values.specs.Lemmas.Numbered.{item_count-fault, item_count-told, length-views}
-use Rattle.rlp_values.specs.Lemmas.StrictReads.{counted_items}
+use Rattle.rlp_reading.specs.declared.error.DecoderError.{DecoderError}
+use Rattle.rlp_reading.specs.Format.Split.{begins_as_list, items, payload, split}
+use Rattle.rlp_reading.specs.Format.Strict.{strict_list_fault}
+use Rattle.rlp_reading.specs.Views.View.{View, item_count, item_views, items_fault, strict_view_of}
+use Rattle.rlp_reading.proofs.Lemmas.Numbered.{item_count-fault, item_count-told, length-views}
+use Rattle.rlp_reading.proofs.Lemmas.StrictReads.{counted_items}
 use Rattle.rlp_codec.specs.Form.{Fault, and_then, fault_of, incorrect_list_len, map_fault, map_value, seen_fault}
 use Rattle.rlp_c.specs.declared.records.kinds.Kind.{Kind}
 use Rattle.rlp_c.specs.declared.records.kinds.Kind.TheVariants.{Number, Parity, Exactly, Recipient, Bytes, List as list_of}

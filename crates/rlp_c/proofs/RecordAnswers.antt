@@ -7,11 +7,11 @@ use Rattle.std.proofs.lemmas.Bool.Decides.{nat_tests}
 use Rattle.std.proofs.lemmas.List.{take_all}
 use Rattle.rlp_format.specs.Format.Item.{Item, list_of}
 use Rattle.rlp_format.specs.Format.Encoding.{IsSized, encoding}
-use Rattle.rlp_format.specs.Lemmas.Encodings.{listed_from}
-use Rattle.rlp_values.specs.Format.Split.{begins_as_list}
-use Rattle.rlp_values.specs.Views.View.{View, strict_view_of}
-use Rattle.rlp_values.specs.Lemmas.Views.{list_shape}
-use Rattle.rlp_values.specs.Lemmas.WholeLists.{strict_items, whole_sized}
+use Rattle.rlp_format.proofs.Lemmas.Encodings.{listed_from}
+use Rattle.rlp_reading.specs.Format.Split.{begins_as_list}
+use Rattle.rlp_reading.specs.Views.View.{View, strict_view_of}
+use Rattle.rlp_reading.proofs.Lemmas.Views.{list_shape}
+use Rattle.rlp_reading.proofs.Lemmas.WholeLists.{strict_items, whole_sized}
 use Rattle.rlp_codec.specs.Form.{Answer, Fault, custom, is_too_short, map_answer}
 use Rattle.rlp.specs.Codec.{truth_value}
 use Rattle.rlp_records.specs.Alone.{bytes_alone, unknown_type}

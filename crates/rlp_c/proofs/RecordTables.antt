@@ -1,7 +1,7 @@
 -- The table of kinds has the fields that the codecs read.
 use Rattle.std.proofs.Common.{◌≡◌, ℕ, zero, suc, ◌+◌, ◌-◌, ◌==◌, ◌&&◌, ◌||◌, Bool, true, false, nat_le, List, Some, None, Result, Ok, Err, refl, sym, ap, ◌∙◌, arith, le-leb}
 use Rattle.std.proofs.lemmas.Bool.Decides.{nat_tests}
-use Rattle.rlp_values.specs.Views.View.{strict_view_of}
+use Rattle.rlp_reading.specs.Views.View.{strict_view_of}
 use Rattle.rlp_codec.specs.Form.{Answer, Fault, FieldsReading, items_of, map_fault, struct_reading}
 use Rattle.rlp.specs.Codec.{byte_array, byte_string, list_type, number, truth_value}
 use Rattle.rlp_records.specs.Hash.{hash}

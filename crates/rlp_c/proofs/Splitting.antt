@@ -1,20 +1,20 @@
 -- The walk over the items of one list.
 use Rattle.std.proofs.Common.{◌≡◌, ℕ, ◌+◌, ◌-◌, ◌^◌, ◌<◌, ◌≤◌, ◌⊎◌, inl, inr, suc, true, List, [], ◌∷◌, ◌++◌, length, drop, refl, sym, ap, ◌∙◌}
 use Rattle.std.proofs.Common.{subst, arith, Ok, Some, None, append-nil, append_assoc, length-append}
-use Rattle.rlp_values.specs.declared.error.DecoderError.{DecoderError}
-use Rattle.rlp_values.specs.declared.header.PayloadInfo.{PayloadInfo}
-use Rattle.rlp_values.specs.Format.Framing.{IsFramedItem, fault, framing, value}
-use Rattle.rlp_values.specs.Format.Split.{begins_as_list, split}
-use Rattle.rlp_values.specs.Format.Strict.{after_items, fault_of_some, strict_fault, strict_list_fault}
-use Rattle.rlp_values.proofs.Format.Splits.{split-nil}
-use Rattle.rlp_values.proofs.Format.StrictLists.{after_items-next, after_items-nil, after_items-none, fault_of_some-some, strict_whole, value-items}
+use Rattle.rlp_reading.specs.declared.error.DecoderError.{DecoderError}
+use Rattle.rlp_reading.specs.declared.header.PayloadInfo.{PayloadInfo}
+use Rattle.rlp_reading.specs.Format.Framing.{IsFramedItem, fault, framing, value}
+use Rattle.rlp_reading.specs.Format.Split.{begins_as_list, split}
+use Rattle.rlp_reading.specs.Format.Strict.{after_items, fault_of_some, strict_fault, strict_list_fault}
+use Rattle.rlp_reading.proofs.Format.Splits.{split-nil}
+use Rattle.rlp_reading.proofs.Format.StrictLists.{after_items-next, after_items-nil, after_items-none, fault_of_some-some, strict_whole, value-items}
 use Rattle.rlp_c.specs.declared.item.RlpItem.{RlpItem}
 use Rattle.rlp_c.specs.Rows.{ArePlaced, IsItemized, header_length, row, row_by, rows_at}
 use Rattle.rlp_c.specs.Status.{fault_status}
-use Rattle.rlp_values.specs.Format.Walk.{Extends}
-use Rattle.rlp_values.proofs.Trees.Needless.{whole_item}
-use Rattle.rlp_values.proofs.Trees.Rows.{extends_both, extends_start}
-use Rattle.rlp_values.proofs.Trees.Walks.{content_payload}
+use Rattle.rlp_reading.specs.Format.Walk.{Extends}
+use Rattle.rlp_reading.proofs.Trees.Needless.{whole_item}
+use Rattle.rlp_reading.proofs.Trees.Rows.{extends_both, extends_start}
+use Rattle.rlp_reading.proofs.Trees.Walks.{content_payload}
 use Rattle.std.specs.List.{concat}
 
 -- the first items have rows, and the others are those of the rest

@@ -1,6 +1,6 @@
 -- The numbers of faults.
 use Rattle.std.proofs.Common.{◌≡◌, inl, inr, ℕ, ◌<◌, arith}
-use Rattle.rlp_values.specs.declared.error.DecoderError.{DecoderError}
+use Rattle.rlp_reading.specs.declared.error.DecoderError.{DecoderError}
 use Rattle.rlp_codec.specs.Form.{Fault, custom, data_len_with_zero, expected_data, expected_list, fault_of, inconsistent_len, incorrect_list_len, invalid_indirection, invalid_len}
 use Rattle.rlp_codec.specs.Form.{is_too_big, is_too_short, list_len_with_zero, out_of_memory}
 use Rattle.rlp_c.specs.Places.{IsFound}

@@ -2,7 +2,7 @@
 use Rattle.std.proofs.Common.{◌≡◌, ℕ, ◌+◌, ◌-◌, Bool, true, false, if◌then◌else◌, List, [], ◌∷◌, length, None, Option, Some, Result, Ok, Err, refl, sym, ap, ◌∙◌}
 use Rattle.std.specs.Bool.{⊤}
 use Rattle.std.proofs.lemmas.Bool.{cond-false, cond-true}
-use Rattle.rlp_values.specs.Views.View.{View, strict_view_of}
+use Rattle.rlp_reading.specs.Views.View.{View, strict_view_of}
 use Rattle.rlp_codec.specs.Form.{Answer, Fault, FieldsReading, Path, Reading, Taken, all_taken, and_then, go_on, here, in_list, incorrect_list_len, items_of}
 use Rattle.rlp_codec.specs.Form.{list_reading, map_answer, map_fault, map_value, read_each, read_struct, struct_reading, take_both, take_if, take_item}
 use Rattle.rlp_c.specs.declared.records.kinds.Kind.{Kind}

@@ -1,6 +1,6 @@
 -- What a function for C returns and leaves in its result parameter.
 use Rattle.std.specs.Prelude.{ℕ, ◌≡◌, Bool, List, Result, Ok, Err}
-use Rattle.rlp_values.specs.Views.View.{View}
+use Rattle.rlp_reading.specs.Views.View.{View}
 use Rattle.rlp_codec.specs.Form.{Fault}
 use Rattle.rlp_c.specs.Status.{fault_number}
 

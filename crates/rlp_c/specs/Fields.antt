@@ -1,6 +1,6 @@
 -- What the items of records give, read by the codecs of `rlp_transactions` and `rlp_headers`, and which item has a fault.
 use Rattle.std.specs.Prelude.{ℕ, ◌+◌, ⊤, List, [], ◌∷◌, Option, Some, None, Result, Err}
-use Rattle.rlp_values.specs.Views.View.{View}
+use Rattle.rlp_reading.specs.Views.View.{View}
 use Rattle.rlp_codec.specs.Form.{Answer, Fault, Path, incorrect_list_len, map_fault, map_value}
 use Rattle.rlp.specs.Codec.{byte_array, byte_string, list_type, number, truth_value}
 use Rattle.rlp_records.specs.Hash.{hash}

@@ -1,16 +1,16 @@
 //! The items of one list as rows.
 
 ghost use Rattle.std.specs.Prelude.{◌≡◌, ◌+◌, ◌<◌, ◌^◌, length, None, Some, IfOk, MatchResult};
-ghost use Rattle.rlp_values.specs.Format.Split.{split};
-ghost use Rattle.rlp_values.specs.Format.Strict.{after_items, fault_of_some, strict_list_fault};
-ghost use Rattle.rlp_values.specs.Format.Walk.{Extends};
+ghost use Rattle.rlp_reading.specs.Format.Split.{split};
+ghost use Rattle.rlp_reading.specs.Format.Strict.{after_items, fault_of_some, strict_list_fault};
+ghost use Rattle.rlp_reading.specs.Format.Walk.{Extends};
 ghost use Rattle.rlp_c.specs.Rows.{IsItemized, rows_at};
 
 use crate::item::{RlpItem, bit};
 use crate::status::{RLP_NO_ROOM, RLP_OK, status_of};
 use rlp::DecoderError;
-use rlp_values::framed::{begins_as_list, first_framed, whole_framed};
-use rlp_values::walking::put;
+use rlp_reading::framed::{begins_as_list, first_framed, whole_framed};
+use rlp_reading::walking::put;
 
 /// Writes a row for each item of the list that the bytes are. It doesn't look into the items.
 /// `count` gets the number of items. The elements behind their rows stay as they were. If the array

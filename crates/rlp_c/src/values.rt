@@ -1,7 +1,7 @@
 //! Values that are read from one string.
 
 ghost use Rattle.std.specs.Prelude.{◌≡◌};
-ghost use Rattle.rlp_values.specs.Format.StringReading.{IsString};
+ghost use Rattle.rlp_reading.specs.Format.StringReading.{IsString};
 ghost use Rattle.rlp_format.specs.Format.WrittenHeader.{big_endian};
 ghost use Rattle.rlp_codec.specs.Form.{map_value, string_of};
 ghost use Rattle.rlp.specs.Codec.{number};

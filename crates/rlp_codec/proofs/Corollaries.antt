@@ -2,24 +2,24 @@
 use Rattle.std.proofs.Common.{refl, ◌≡◌, ◌↔◌, ◌⊎◌, ⊎_elim, ℕ, ◌^◌, ◌<◌, true, false, IsTrue, List, [], ◌∷◌, ◌++◌, length, map, sym, ap, ◌∙◌, subst}
 use Rattle.std.proofs.Common.{Result, Ok, Err, IfOk, IfErr, IsOkAnd, append-nil}
 use Rattle.std.specs.List.{All}
-use Rattle.rlp_values.specs.declared.error.DecoderError.{DecoderError}
-use Rattle.rlp_values.specs.declared.error.DecoderError.TheVariants.{OutOfMemory}
+use Rattle.rlp_reading.specs.declared.error.DecoderError.{DecoderError}
+use Rattle.rlp_reading.specs.declared.error.DecoderError.TheVariants.{OutOfMemory}
 use Rattle.rlp_format.specs.Format.Item.{list_of}
 use Rattle.rlp_format.specs.Format.WrittenHeader.{AreBytes}
 use Rattle.rlp_format.specs.Format.Encoding.{BeginsWith, IsSized, encoding}
 use Rattle.rlp_format.specs.Values.Value.{AreAlike}
-use Rattle.rlp_values.specs.Values.RoundTrip.{AlwaysReadsBack, AlwaysReadsStrictly}
-use Rattle.rlp_values.specs.Values.RoundTrip as words
-use Rattle.rlp_values.specs.Values.ValueReading.{GivesValue}
-use Rattle.rlp_values.specs.Views.View.{View, item_at, strict_view_of, view_of}
+use Rattle.rlp_reading.specs.Values.RoundTrip.{AlwaysReadsBack, AlwaysReadsStrictly}
+use Rattle.rlp_reading.specs.Values.RoundTrip as words
+use Rattle.rlp_reading.specs.Values.ValueReading.{GivesValue}
+use Rattle.rlp_reading.specs.Views.View.{View, item_at, strict_view_of, view_of}
 use Rattle.std.proofs.lemmas.List.Elements.{All-from_recursion, recursion_from_All}
 use Rattle.rlp_codec.proofs.ListLaws.{each_told, item_back, items_sized, list_back, list_type_only}
-use Rattle.rlp_values.specs.Values.ListReading.{GivesEach, GivesList}
-use Rattle.rlp_values.specs.Lemmas.ListRoundTrips.{list_item_reads_back}
+use Rattle.rlp_reading.specs.Values.ListReading.{GivesEach, GivesList}
+use Rattle.rlp_reading.proofs.Lemmas.ListRoundTrips.{list_item_reads_back}
 use Rattle.rlp_codec.specs.Form.{Form, Fault, Faults, Gives, Reading, and_then, fault_of, list_reading, reading_at, seen_fault}
 use Rattle.std.specs.List.{AllByRecursion}
-use Rattle.rlp_format.specs.Lemmas.Encodings.{front_sized}
-use Rattle.rlp_values.specs.Lemmas.Numbered.{item_views-list}
+use Rattle.rlp_format.proofs.Lemmas.Encodings.{front_sized}
+use Rattle.rlp_reading.proofs.Lemmas.Numbered.{item_views-list}
 use Rattle.rlp_codec.specs.Laws.{views_of, GivesOnly, IsLawful, IsReadBack, IsSeen}
 
 -- ---- one reading

@@ -5,7 +5,7 @@ use Rattle.std.specs.List.{AllByRecursion}
 use Rattle.rlp_format.specs.Format.Encoding.{IsSized, encoding}
 use Rattle.rlp_format.specs.Format.Item.{Item}
 use Rattle.rlp_format.specs.Values.Value.{items_if}
-use Rattle.rlp_values.specs.Views.View.{View}
+use Rattle.rlp_reading.specs.Views.View.{View}
 use Rattle.rlp_codec.proofs.ListLaws.{not_faulty, goes_on, is_mapped, item_back, item_only}
 use Rattle.rlp_codec.specs.Form.{Answer, Form, Fault, FieldsForm, Taken, and_then, each, end, field, group, map_fault, map_value, one, optional, optional_group, take_both, take_if, take_item}
 use Rattle.rlp_codec.specs.Laws.{AreLawful, AreSeen, GivesOnly, IsLawful, IsSeen, IsStrictPart, ReadsBack, TakesBack, TakesOnly, viewed, views_of}

@@ -4,12 +4,12 @@ use Rattle.std.proofs.lemmas.List.Elements.{All-from_recursion, recursion_from_A
 use Rattle.rlp_format.specs.Format.Encoding.{IsSized, encoding}
 use Rattle.rlp_format.specs.Format.Item.{Item}
 use Rattle.rlp_format.specs.Format.WrittenHeader.{AreBytes}
-use Rattle.rlp_values.specs.declared.error.DecoderError.{DecoderError}
-use Rattle.rlp_values.specs.Lemmas.OneReading.{front_bytes}
-use Rattle.rlp_values.specs.Lemmas.RawItems.{view_frame-held}
-use Rattle.rlp_values.specs.Lemmas.Reading.{Bytes}
-use Rattle.rlp_values.specs.Values.RawItem.{view_frame}
-use Rattle.rlp_values.specs.Views.View.{Holds}
+use Rattle.rlp_reading.specs.declared.error.DecoderError.{DecoderError}
+use Rattle.rlp_reading.proofs.Lemmas.OneReading.{front_bytes}
+use Rattle.rlp_reading.proofs.Lemmas.RawItems.{view_frame-held}
+use Rattle.rlp_reading.proofs.Lemmas.Reading.{Bytes}
+use Rattle.rlp_reading.specs.Values.RawItem.{view_frame}
+use Rattle.rlp_reading.specs.Views.View.{Holds}
 use Rattle.rlp_codec.specs.FirstItems.{item_type}
 use Rattle.rlp_codec.specs.Form.{Answer, Fault, and_then, seen_fault}
 use Rattle.rlp_codec.specs.Laws.{GivesOnly, IsLawful, ReadsBack, viewed}

@@ -7,8 +7,8 @@ use Rattle.std.specs.List.{AllByRecursion}
 use Rattle.rlp_format.specs.Format.Encoding.{IsSized, encoding}
 use Rattle.rlp_format.specs.Format.Item.{Item}
 use Rattle.rlp_format.specs.Values.Value.{all_items}
-use Rattle.rlp_values.specs.Lemmas.Groups.{groups_counted, groups_right}
-use Rattle.rlp_values.specs.Views.View.{View}
+use Rattle.rlp_reading.proofs.Lemmas.Groups.{groups_counted, groups_right}
+use Rattle.rlp_reading.specs.Views.View.{View}
 use Rattle.rlp_codec.proofs.ListLaws.{goes_on, is_mapped}
 use Rattle.rlp_codec.specs.Form.{Fault, FieldsForm, Taken, and_then, groups, map_value, take_each}
 use Rattle.rlp_codec.specs.Laws.{AreLawful, AreSeen, IsStrictPart, TakesBack, TakesOnly, viewed, views_of}

@@ -5,19 +5,19 @@ use Rattle.std.specs.List.{AllByRecursion}
 use Rattle.std.proofs.lemmas.List.Elements.{All-from_recursion, recursion_from_All}
 use Rattle.std.proofs.lemmas.List.{map-append}
 use Rattle.std.proofs.lemmas.Simd.{map-map}
-use Rattle.rlp_values.specs.declared.error.DecoderError.{DecoderError}
+use Rattle.rlp_reading.specs.declared.error.DecoderError.{DecoderError}
 use Rattle.rlp_format.specs.Format.Item.{Item, list_of}
 use Rattle.rlp_format.specs.Format.WrittenHeader.{AreBytes}
 use Rattle.rlp_format.specs.Format.Encoding.{encoding, join, IsSized}
 use Rattle.rlp_format.specs.Values.Value.{option_item}
-use Rattle.rlp_format.specs.Lemmas.Encodings.{encoding_list, front_sized, small_payload}
-use Rattle.rlp_values.specs.Format.Split.{items}
-use Rattle.rlp_values.specs.Format.Strict.{strict_list_fault}
-use Rattle.rlp_values.specs.Views.View.{View, Holds, item_count, item_views, items_fault, strict_view_of, view_of}
-use Rattle.rlp_values.specs.Lemmas.Numbered.{item_count-fault, item_count-list, item_count-told, item_views-list}
-use Rattle.rlp_values.specs.Lemmas.StrictLists.{IsPart, item_parts}
-use Rattle.rlp_values.specs.Lemmas.StrictReads.{counted_told, told_whole}
-use Rattle.rlp_values.specs.Lemmas.WholeLists.{strict_item_count, strict_items, whole_list, whole_sized}
+use Rattle.rlp_format.proofs.Lemmas.Encodings.{encoding_list, front_sized, small_payload}
+use Rattle.rlp_reading.specs.Format.Split.{items}
+use Rattle.rlp_reading.specs.Format.Strict.{strict_list_fault}
+use Rattle.rlp_reading.specs.Views.View.{View, Holds, item_count, item_views, items_fault, strict_view_of, view_of}
+use Rattle.rlp_reading.proofs.Lemmas.Numbered.{item_count-fault, item_count-list, item_count-told, item_views-list}
+use Rattle.rlp_reading.proofs.Lemmas.StrictLists.{IsPart, item_parts}
+use Rattle.rlp_reading.proofs.Lemmas.StrictReads.{counted_told, told_whole}
+use Rattle.rlp_reading.proofs.Lemmas.WholeLists.{strict_item_count, strict_items, whole_list, whole_sized}
 use Rattle.rlp_codec.specs.Form.{Form, Fault, and_then, holding, items_of, list_of_views, list_type, map_fault, map_value, newtype, option, read_each, read_option}
 use Rattle.rlp_codec.specs.Form.{fault_of, seen_fault}
 use Rattle.rlp_codec.specs.Laws.{ReadsBack, GivesOnly, IsLawful, IsReadBack, IsSeen, IsStrictPart, viewed, views_of}

@@ -6,17 +6,17 @@ use Rattle.std.proofs.lemmas.Bool.{cases_lt, cond-true, cond-false}
 use Rattle.std.proofs.lemmas.Slice.Eq.{bytes_eq-Decides}
 use Rattle.rlp_format.specs.Format.Encoding.{encoding}
 use Rattle.rlp_format.specs.Format.Item.{item_depth}
-use Rattle.rlp_format.specs.Lemmas.Encodings.{front_sized}
-use Rattle.rlp_values.specs.declared.error.DecoderError.{DecoderError}
-use Rattle.rlp_values.specs.declared.header.PayloadInfo.{PayloadInfo}
-use Rattle.rlp_values.specs.Format.Framing.{frame, framing, map_ok, total_len}
-use Rattle.rlp_values.specs.Format.Strict.{IsCanonicalWithin, strict_fault, unless}
-use Rattle.rlp_values.specs.Values.RawItem.{IsRawItem, deepest_raw_item, raw_item_of, view_frame}
-use Rattle.rlp_values.specs.Views.Depth.{depth}
-use Rattle.rlp_values.specs.Views.View.{Holds}
-use Rattle.rlp_values.specs.Lemmas.Depths.{depth_of_item}
-use Rattle.rlp_values.specs.Lemmas.RawItems.{encoding-item_within, raw_encoding, raw_if, shallow_within, view_frame-held}
-use Rattle.rlp_values.proofs.Views.Fronts.{long_header}
+use Rattle.rlp_format.proofs.Lemmas.Encodings.{front_sized}
+use Rattle.rlp_reading.specs.declared.error.DecoderError.{DecoderError}
+use Rattle.rlp_reading.specs.declared.header.PayloadInfo.{PayloadInfo}
+use Rattle.rlp_reading.specs.Format.Framing.{frame, framing, map_ok, total_len}
+use Rattle.rlp_reading.specs.Format.Strict.{IsCanonicalWithin, strict_fault, unless}
+use Rattle.rlp_reading.specs.Values.RawItem.{IsRawItem, deepest_raw_item, raw_item_of, view_frame}
+use Rattle.rlp_reading.specs.Views.Depth.{depth}
+use Rattle.rlp_reading.specs.Views.View.{Holds}
+use Rattle.rlp_reading.proofs.Lemmas.Depths.{depth_of_item}
+use Rattle.rlp_reading.proofs.Lemmas.RawItems.{encoding-item_within, raw_encoding, raw_if, shallow_within, view_frame-held}
+use Rattle.rlp_reading.proofs.Views.Fronts.{long_header}
 use Rattle.rlp_codec.specs.Form.{and_then, custom, raw_item, raw_of, seen_fault}
 use Rattle.rlp_codec.specs.Laws.{GivesOnly, IsLawful, ReadsBack, viewed}
 

@@ -3,20 +3,20 @@ use Rattle.std.proofs.Common.{◌≡◌, ℕ, zero, suc, ◌^◌, ◌<◌, ◌�
 use Rattle.rlp_format.specs.Format.Item.{Item, list_of, string}
 use Rattle.rlp_format.specs.Format.WrittenHeader.{AreBytes}
 use Rattle.rlp_format.specs.Values.Value.{bit, number_item, option_item}
-use Rattle.rlp_values.specs.declared.error.DecoderError.{DecoderError}
-use Rattle.rlp_values.specs.declared.error.DecoderError.TheVariants.{RlpIsTooBig, RlpIsTooShort, RlpExpectedToBeList, RlpExpectedToBeData}
-use Rattle.rlp_values.specs.declared.error.DecoderError.TheVariants.{RlpIncorrectListLen, RlpDataLenWithZeroPrefix, RlpListLenWithZeroPrefix}
-use Rattle.rlp_values.specs.declared.error.DecoderError.TheVariants.{RlpInvalidIndirection, RlpInconsistentLengthAndData, RlpInvalidLength, Custom}
-use Rattle.rlp_values.specs.declared.error.DecoderError.TheVariants.{OutOfMemory}
-use Rattle.rlp_values.specs.Format.Split.{items}
-use Rattle.rlp_values.specs.Lemmas.Numbered.{item_at-slice_get}
-use Rattle.rlp_values.specs.Lemmas.StrictLists.{IsPart, item_parts}
-use Rattle.rlp_values.specs.Values.RawItem.{raw_item_of}
+use Rattle.rlp_reading.specs.declared.error.DecoderError.{DecoderError}
+use Rattle.rlp_reading.specs.declared.error.DecoderError.TheVariants.{RlpIsTooBig, RlpIsTooShort, RlpExpectedToBeList, RlpExpectedToBeData}
+use Rattle.rlp_reading.specs.declared.error.DecoderError.TheVariants.{RlpIncorrectListLen, RlpDataLenWithZeroPrefix, RlpListLenWithZeroPrefix}
+use Rattle.rlp_reading.specs.declared.error.DecoderError.TheVariants.{RlpInvalidIndirection, RlpInconsistentLengthAndData, RlpInvalidLength, Custom}
+use Rattle.rlp_reading.specs.declared.error.DecoderError.TheVariants.{OutOfMemory}
+use Rattle.rlp_reading.specs.Format.Split.{items}
+use Rattle.rlp_reading.proofs.Lemmas.Numbered.{item_at-slice_get}
+use Rattle.rlp_reading.proofs.Lemmas.StrictLists.{IsPart, item_parts}
+use Rattle.rlp_reading.specs.Values.RawItem.{raw_item_of}
 use Rattle.std.specs.List.{AllByRecursion, slice_get}
-use Rattle.rlp_values.specs.Values.StructReading.{HoldsOrHasOneFault}
-use Rattle.rlp_values.specs.Values.ValueReading.{HasOneReading, IsSameFault}
-use Rattle.rlp_values.specs.Views.Text.{error_name}
-use Rattle.rlp_values.specs.Views.View.{View, item_at, item_count, item_views}
+use Rattle.rlp_reading.specs.Values.StructReading.{HoldsOrHasOneFault}
+use Rattle.rlp_reading.specs.Values.ValueReading.{HasOneReading, IsSameFault}
+use Rattle.rlp_reading.specs.Views.Text.{error_name}
+use Rattle.rlp_reading.specs.Views.View.{View, item_at, item_count, item_views}
 use Rattle.rlp_codec.proofs.Corollaries.{not_both, one_fault, one_value}
 use Rattle.rlp_codec.specs.Form.{Answer, Fault, Faults, Form, Gives, Reading, and_then, custom, data_len_with_zero, expected_data, expected_list, fault_of}
 use Rattle.rlp_codec.specs.Form.{inconsistent_len, incorrect_list_len, invalid_indirection, invalid_len, is_too_big, is_too_short, items_of, list_len_with_zero}

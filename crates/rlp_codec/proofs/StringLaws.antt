@@ -8,20 +8,20 @@ use Rattle.std.specs.Int.Digits.{number_from_digits}
 use Rattle.std.proofs.lemmas.Bool.{cases_Bool, cond-true, cond-false, eqb-false}
 use Rattle.std.proofs.lemmas.Str.{IsUtf8-from_is_utf8, is_utf8-from_IsUtf8}
 use Rattle.std.proofs.lemmas.List.Elements.{All-from_recursion, recursion_from_All}
-use Rattle.rlp_values.specs.declared.error.DecoderError.{DecoderError}
+use Rattle.rlp_reading.specs.declared.error.DecoderError.{DecoderError}
 use Rattle.rlp_format.specs.Format.Item.{string}
 use Rattle.rlp_format.specs.Format.WrittenHeader.{AreBytes, big_endian, written_header}
 use Rattle.rlp_format.specs.Format.Encoding.{encoding, string_encoding, is_low_byte}
 use Rattle.rlp_format.specs.Values.Value.{FitsBytes, bit}
-use Rattle.rlp_format.specs.Lemmas.Digits.{big_endian_first, big_endian_value, bytes_held, big_endian_zero, digits_fit, digits_again}
-use Rattle.rlp_format.specs.Lemmas.Encodings.{front_sized}
-use Rattle.rlp_values.specs.Format.StringReading.{IsString}
-use Rattle.rlp_values.specs.Views.View.{View, HoldsString, view_string}
-use Rattle.rlp_values.specs.Values.ValueReading.{GivesNumber}
-use Rattle.rlp_values.specs.Lemmas.OneReading.{front_bytes, back_bytes, few_digits}
-use Rattle.rlp_values.specs.Lemmas.Reading.{Bytes}
-use Rattle.rlp_values.specs.Lemmas.StringsHeld.{ReadsHeld, held_begins, held_only, held_reads}
-use Rattle.rlp_values.specs.Lemmas.Told.{string_sized}
+use Rattle.rlp_format.proofs.Lemmas.Digits.{big_endian_first, big_endian_value, bytes_held, big_endian_zero, digits_fit, digits_again}
+use Rattle.rlp_format.proofs.Lemmas.Encodings.{front_sized}
+use Rattle.rlp_reading.specs.Format.StringReading.{IsString}
+use Rattle.rlp_reading.specs.Views.View.{View, HoldsString, view_string}
+use Rattle.rlp_reading.specs.Values.ValueReading.{GivesNumber}
+use Rattle.rlp_reading.proofs.Lemmas.OneReading.{front_bytes, back_bytes, few_digits}
+use Rattle.rlp_reading.proofs.Lemmas.Reading.{Bytes}
+use Rattle.rlp_reading.proofs.Lemmas.StringsHeld.{ReadsHeld, held_begins, held_only, held_reads}
+use Rattle.rlp_reading.proofs.Lemmas.Told.{string_sized}
 use Rattle.rlp_codec.specs.Form.{Fault, and_then, custom, expected_data, invalid_indirection, is_too_big, is_too_short, seen_fault}
 use Rattle.rlp_codec.specs.Form.{string_of, number_of, bit_of, text_of, fixed_of, begins_with_zero}
 use Rattle.rlp_codec.specs.Form.{string_type, number, truth_value, byte_string, text, byte_array}

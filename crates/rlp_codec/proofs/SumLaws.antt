@@ -4,16 +4,16 @@ use Rattle.std.proofs.Common.{arith, Result, Ok, Err, append-nil, eq-eqb}
 use Rattle.std.proofs.lemmas.Bool.{cases_lt, cond-true, cond-false, lt-leb}
 use Rattle.std.proofs.lemmas.Bool.{eqb-true}
 use Rattle.std.proofs.lemmas.List.Elements.{All-from_recursion, recursion_from_All}
-use Rattle.rlp_values.specs.declared.error.DecoderError.TheVariants.{RlpExpectedToBeData}
+use Rattle.rlp_reading.specs.declared.error.DecoderError.TheVariants.{RlpExpectedToBeData}
 use Rattle.rlp_format.specs.Format.Item.{Item, is_list, list, list_of, string}
 use Rattle.rlp_format.specs.Format.WrittenHeader.{AreBytes}
 use Rattle.rlp_format.specs.Format.Encoding.{BeginsWith, IsSized, encoding}
-use Rattle.rlp_values.specs.Format.Split.{begins_as_list}
-use Rattle.rlp_values.specs.Format.StringReading.{IsString}
-use Rattle.rlp_values.specs.Views.View.{View, Holds, strict_view_of}
-use Rattle.rlp_values.specs.Values.Sums.{OnSum, sum_item}
-use Rattle.rlp_values.specs.Lemmas.Strings.{string_list, string_only}
-use Rattle.rlp_values.specs.Lemmas.Sums.{list_first}
+use Rattle.rlp_reading.specs.Format.Split.{begins_as_list}
+use Rattle.rlp_reading.specs.Format.StringReading.{IsString}
+use Rattle.rlp_reading.specs.Views.View.{View, Holds, strict_view_of}
+use Rattle.rlp_reading.specs.Values.Sums.{OnSum, sum_item}
+use Rattle.rlp_reading.proofs.Lemmas.Strings.{string_list, string_only}
+use Rattle.rlp_reading.proofs.Lemmas.Sums.{list_first}
 use Rattle.std.specs.List.{AllByRecursion}
 use Rattle.rlp_format.specs.Values.Value.{FitsBytes, number_item}
 use Rattle.rlp_codec.specs.Form.{Answer, Form, Fault, and_then, custom, items_of, map_value, number}

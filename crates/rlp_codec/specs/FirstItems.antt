@@ -1,7 +1,7 @@
 -- Types that are read from the whole first item of a view.
 use Rattle.std.specs.Prelude.{ℕ, List, Bool}
 use Rattle.rlp_format.specs.Format.Item.{Item}
-use Rattle.rlp_values.specs.Values.RawItem.{view_frame}
+use Rattle.rlp_reading.specs.Values.RawItem.{view_frame}
 use Rattle.rlp_codec.specs.Form.{Answer, Fault, Form, go_on, here, seen_fault}
 
 -- A type that is read from the bytes of the first item of a view, and so from the same bytes whether the view is strict or lenient: which values fit, the item of a

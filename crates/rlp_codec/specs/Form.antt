@@ -8,14 +8,14 @@ use Rattle.rlp_format.specs.Format.Item.{Item, string, list_of}
 use Rattle.rlp_format.specs.Format.WrittenHeader.{big_endian}
 use Rattle.rlp_format.specs.Format.Encoding.{encoding}
 use Rattle.rlp_format.specs.Values.Value.{FitsBytes, all_items, bit, items_if, option_item}
-use Rattle.rlp_values.specs.declared.error.DecoderError.{DecoderError}
-use Rattle.rlp_values.specs.declared.error.DecoderError.TheVariants.{RlpIsTooBig, RlpIsTooShort, RlpExpectedToBeList, RlpExpectedToBeData}
-use Rattle.rlp_values.specs.declared.error.DecoderError.TheVariants.{RlpIncorrectListLen, RlpDataLenWithZeroPrefix, RlpListLenWithZeroPrefix}
-use Rattle.rlp_values.specs.declared.error.DecoderError.TheVariants.{RlpInvalidIndirection, RlpInconsistentLengthAndData, RlpInvalidLength, Custom}
-use Rattle.rlp_values.specs.declared.error.DecoderError.TheVariants.{OutOfMemory}
-use Rattle.rlp_values.specs.Views.Depth.{depth}
-use Rattle.rlp_values.specs.Views.View.{View, item_at, item_count, item_views, view_string}
-use Rattle.rlp_values.specs.Values.RawItem.{deepest_raw_item, raw_item_of, view_frame}
+use Rattle.rlp_reading.specs.declared.error.DecoderError.{DecoderError}
+use Rattle.rlp_reading.specs.declared.error.DecoderError.TheVariants.{RlpIsTooBig, RlpIsTooShort, RlpExpectedToBeList, RlpExpectedToBeData}
+use Rattle.rlp_reading.specs.declared.error.DecoderError.TheVariants.{RlpIncorrectListLen, RlpDataLenWithZeroPrefix, RlpListLenWithZeroPrefix}
+use Rattle.rlp_reading.specs.declared.error.DecoderError.TheVariants.{RlpInvalidIndirection, RlpInconsistentLengthAndData, RlpInvalidLength, Custom}
+use Rattle.rlp_reading.specs.declared.error.DecoderError.TheVariants.{OutOfMemory}
+use Rattle.rlp_reading.specs.Views.Depth.{depth}
+use Rattle.rlp_reading.specs.Views.View.{View, item_at, item_count, item_views, view_string}
+use Rattle.rlp_reading.specs.Values.RawItem.{deepest_raw_item, raw_item_of, view_frame}
 
 -- ---- faults and answers
 

@@ -4,9 +4,9 @@ use Rattle.std.specs.List.{AllByRecursion}
 use Rattle.rlp_format.specs.Format.Item.{Item}
 use Rattle.rlp_format.specs.Format.WrittenHeader.{AreBytes}
 use Rattle.rlp_format.specs.Format.Encoding.{IsSized, encoding}
-use Rattle.rlp_values.specs.Views.View.{View, Holds, strict_view_of}
-use Rattle.rlp_values.specs.declared.error.DecoderError.{DecoderError}
-use Rattle.rlp_values.specs.Values.ValueReading.{IsSameFault}
+use Rattle.rlp_reading.specs.Views.View.{View, Holds, strict_view_of}
+use Rattle.rlp_reading.specs.declared.error.DecoderError.{DecoderError}
+use Rattle.rlp_reading.specs.Values.ValueReading.{IsSameFault}
 use Rattle.rlp_codec.specs.Form.{Faults, Form, FieldsForm, FieldsReading, Gives, Reading}
 use Rattle.rlp_codec.specs.Sums.{CasesForm}
 

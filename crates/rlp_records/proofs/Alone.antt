@@ -6,7 +6,7 @@ use Rattle.rlp.specs.Format.Encoding.{encoding}
 use Rattle.rlp.specs.Format.Split.{begins_as_list}
 use Rattle.rlp.specs.Format.WrittenHeader.{AreBytes}
 use Rattle.rlp.specs.Values.Sums.{OnSum, sum_item}
-use Rattle.rlp_values.specs.Lemmas.Sums.{list_first}
+use Rattle.rlp_reading.proofs.Lemmas.Sums.{list_first}
 use Rattle.rlp_codec.specs.Form.{Answer, Fault, Form, map_value}
 use Rattle.rlp_codec.specs.Laws.{CasesAreLawful, IsLawful}
 use Rattle.rlp_codec.specs.Sums.{CasesForm, envelope, sum_map}

@@ -10,14 +10,14 @@ use Rattle.rlp.specs.Format.Item.{Item}
 use Rattle.rlp.specs.Format.Encoding.{encoding}
 use Rattle.rlp.specs.Format.Strict.{IsCanonicalWithin}
 use Rattle.rlp.specs.Format.TreeFaults.{tree_fault}
-use Rattle.rlp.specs.Lemmas.Encodings.{encoding_same}
-use Rattle.rlp.specs.Lemmas.RawItems.{raw_item_of-encoding, shallow_within}
+use Rattle.rlp.proofs.Lemmas.Encodings.{encoding_same}
+use Rattle.rlp.proofs.Lemmas.RawItems.{raw_item_of-encoding, shallow_within}
 use Rattle.rlp.specs.Values.RawItem.{raw_item_of}
 use Rattle.rlp.specs.Views.View.{View, strict_view_of}
-use Rattle.rlp_values.specs.Format.Walk.{IsWalked}
-use Rattle.rlp_values.specs.declared.flat.FlatItem.{FlatItem}
-use Rattle.rlp_values.specs.declared.flat.TreeFault.{TreeFault}
-use Rattle.rlp_values.specs.declared.flat.TreeFault.TheVariants.{Decoding, TooDeep}
+use Rattle.rlp_reading.specs.Format.Walk.{IsWalked}
+use Rattle.rlp_reading.specs.declared.flat.FlatItem.{FlatItem}
+use Rattle.rlp_reading.specs.declared.flat.TreeFault.{TreeFault}
+use Rattle.rlp_reading.specs.declared.flat.TreeFault.TheVariants.{Decoding, TooDeep}
 use Rattle.rlp_codec.specs.Form.{Answer, Fault, Form, custom, fault_of}
 use Rattle.rlp_codec.specs.Laws.{IsLawful}
 use Rattle.rlp_records.specs.Bounded.{IsBounded, IsWithinBounds, bound_fault, count_fault, depth_fault, is_encoding, items_in, items_in_envelopes, read_bounded, unless_fault}

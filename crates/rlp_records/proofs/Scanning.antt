@@ -14,9 +14,9 @@ use Rattle.rlp.specs.Format.Header.{HasHeader, lone, payload_info, written}
 use Rattle.rlp.specs.Format.Split.{begins_as_list}
 use Rattle.rlp.specs.Format.Strict.{IsCanonical, IsCanonicalWithin, strict_fault}
 use Rattle.rlp.specs.Format.Walk.{IsWalked}
-use Rattle.rlp.specs.Lemmas.Encodings.{first_of_header, list_written, string_cases}
-use Rattle.rlp.specs.Lemmas.Frames.{encoding_item, frame_front, framed_same, framing_is, item_some, value_is}
-use Rattle.rlp.specs.Lemmas.RawItems.{list_by, raw_item_of-encoding, shallow_within}
+use Rattle.rlp.proofs.Lemmas.Encodings.{first_of_header, list_written, string_cases}
+use Rattle.rlp.proofs.Lemmas.Frames.{encoding_item, frame_front, framed_same, framing_is, item_some, value_is}
+use Rattle.rlp.proofs.Lemmas.RawItems.{list_by, raw_item_of-encoding, shallow_within}
 use Rattle.rlp.specs.Values.RawItem.{raw_item_of}
 use Rattle.rlp_records.proofs.AfterByte.{with_first}
 use Rattle.rlp_records.proofs.Bounds.{one_item, told_encoding, told_no_encoding}

@@ -11,8 +11,8 @@ use Rattle.rlp.specs.Format.TreeFaults.{tree_fault}
 use Rattle.rlp.specs.Values.RawItem.{raw_item_of}
 use Rattle.rlp.specs.Views.View.{View, strict_view_of}
 use Rattle.rlp_codec.specs.Form.{Answer, Fault, custom, fault_of, here}
-use Rattle.rlp_values.specs.declared.flat.TreeFault.{TreeFault}
-use Rattle.rlp_values.specs.declared.flat.TreeFault.TheVariants.{Decoding, TooDeep}
+use Rattle.rlp_reading.specs.declared.flat.TreeFault.{TreeFault}
+use Rattle.rlp_reading.specs.declared.flat.TreeFault.TheVariants.{Decoding, TooDeep}
 
 -- the number of strings and lists in an item: itself, and the items in it at every depth
 abbrev pub items_in : Item → ℕ

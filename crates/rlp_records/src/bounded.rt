@@ -9,7 +9,7 @@ ghost use Rattle.rlp_records.specs.Bounded.{IsBounded, IsWithinBounds, bound_fau
 
 use crate::envelope_items::{GREATEST_DEPTH, items_in_envelopes};
 use rlp::{DecoderError, FlatItem, StrictRead, TreeFault};
-use rlp_values::walking::walk_whole;
+use rlp_reading::walking::walk_whole;
 use std::alloc::Global;
 
 /// The record whose whole encoding the bytes are, if it has at most `most` items. Each string and

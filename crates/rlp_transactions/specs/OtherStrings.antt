@@ -10,10 +10,10 @@ use Rattle.rlp.specs.Format.Split.{begins_as_list}
 use Rattle.rlp.specs.Format.WrittenHeader.{AreBytes}
 use Rattle.rlp.specs.Values.Sums.{OnSum, sum_item}
 use Rattle.rlp.specs.Views.View.{View, Holds, HoldsItem, strict_view_of, view_string}
-use Rattle.rlp_values.specs.Format.StringReading.{read_string}
-use Rattle.rlp_values.specs.Lemmas.Strings.{string_list}
-use Rattle.rlp_values.specs.Lemmas.StringsHeld.{ReadsHeld, held_begins, held_fault, held_only, held_reads}
-use Rattle.rlp_values.specs.Lemmas.Sums.{list_first}
+use Rattle.rlp_reading.specs.Format.StringReading.{read_string}
+use Rattle.rlp_reading.proofs.Lemmas.Strings.{string_list}
+use Rattle.rlp_reading.proofs.Lemmas.StringsHeld.{ReadsHeld, held_begins, held_fault, held_only, held_reads}
+use Rattle.rlp_reading.proofs.Lemmas.Sums.{list_first}
 use Rattle.rlp_codec.specs.Form.{Answer, Fault, Form, here, map_answer, map_value, seen_fault, string_of}
 use Rattle.rlp_codec.specs.Laws.{GivesOnly, IsLawful, IsSeen, viewed}
 use Rattle.rlp_codec.specs.Sums.{sum_map}

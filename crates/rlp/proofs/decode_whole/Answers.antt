@@ -1,6 +1,6 @@
 use Rattle.std.proofs.Common.{IsTrue, arith, true}
-use Rattle.rlp_values.specs.Views.View.{strict_view_of}
-use Rattle.rlp_format.specs.Lemmas.Digits.{bytes_held}
+use Rattle.rlp_reading.specs.Views.View.{strict_view_of}
+use Rattle.rlp_format.proofs.Lemmas.Digits.{bytes_held}
 use Rattle.rlp_codec.specs.Laws.{form_of}
 use Rattle.rlp_codec.proofs.Corollaries.{answers_alike, answers_memory, answers_only, answers_whole}
 use Rattle.rlp.proofs.decode_whole.Goals as goal

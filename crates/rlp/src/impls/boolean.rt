@@ -5,7 +5,7 @@ ghost use Rattle.rlp.specs.Codec.{truth_value};
 
 use crate::rlpin::Rlp;
 use crate::traits::{Decodable, RoundTrip, Scalar, StrictRead};
-use rlp_values::error::DecoderError;
+use rlp_reading::error::DecoderError;
 use std::alloc::Global;
 
 /// Reads a number as `u8` does: 0 is `false` and 1 is `true`. Fails with

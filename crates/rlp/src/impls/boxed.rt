@@ -8,7 +8,7 @@ ghost use Rattle.rlp_codec.specs.Laws.{form_of};
 
 use crate::rlpin::Rlp;
 use crate::traits::{Decodable, RoundTrip, Scalar, StrictRead};
-use rlp_values::error::DecoderError;
+use rlp_reading::error::DecoderError;
 use std::alloc::Global;
 
 /// Reads a value of type `T`, and puts it into a box.

@@ -5,7 +5,7 @@ ghost use Rattle.rlp.specs.Codec.{byte_array};
 
 use crate::rlpin::Rlp;
 use crate::traits::{Decodable, RoundTrip, Scalar, StrictRead};
-use rlp_values::error::DecoderError;
+use rlp_reading::error::DecoderError;
 use std::alloc::Global;
 
 /// Reads a string of exactly `N` bytes. It doesn't allocate.

@@ -6,7 +6,7 @@ ghost use Rattle.rlp.specs.Codec.{byte_string};
 use crate::rlpin::Rlp;
 use crate::traits::{Decodable, RoundTrip, Scalar, StrictRead};
 use bytes::BytesMut;
-use rlp_values::error::DecoderError;
+use rlp_reading::error::DecoderError;
 use std::alloc::Global;
 
 /// Reads the bytes of a string, with one copy, as a buffer that grows.

@@ -10,8 +10,8 @@ ghost use Rattle.rlp.specs.Codec.{number};
 use crate::rlpin::{Rlp, may_end_at, short_string};
 use crate::traits::{Decodable, RoundTrip, Scalar, StrictRead};
 use rlp_format::digits::{number_of, wide_number_of};
-use rlp_values::error::DecoderError;
-use rlp_values::numbers::few_digits;
+use rlp_reading::error::DecoderError;
+use rlp_reading::numbers::few_digits;
 use std::alloc::Global;
 
 /// Reads a number of at most one byte. Fails with the same errors as for `u64`.

@@ -6,7 +6,7 @@ ghost use Rattle.rlp_codec.specs.Laws.{form_of};
 
 use crate::rlpin::{Fields, Rlp};
 use crate::traits::{Decodable, RoundTrip, StrictRead};
-use rlp_values::error::DecoderError;
+use rlp_reading::error::DecoderError;
 use std::alloc::Global;
 
 /// Reads `None` from a list of no items, and `Some` of the item's value from a list of one item. Of

@@ -3,11 +3,11 @@
 ghost use Rattle.std.specs.Prelude.{◌≡◌, ◌⊎◌, Ok, Err, IfOk, IfErr, false, nat_eq};
 ghost use Rattle.std.specs.Cmp.{partial_equiv_from_equiv};
 ghost use Rattle.std.specs.Cmp.Lexicographic.{nat_list_eq_equiv, pointwise};
-ghost use Rattle.rlp_values.specs.declared.error.DecoderError.TheVariants.{OutOfMemory};
-ghost use Rattle.rlp_values.specs.Views.View.{strict_view_of};
+ghost use Rattle.rlp_reading.specs.declared.error.DecoderError.TheVariants.{OutOfMemory};
+ghost use Rattle.rlp_reading.specs.Views.View.{strict_view_of};
 ghost use Rattle.rlp_format.specs.Format.Encoding.{encoding};
-ghost use Rattle.rlp_values.specs.Format.Strict.{IsCanonicalWithin};
-ghost use Rattle.rlp_values.specs.Values.RawItem.{IsRawItem, deepest_raw_item, raw_item_of};
+ghost use Rattle.rlp_reading.specs.Format.Strict.{IsCanonicalWithin};
+ghost use Rattle.rlp_reading.specs.Values.RawItem.{IsRawItem, deepest_raw_item, raw_item_of};
 ghost use Rattle.rlp_codec.specs.Form.{fault_of, raw_of};
 ghost use Rattle.rlp_codec.proofs.RawLaws.{raw_only};
 ghost use Rattle.rlp.specs.Codec.{raw_item};
@@ -15,7 +15,7 @@ ghost use Rattle.rlp.specs.Codec.{raw_item};
 use crate::rlpin::Rlp;
 use crate::traits::{Decodable, RoundTrip, Scalar, StrictRead};
 use bytes::BytesMut;
-use rlp_values::error::DecoderError;
+use rlp_reading::error::DecoderError;
 use rlp_write::{Encodable, RlpStream, append_list_encoding};
 use std::alloc::{AllocError, Global};
 use std::marker::Model;
@@ -37,7 +37,7 @@ pub struct RawItem {
 
 impl Model for RawItem {
     ghost use Rattle.std.specs.Prelude.{List, ℕ};
-    ghost use Rattle.rlp_values.specs.Values.RawItem.{IsRawItem};
+    ghost use Rattle.rlp_reading.specs.Values.RawItem.{IsRawItem};
 
     ghost Value = { List ℕ };
 
@@ -61,7 +61,7 @@ impl RawItem {
     /// let item = rlp::RawItem::new(alloc, &[0xc1, 0x05])?;
     /// assert!(rt; rlp::RawItem::new(alloc, &[0x81, 0x05]).is_err());
     /// ```
-    #[tactic(auto, using(rlp_codec::proofs::RawLaws::raw_readings, rlp_values::specs::Lemmas::RawItems::raw_if))]
+    #[tactic(auto, using(rlp_codec::proofs::RawLaws::raw_readings, rlp_reading::proofs::Lemmas::RawItems::raw_if))]
     pub fn new(alloc: Global, bytes: &[u8]) -> Result<RawItem, DecoderError>
         ensures value { IfOk result (λ r. (r ≡ bytes.now) × IsRawItem bytes.now) }
         ensures read { IfOk result (λ r. raw_of bytes.now ≡ Ok r) }
@@ -80,7 +80,7 @@ impl RawItem {
     }
 
     /// The bytes: the encoding of the item.
-    #[tactic(auto, using(rlp_values::specs::Lemmas::RawItems::raw_bytes))]
+    #[tactic(auto, using(rlp_reading::proofs::Lemmas::RawItems::raw_bytes))]
     pub fn as_bytes(&self) -> &[u8]
         ensures bytes { result.now ≡ self.now }
         ensures canonical { IsRawItem self.now × IsCanonicalWithin deepest_raw_item self.now }

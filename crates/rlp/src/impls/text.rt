@@ -6,7 +6,7 @@ ghost use Rattle.rlp.specs.Codec.{text};
 
 use crate::rlpin::Rlp;
 use crate::traits::{Decodable, RoundTrip, Scalar, StrictRead};
-use rlp_values::error::DecoderError;
+use rlp_reading::error::DecoderError;
 use std::alloc::Global;
 
 /// Reads a string as text, with one copy. Fails with `RlpExpectedToBeData` if the bytes aren't

@@ -11,7 +11,7 @@ use crate::impls::number::number_digits;
 use crate::rlpin::Rlp;
 use crate::traits::{Decodable, RoundTrip, Scalar, StrictRead};
 use rlp_format::Uint;
-use rlp_values::error::DecoderError;
+use rlp_reading::error::DecoderError;
 use std::alloc::Global;
 
 /// Reads a number of at most `N` bytes. Fails with the same errors as for `u64`.

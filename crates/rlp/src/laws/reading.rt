@@ -5,11 +5,11 @@ ghost use Rattle.rlp_format.specs.Format.Encoding.{encoding};
 ghost use Rattle.rlp_format.specs.Format.Item.{Item, item_depth, string};
 ghost use Rattle.rlp_format.specs.Format.WrittenHeader.{AreBytes};
 ghost use Rattle.rlp_format.specs.Values.Value.{bit, number_item, option_item};
-ghost use Rattle.rlp_values.specs.Format.StringReading.{IsString, ReadsString, read_string};
-ghost use Rattle.rlp_values.specs.Values.RawItem.{deepest_raw_item, raw_item_of};
-ghost use Rattle.rlp_values.specs.Values.StructReading.{HoldsOrHasOneFault};
-ghost use Rattle.rlp_values.specs.Values.ValueReading.{HasOneReading};
-ghost use Rattle.rlp_values.specs.Views.View.{View, strict_view_of, view_of};
+ghost use Rattle.rlp_reading.specs.Format.StringReading.{IsString, ReadsString, read_string};
+ghost use Rattle.rlp_reading.specs.Values.RawItem.{deepest_raw_item, raw_item_of};
+ghost use Rattle.rlp_reading.specs.Values.StructReading.{HoldsOrHasOneFault};
+ghost use Rattle.rlp_reading.specs.Values.ValueReading.{HasOneReading};
+ghost use Rattle.rlp_reading.specs.Views.View.{View, strict_view_of, view_of};
 ghost use Rattle.rlp_codec.specs.Form.{Faults, Gives, byte_array, byte_string, number, option, option_reading, raw_item, reading_at, struct_reading, text, truth_value};
 ghost use Rattle.rlp_codec.specs.Laws.{HasOneAnswer};
 
@@ -130,7 +130,7 @@ pub fn struct_is_read<F: DecodeFields>(rlp: &Rlp<'_>)
 {}
 
 /// Bytes that are the encoding of an item of depth at most 256 are a raw item of that item.
-#[tactic(auto, using(rlp_values::specs::Lemmas::RawItems::raw_bytes))]
+#[tactic(auto, using(rlp_reading::proofs::Lemmas::RawItems::raw_bytes))]
 pub fn encodings_are_raw_items(bytes: &[u8])
     ensures { (x : Item) → bytes.now ≡ encoding x → item_depth x ≤ deepest_raw_item
         → raw_item_of bytes.now ≡ x }

@@ -1,18 +1,18 @@
 //! Encodings are read back, for every type with the law of `RoundTrip`.
 
 ghost use Rattle.std.specs.Prelude.{◌≡◌, ◌↔◌, ◌++◌, ◌∷◌, ℕ, List, All, IfErr, IfOk, IsOkAnd, IsTrue, length, map};
-ghost use Rattle.rlp_values.specs.declared.error.DecoderError.TheVariants.{OutOfMemory};
+ghost use Rattle.rlp_reading.specs.declared.error.DecoderError.TheVariants.{OutOfMemory};
 ghost use Rattle.rlp_format.specs.Format.Encoding.{BeginsWith, encoding};
 ghost use Rattle.rlp_format.specs.Format.Item.{list_of};
-ghost use Rattle.rlp_values.specs.Values.RoundTrip.{ReadsBack};
-ghost use Rattle.rlp_values.specs.Values.ValueReading.{GivesValue};
-ghost use Rattle.rlp_values.specs.Format.Split.{items};
+ghost use Rattle.rlp_reading.specs.Values.RoundTrip.{ReadsBack};
+ghost use Rattle.rlp_reading.specs.Values.ValueReading.{GivesValue};
+ghost use Rattle.rlp_reading.specs.Format.Split.{items};
 ghost use Rattle.rlp_format.specs.Values.Value.{AreAlike};
-ghost use Rattle.rlp_values.specs.Views.View.{HoldsItem, view_of};
+ghost use Rattle.rlp_reading.specs.Views.View.{HoldsItem, view_of};
 ghost use Rattle.rlp_codec.specs.Form.{Faults, Gives, list_reading, reading_at};
 
 use crate::traits::{RoundTrip, Scalar};
-use rlp_values::error::DecoderError;
+use rlp_reading::error::DecoderError;
 use std::alloc::Global;
 
 /// A slice that begins with the encoding of a value that fits gives exactly the values that fit and

@@ -1,29 +1,29 @@
 //! Views of both kinds, and what strict views give.
 
 ghost use Rattle.std.specs.Prelude.{◌≡◌, ◌+◌, ◌<◌, ◌^◌, ◌↔◌, ◌⊎◌, ℕ, List, All, if◌then◌else◌, length, Ok, Err, Some, None, IfErr, IfOk, IsOkAnd, map};
-ghost use Rattle.rlp_values.specs.declared.error.DecoderError.TheVariants.{OutOfMemory, RlpExpectedToBeList, RlpIsTooBig};
+ghost use Rattle.rlp_reading.specs.declared.error.DecoderError.TheVariants.{OutOfMemory, RlpExpectedToBeList, RlpIsTooBig};
 ghost use Rattle.rlp_format.specs.Format.Encoding.{BeginsWith, encoding};
 ghost use Rattle.rlp_format.specs.Format.WrittenHeader.{AreBytes};
-ghost use Rattle.rlp_values.specs.Format.Header.{HasHeader};
-ghost use Rattle.rlp_values.specs.Format.Framing.{IsFramed, fault, framing, value};
-ghost use Rattle.rlp_values.specs.Format.Split.{begins_as_list, items};
-ghost use Rattle.rlp_values.specs.Format.StringReading.{read_string};
-ghost use Rattle.rlp_values.specs.Format.Strict.{IsCanonical, strict_fault};
+ghost use Rattle.rlp_reading.specs.Format.Header.{HasHeader};
+ghost use Rattle.rlp_reading.specs.Format.Framing.{IsFramed, fault, framing, value};
+ghost use Rattle.rlp_reading.specs.Format.Split.{begins_as_list, items};
+ghost use Rattle.rlp_reading.specs.Format.StringReading.{read_string};
+ghost use Rattle.rlp_reading.specs.Format.Strict.{IsCanonical, strict_fault};
 ghost use Rattle.rlp_format.specs.Format.Item.{Item, list_of, string};
-ghost use Rattle.rlp_values.specs.Values.RoundTrip.{ReadsStrictly};
-ghost use Rattle.rlp_values.specs.Values.ValueReading.{HasOneReading};
+ghost use Rattle.rlp_reading.specs.Values.RoundTrip.{ReadsStrictly};
+ghost use Rattle.rlp_reading.specs.Values.ValueReading.{HasOneReading};
 ghost use Rattle.rlp_codec.specs.Form.{Faults, Gives, byte_array, byte_string, number, option_reading, text, truth_value};
 ghost use Rattle.rlp_format.specs.Values.Value.{AreAlike, bit, number_item, option_item};
-ghost use Rattle.rlp_values.specs.Views.View.{HoldsItem, View, item_by, item_count, item_with_place, list_fault, strict_view_of, view_header, view_of, view_string, view_value};
+ghost use Rattle.rlp_reading.specs.Views.View.{HoldsItem, View, item_by, item_count, item_with_place, list_fault, strict_view_of, view_header, view_of, view_string, view_value};
 
 use crate::traits::{Decodable, StrictRead};
-use rlp_values::error::DecoderError;
+use rlp_reading::error::DecoderError;
 use rlp_write::Encodable;
 use std::alloc::Global;
 
 /// Why bytes aren't exactly one framed item: they aren't framed, or bytes follow the framed item.
 /// Canonical bytes have no such fault.
-#[tactic(auto, using(rlp_format::specs::Lemmas::Digits::bytes_held, rlp_values::proofs::Views::ViewKinds::strict_canonical, rlp_values::proofs::Views::ViewKinds::strict_followed, rlp_values::proofs::Views::ViewKinds::strict_unframed, rlp_values::proofs::Views::ViewKinds::strict_whole))]
+#[tactic(auto, using(rlp_format::proofs::Lemmas::Digits::bytes_held, rlp_reading::proofs::Views::ViewKinds::strict_canonical, rlp_reading::proofs::Views::ViewKinds::strict_followed, rlp_reading::proofs::Views::ViewKinds::strict_unframed, rlp_reading::proofs::Views::ViewKinds::strict_whole))]
 pub fn strict_fault_is_read(bytes: &[u8])
     ensures whole { (h n : ℕ) → HasHeader bytes.now h n → h + n ≡ length bytes.now
         → strict_fault bytes.now ≡ None }
@@ -35,7 +35,7 @@ pub fn strict_fault_is_read(bytes: &[u8])
 
 /// Each definition over a lenient view equals the one over its bytes, whatever follows the first
 /// item.
-#[tactic(auto, using(rlp_values::proofs::Views::ViewKinds::lenient_count, rlp_values::proofs::Views::ViewKinds::lenient_place))]
+#[tactic(auto, using(rlp_reading::proofs::Views::ViewKinds::lenient_count, rlp_reading::proofs::Views::ViewKinds::lenient_place))]
 pub fn lenient_views_ignore_what_follows(bytes: &[u8])
     ensures header { view_header (view_of bytes.now) ≡ framing bytes.now }
     ensures value { view_value (view_of bytes.now) ≡ value bytes.now }

@@ -1,15 +1,15 @@
 //! Strings that hold a tag and the encoding of a payload.
 
 ghost use Rattle.std.specs.Prelude.{◌≡◌, ◌∷◌, ◌⊎◌, [], Err, IfErr, IfOk, IsTrue, Ok};
-ghost use Rattle.rlp_values.specs.declared.error.DecoderError.TheVariants.{OutOfMemory, RlpIsTooShort};
+ghost use Rattle.rlp_reading.specs.declared.error.DecoderError.TheVariants.{OutOfMemory, RlpIsTooShort};
 ghost use Rattle.rlp_format.specs.Format.Encoding.{encoding};
-ghost use Rattle.rlp_values.specs.Views.View.{strict_view_of};
+ghost use Rattle.rlp_reading.specs.Views.View.{strict_view_of};
 ghost use Rattle.rlp_codec.specs.Form.{Faults, fault_of, string_of};
 
 use crate::decode_whole;
 use crate::rlpin::Rlp;
 use crate::traits::StrictRead;
-use rlp_values::error::DecoderError;
+use rlp_reading::error::DecoderError;
 use std::alloc::Global;
 
 /// A string whose first byte is a tag: the tag, and the bytes after it, which should be the

@@ -1,19 +1,19 @@
 //! The items of a list, read in order as values.
 
 ghost use Rattle.std.specs.Prelude.{◌≡◌, ◌≢◌, ◌≤◌, ◌∷◌, ◌⊎◌, ◌↔◌, [], ℕ, length, map, None, Ok, Err, Some, IfOk, IfErr, IsOkAnd, IsTrue, MatchOption, MatchResult, OnOk};
-ghost use Rattle.rlp_values.specs.declared.error.DecoderError.TheVariants.{OutOfMemory, RlpIncorrectListLen};
-ghost use Rattle.rlp_values.specs.Format.Framing.{fault};
-ghost use Rattle.rlp_values.specs.Format.Split.{split};
-ghost use Rattle.rlp_values.specs.Format.Strict.{after_items};
-ghost use Rattle.rlp_values.specs.Views.View.{View, item_at, item_count, item_views, items_fault};
+ghost use Rattle.rlp_reading.specs.declared.error.DecoderError.TheVariants.{OutOfMemory, RlpIncorrectListLen};
+ghost use Rattle.rlp_reading.specs.Format.Framing.{fault};
+ghost use Rattle.rlp_reading.specs.Format.Split.{split};
+ghost use Rattle.rlp_reading.specs.Format.Strict.{after_items};
+ghost use Rattle.rlp_reading.specs.Views.View.{View, item_at, item_count, item_views, items_fault};
 ghost use Rattle.rlp_codec.specs.Form.{and_then, fault_of, items_of, list_of_views, list_reading, seen_fault};
 ghost use Rattle.rlp.specs.Left.{AreCounted, ItemsLeft, after_next, next_item};
 
 use crate::rlpin::rlp::Rlp;
 use crate::traits::Decodable;
-use rlp_values::error::DecoderError;
-use rlp_values::framed::first_framed;
-use rlp_values::items::{ItemReader, count_items};
+use rlp_reading::error::DecoderError;
+use rlp_reading::framed::first_framed;
+use rlp_reading::items::{ItemReader, count_items};
 use std::alloc::Global;
 use std::marker::Model;
 
@@ -67,7 +67,7 @@ impl<'a> Rlp<'a> {
 
     /// The same as [`Rlp::fields`] for a list of `len` items. Fails with `RlpIncorrectListLen` if
     /// the list has a different number of items.
-    #[tactic(auto, using(rlp_codec::proofs::ListLaws::items_told, rlp_values::proofs::Views::InOrder::counted_told))]
+    #[tactic(auto, using(rlp_codec::proofs::ListLaws::items_told, rlp_reading::proofs::Views::InOrder::counted_told))]
     pub fn fields_of(&self, len: usize) -> Result<Fields<'a>, DecoderError>
         ensures items { IfOk result (λ f. items_of self.now ≡ Ok f.views) }
         ensures past { IfOk result (λ f. (i : ℕ) → length f.views ≤ i

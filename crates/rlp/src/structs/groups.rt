@@ -7,7 +7,7 @@ ghost use Rattle.rlp_codec.specs.Form.{group_fields};
 use crate::rlpin::Fields;
 use crate::structs::DecodeFields;
 use crate::traits::Decodable;
-use rlp_values::error::DecoderError;
+use rlp_reading::error::DecoderError;
 use std::alloc::Global;
 
 /// Fields that are a fixed number of items, such as a key and a value.

@@ -5,7 +5,7 @@ ghost use Rattle.rlp_codec.specs.Form.{one_field, optional_fields};
 use crate::rlpin::Fields;
 use crate::structs::DecodeFields;
 use crate::traits::Decodable;
-use rlp_values::error::DecoderError;
+use rlp_reading::error::DecoderError;
 use std::alloc::Global;
 
 /// A last field that may be missing.

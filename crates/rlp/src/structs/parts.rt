@@ -4,7 +4,7 @@ ghost use Rattle.rlp_codec.specs.Form.{group_before, part_fields};
 
 use crate::rlpin::Fields;
 use crate::structs::{DecodeFields, FixedFields};
-use rlp_values::error::DecoderError;
+use rlp_reading::error::DecoderError;
 use std::alloc::Global;
 
 /// Fields that are a fixed number of items, and those after them.

@@ -2,8 +2,8 @@
 
 ghost use Rattle.std.specs.Prelude.{◌≡◌, ◌+◌, ◌<◌, ◌^◌, ◌↔◌, IsOk, IsTrue, length};
 ghost use Rattle.rlp_format.specs.Format.Encoding.{encoding};
-ghost use Rattle.rlp_values.specs.Format.Split.{items};
-ghost use Rattle.rlp_values.specs.Views.View.{strict_view_of};
+ghost use Rattle.rlp_reading.specs.Format.Split.{items};
+ghost use Rattle.rlp_reading.specs.Views.View.{strict_view_of};
 ghost use Rattle.rlp_records.specs.Alone.{bytes_alone};
 ghost use Rattle.rlp_transactions.specs.Transaction.{transaction};
 ghost use Rattle.rlp_transactions.specs.TransactionParts.{type_of};
@@ -23,8 +23,8 @@ use crate::item::RlpItem;
 use crate::split::split_list;
 use crate::status::{RLP_NO_ROOM, RLP_OK, RLP_UNKNOWN_TYPE, status_of};
 use rlp::DecoderError;
-use rlp_values::framed::begins_as_list;
-use rlp_values::items::{ItemReader, count_items};
+use rlp_reading::framed::begins_as_list;
+use rlp_reading::items::{ItemReader, count_items};
 
 /// Writes a row for each field of the transaction that the bytes are by themselves, as in EIP-2718,
 /// and its type, which is 0 for a legacy transaction. `count` gets the number of fields, or if one
@@ -146,7 +146,7 @@ fn is_found(status: u32) -> bool
 
 /// The number of the field that has the fault of this status, if the number that the fault came with
 /// is `number`.
-#[tactic(auto, unfolding(rlp_values::specs::Format::Split::items))]
+#[tactic(auto, unfolding(rlp_reading::specs::Format::Split::items))]
 fn faulty_field(list: Record, bytes: &[u8], number: usize, status: u32) -> usize
     ensures { result ≡ faulty_field (most_fields list) (length (items bytes.now)) number status }
 {

@@ -3,7 +3,7 @@
 ghost use Rattle.std.specs.Prelude.{◌≡◌, Ok, Err, MatchResult, OnOk};
 ghost use Rattle.std.specs.Int.Digits.{number_from_digits};
 ghost use Rattle.rlp_format.specs.Format.WrittenHeader.{big_endian};
-ghost use Rattle.rlp_values.specs.Views.View.{item_count, strict_view_of};
+ghost use Rattle.rlp_reading.specs.Views.View.{item_count, strict_view_of};
 ghost use Rattle.rlp_codec.specs.Form.{and_then, bit_of, fault_of, fixed_of, number_of, string_of};
 ghost use Rattle.rlp_codec.specs.Kinds.{read_kind};
 ghost use Rattle.rlp_transactions.specs.Recipient.{account_of};
@@ -11,7 +11,7 @@ ghost use Rattle.rlp_c.specs.Fields.{field_result, record_result, without_value}
 
 use super::kinds::{Kind, Record, kind_at, may_end};
 use rlp::{DecoderError, Rlp};
-use rlp_values::items::ItemReader;
+use rlp_reading::items::ItemReader;
 
 /// Tests whether the bytes of an item are a record. It fails with the fault of the codec, and with
 /// the number of the field that has the fault, from 1 on, or 0 for the record as a whole.

@@ -1,6 +1,6 @@
 use Rattle.std.proofs.Common.{inl, inr, refl, sym, ◌∙◌, arith}
-use Rattle.rlp_values.specs.declared.error.DecoderError.TheVariants.{RlpExpectedToBeList}
-use Rattle.rlp_values.proofs.Format.StrictLists.{strict_not_begun, strict_not_whole, strict_whole}
+use Rattle.rlp_reading.specs.declared.error.DecoderError.TheVariants.{RlpExpectedToBeList}
+use Rattle.rlp_reading.proofs.Format.StrictLists.{strict_not_begun, strict_not_whole, strict_whole}
 use Rattle.rlp_c.proofs.Splitting.{itemized, not_itemized, payload_fits}
 use Rattle.rlp_c.proofs.split.split_list.Goals as goal
 

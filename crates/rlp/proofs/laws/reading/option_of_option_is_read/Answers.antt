@@ -1,5 +1,5 @@
 use Rattle.std.proofs.Common.{arith}
-use Rattle.rlp_format.specs.Lemmas.Digits.{bytes_held}
+use Rattle.rlp_format.proofs.Lemmas.Digits.{bytes_held}
 use Rattle.rlp_codec.specs.Form.{option_reading}
 use Rattle.rlp_codec.proofs.Readings.{option_one}
 use Rattle.rlp.proofs.laws.reading.option_of_option_is_read.Goals as goal

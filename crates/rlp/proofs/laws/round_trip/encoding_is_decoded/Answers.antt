@@ -1,5 +1,5 @@
 use Rattle.std.proofs.Common.{IsTrue, arith}
-use Rattle.rlp_values.specs.Views.View.{view_of}
+use Rattle.rlp_reading.specs.Views.View.{view_of}
 use Rattle.rlp_codec.specs.Laws.{form_of}
 use Rattle.rlp_codec.proofs.Corollaries.{answers_alike, answers_memory}
 use Rattle.rlp.proofs.laws.round_trip.encoding_is_decoded.Goals as goal

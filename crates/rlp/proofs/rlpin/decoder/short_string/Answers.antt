@@ -1,6 +1,6 @@
 use Rattle.std.proofs.Common.{rules, refl, arith}
-use Rattle.rlp_values.specs.Views.View.{View}
-use Rattle.rlp_values.specs.Lemmas.StringsHeld.{after_held, first_held, held_only}
+use Rattle.rlp_reading.specs.Views.View.{View}
+use Rattle.rlp_reading.proofs.Lemmas.StringsHeld.{after_held, first_held, held_only}
 use Rattle.rlp.proofs.rlpin.decoder.short_string.Goals as goal
 
 pub returns-in-0-to-127-clause-held : goal.returns-in-0-to-127-clause-held

@@ -1,7 +1,7 @@
 use Rattle.std.proofs.Common.{ap, arith, sym, subst, ◌∙◌}
-use Rattle.rlp_values.specs.Format.Split.{payload}
+use Rattle.rlp_reading.specs.Format.Split.{payload}
 use Rattle.rlp_codec.specs.Form.{fault_of}
-use Rattle.rlp_values.specs.Views.View.{strict_view_of}
+use Rattle.rlp_reading.specs.Views.View.{strict_view_of}
 use Rattle.rlp_c.specs.Fields.{field_result}
 use Rattle.rlp_c.proofs.Checking.{IsChecking, checking_fault, checking_none, field_below, field_rank}
 use Rattle.rlp_c.proofs.records.fields.+fields.Goals as goal

@@ -1,5 +1,5 @@
-use Rattle.rlp_format.specs.Lemmas.Digits.{none_is_zero}
-use Rattle.rlp_values.specs.Lemmas.Numbers.{leading_is_value}
+use Rattle.rlp_format.proofs.Lemmas.Digits.{none_is_zero}
+use Rattle.rlp_reading.proofs.Lemmas.Numbers.{leading_is_value}
 use Rattle.rlp_c.proofs.records.fields.check_number.Goals as goal
 
 pub returns-in-empty-clause-digits : goal.returns-in-empty-clause-digits

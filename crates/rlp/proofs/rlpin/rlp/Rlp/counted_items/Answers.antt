@@ -1,5 +1,5 @@
 use Rattle.std.proofs.Common.{◌≡◌, true, ap, sym, ◌∙◌}
-use Rattle.rlp_values.specs.Views.View.{View}
+use Rattle.rlp_reading.specs.Views.View.{View}
 use Rattle.rlp.proofs.Readers.{counted_by, strict_by}
 use Rattle.rlp.proofs.rlpin.rlp.Rlp.counted_items.Goals as goal
 

@@ -1,6 +1,6 @@
 use Rattle.std.proofs.Common.{ap, sym, ◌∙◌}
-use Rattle.rlp_values.specs.Format.Framing.{framing, value}
-use Rattle.rlp_values.specs.Views.View.{View}
+use Rattle.rlp_reading.specs.Format.Framing.{framing, value}
+use Rattle.rlp_reading.specs.Views.View.{View}
 use Rattle.rlp.proofs.Readers.{past_framed}
 use Rattle.rlp.proofs.rlpin.rlp.Rlp.items.Goals as goal
 

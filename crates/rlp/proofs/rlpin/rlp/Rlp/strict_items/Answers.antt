@@ -1,8 +1,8 @@
 use Rattle.std.proofs.Common.{◌≡◌, Option, Some, None, IfOk, MatchResult, length, ap, subst, sym, ◌∙◌}
-use Rattle.rlp_values.specs.Format.Framing.{value}
-use Rattle.rlp_values.specs.Format.Strict.{strict_fault}
-use Rattle.rlp_values.specs.Views.View.{View}
-use Rattle.rlp_values.proofs.Format.StrictLists.{strict_not_begun, strict_not_whole, strict_whole, value-items}
+use Rattle.rlp_reading.specs.Format.Framing.{value}
+use Rattle.rlp_reading.specs.Format.Strict.{strict_fault}
+use Rattle.rlp_reading.specs.Views.View.{View}
+use Rattle.rlp_reading.proofs.Format.StrictLists.{strict_not_begun, strict_not_whole, strict_whole, value-items}
 use Rattle.rlp.proofs.rlpin.rlp.Rlp.strict_items.Goals as goal
 
 pub returns-then-not-is_list-clause-fault : goal.returns-then-not-is_list-clause-fault

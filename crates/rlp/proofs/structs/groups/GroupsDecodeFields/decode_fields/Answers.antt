@@ -1,5 +1,5 @@
 use Rattle.std.proofs.Common.{◌≡◌, [], ◌++◌, List, map, ap, rules, ◌∙◌}
-use Rattle.rlp_values.specs.Views.View.{View}
+use Rattle.rlp_reading.specs.Views.View.{View}
 use Rattle.rlp_codec.specs.Form.{map_value, take_each}
 use Rattle.rlp_codec.proofs.GroupLaws.{one_pushed, one_turn}
 use Rattle.rlp.proofs.structs.groups.GroupsDecodeFields.decode_fields.Goals as goal

@@ -1,8 +1,0 @@
--- items, and the bytes that they are written as and read from
-pub mod Format
--- the results of a view's methods
-pub mod Views
--- values, their items, and which bytes give them
-pub mod Values
--- lemmas for the laws of traits and for authors of types; readers of definitions don't need them
-pub mod Lemmas
