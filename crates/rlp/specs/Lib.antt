@@ -12,6 +12,10 @@ pub mod Streams
 pub use Rattle.rlp_codec.specs.Form
 -- values of several types
 pub use Rattle.rlp_codec.specs.Sums
+-- types whose strings are of several kinds
+pub use Rattle.rlp_codec.specs.Kinds
+-- types that are read from a whole item
+pub use Rattle.rlp_codec.specs.FirstItems
 -- the laws of codecs
 pub use Rattle.rlp_codec.specs.Laws
 -- what a reader of items has left

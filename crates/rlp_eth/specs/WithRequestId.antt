@@ -1,5 +1,4 @@
 -- How messages with the number of a request are written and read.
-use Rattle.std.specs.Prelude.{ℕ}
 use Rattle.rlp.specs.Codec.{Codec, Fields, end, field, number, struct_of}
 use Rattle.rlp.specs.Form.{Reading, group_before, no_fields, one_field, struct_reading}
 use Rattle.rlp_eth.specs.declared.with_request_id.WithRequestId.{WithRequestId}

@@ -1,5 +1,5 @@
 -- Bytes that begin with the id of a message.
-use Rattle.std.proofs.Common.{◌≡◌, ℕ, ◌^◌, ◌<◌, ◌≤◌, ◌+◌, ◌-◌, Bool, true, false, List, ◌++◌, length, drop, drop_at, ltb, le-ltb, ltb-false, refl, ap, sym, ◌∙◌, Result, Ok, Err, subst, arith}
+use Rattle.std.proofs.Common.{◌≡◌, ℕ, ◌^◌, ◌<◌, ◌≤◌, ◌+◌, ◌-◌, Bool, true, false, List, ◌++◌, length, drop, drop_at, ltb, le-ltb, ltb-false, refl, ap, sym, ◌∙◌, Ok, Err, subst, arith}
 use Rattle.std.proofs.lemmas.Bool.{cond-true, cond-false}
 use Rattle.rlp.specs.DecoderError.{DecoderError}
 use Rattle.rlp.specs.Format.Encoding.{BeginsWith, encoding}

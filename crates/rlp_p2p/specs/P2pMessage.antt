@@ -1,5 +1,5 @@
 -- How the messages of `p2p` are written and read.
-use Rattle.std.specs.Prelude.{ℕ, ◌≡◌, ◌⊎◌, List}
+use Rattle.std.specs.Prelude.{ℕ, ◌⊎◌, List}
 use Rattle.std.proofs.Common.{inl, inr}
 use Rattle.rlp.specs.Codec.{Cases, and_case, last_case}
 use Rattle.rlp_p2p.specs.declared.disconnect.Disconnect.{Disconnect}

@@ -91,11 +91,11 @@ impl Encodable for UnsignedLegacyTransaction {
     }
 }
 
-/// Fails with `RlpIncorrectListLen` for a list that has neither 6 nor 9 items, and with
-/// `RlpIsTooBig` if one of the last two of nine is a string that isn't empty.
 // The fields of the transaction, and then those that EIP-155 adds: the number of the chain, 0 and 0.
 type UnsignedFields = Joined<LegacyTransaction, OptionalGroup<(u64, ([u8; 0], ([u8; 0], ())))>>;
 
+/// Fails with `RlpIncorrectListLen` for a list that has neither 6 nor 9 items, and with
+/// `RlpIsTooBig` if one of the last two of nine is a string that isn't empty.
 impl Decodable for UnsignedLegacyTransaction {
     ghost reading = { unsigned_legacy_transaction.reading };
 

@@ -1,10 +1,10 @@
 -- The walk over the nodes of a proof ends in one way, and what it finds is what the trie has.
 use Rattle.std.proofs.Common.{◌≡◌, ◌<◌, ◌^◌, ◌⊎◌, inl, inr, ⊎_elim, ℕ, Bool, true, false, if◌then◌else◌, List, [], ◌∷◌, length, map, refl, sym, ap, ◌∙◌, subst, arith}
-use Rattle.std.proofs.Common.{Option, Result, Ok, Err, IfErr, IfOk}
+use Rattle.std.proofs.Common.{Option, Result, Ok, Err, IfOk}
 use Rattle.std.proofs.lemmas.List.Elements.{Contains-append_right}
 use Rattle.std.proofs.lemmas.Slice.Eq.{bytes_eq-Decides}
 use Rattle.std.specs.Global.{Vec}
-use Rattle.std.specs.Prelude.{Contains, IsErrAnd, option_map}
+use Rattle.std.specs.Prelude.{Contains, option_map}
 use Rattle.std.specs.Str.{bytes_eq}
 use Rattle.std.specs.Vec.{vec_items}
 use Rattle.keccak.specs.Keccak.{keccak256}

@@ -1,5 +1,5 @@
 -- Children are read back, and from nothing else.
-use Rattle.std.proofs.Common.{◌≡◌, ◌≢◌, ◌<◌, ◌≤◌, ◌^◌, ◌⊎◌, inl, inr, ℕ, Bool, true, false, List, [], length, refl, sym, ap, ◌∙◌, subst, arith, Result, Ok, Err}
+use Rattle.std.proofs.Common.{◌≡◌, ◌≢◌, ◌<◌, ◌^◌, ◌⊎◌, inl, inr, ℕ, Bool, true, false, List, [], length, refl, sym, ap, ◌∙◌, subst, arith, Ok, Err}
 use Rattle.std.specs.Prelude.{codes, nat_le, nat_lt}
 use Rattle.std.specs.Str.{bytes_eq}
 use Rattle.std.proofs.lemmas.Bool.{cond-true, cond-false}
@@ -12,7 +12,7 @@ use Rattle.rlp.specs.Values.RawItem.{deepest_raw_item, raw_item_of}
 use Rattle.rlp.specs.Views.Depth.{depth}
 use Rattle.rlp.proofs.Lemmas.RawItems.{raw_is, string_kind}
 use Rattle.rlp_codec.specs.FirstItems.{item_type}
-use Rattle.rlp.specs.Form.{Fault, custom, here, is_too_big, map_value, raw_of}
+use Rattle.rlp.specs.Form.{custom, here, is_too_big, map_value, raw_of}
 use Rattle.rlp_codec.proofs.FirstItemLaws.{ReadsItems, items_lawful}
 use Rattle.rlp_codec.proofs.ListLaws.{is_mapped}
 use Rattle.rlp_codec.proofs.RawLaws.{raw_fits, raw_of-canonical}

@@ -1,6 +1,6 @@
 -- The empty string, which is written in the place of a node.
 use Rattle.std.specs.Prelude.{ℕ, ◌≡◌, ◌≢◌, ◌==◌, Bool, true, false, List, [], ◌∷◌}
-use Rattle.std.proofs.Common.{◌<◌, ◌^◌, refl, ap, ◌∙◌, sym, arith, length}
+use Rattle.std.proofs.Common.{refl, ap, ◌∙◌, sym, arith, length}
 use Rattle.std.proofs.lemmas.Bool.{eqb-true}
 use Rattle.rlp.specs.Format.Encoding.{IsSized, encoding}
 use Rattle.rlp.specs.Format.Item.{Item, string}

@@ -1,14 +1,13 @@
 -- Nodes of the trie are read back, and from nothing else.
-use Rattle.std.proofs.Common.{◌≡◌, ◌≢◌, ◌<◌, ◌^◌, ◌⊎◌, ◌==◌, inl, inr, ℕ, Bool, true, false, List, [], ◌∷◌, length, refl, sym, ap, ◌∙◌, arith, Ok, Err, Result, map, unwrap_or}
-use Rattle.std.proofs.lemmas.Bool.{cond-true, cond-false, eqb-true}
+use Rattle.std.proofs.Common.{◌≡◌, ◌≢◌, ◌<◌, ◌^◌, ◌==◌, inl, inr, ℕ, Bool, true, false, List, [], ◌∷◌, length, refl, sym, ap, ◌∙◌, Ok, Err, Result, unwrap_or}
+use Rattle.std.proofs.lemmas.Bool.{cond-true, cond-false}
 use Rattle.std.specs.Vec.{vec_items}
-use Rattle.rlp.specs.DecoderError.{DecoderError}
 use Rattle.rlp.specs.Format.Encoding.{IsSized, encoding}
 use Rattle.rlp.specs.Format.Item.{Item, list_of, string}
 use Rattle.rlp.specs.Format.WrittenHeader.{AreBytes}
 use Rattle.rlp.proofs.Lemmas.StringsHeld.{held_only}
 use Rattle.rlp.proofs.Lemmas.WholeLists.{strict_first, strict_item_count, strict_items, strict_list_told}
-use Rattle.rlp.specs.Views.View.{item_at, item_count, strict_view_of}
+use Rattle.rlp.specs.Views.View.{item_count, strict_view_of}
 use Rattle.rlp_codec.specs.FirstItems.{item_type}
 use Rattle.rlp.specs.Form.{Answer, Fault, and_then, incorrect_list_len, map_value, seen_fault}
 use Rattle.rlp_codec.proofs.FirstItemLaws.{ReadsItems, items_lawful}

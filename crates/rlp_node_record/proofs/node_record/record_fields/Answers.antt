@@ -1,10 +1,7 @@
-use Rattle.std.proofs.Common.{◌≡◌, ◌≤◌, length, Ok, Err, ap, inl, arith, ◌∙◌, sym}
-use Rattle.std.specs.Bool.{⊤}
-use Rattle.std.specs.Vec.{vec_items}
+use Rattle.std.proofs.Common.{Ok, Err, ap, inl, arith, ◌∙◌, sym}
 use Rattle.rlp.proofs.Lemmas.Reading.{bytes_held}
 use Rattle.rlp.specs.Form.{fault_of}
-use Rattle.rlp_node_record.specs.NodeFields.{node_fields}
-use Rattle.rlp_node_record.specs.NodeRecord.{keys_of, longest_record, read_record, test_keys}
+use Rattle.rlp_node_record.specs.NodeRecord.{keys_of, test_keys}
 use Rattle.rlp_node_record.specs.NodeLaws.{keys_pass, read_tested, record_only}
 use Rattle.rlp_node_record.proofs.node_record.record_fields.Goals as goal
 

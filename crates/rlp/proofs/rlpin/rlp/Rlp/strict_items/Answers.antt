@@ -1,4 +1,4 @@
-use Rattle.std.proofs.Common.{◌≡◌, Option, Some, None, IfOk, MatchResult, length, ap, subst, sym, ◌∙◌}
+use Rattle.std.proofs.Common.{◌≡◌, length, ap, sym, ◌∙◌}
 use Rattle.rlp_reading.specs.Format.Framing.{value}
 use Rattle.rlp_reading.specs.Format.Strict.{strict_fault}
 use Rattle.rlp_reading.specs.Views.View.{View}
