@@ -228,6 +228,9 @@ macro_rules! append_fields {
 /// `pairs: [(..)]`. A struct whose fields stand first in the list is written `payload: (..)`, if it
 /// has [`FixedFields`].
 ///
+/// More than sixteen fields are read in groups, `(a, b, c), (d, e, f), g`, for each of which the
+/// definition of the codec has a `group`.
+///
 /// ```rust
 /// fn decode(alloc: Global, rlp: &Rlp<'_>) -> Result<Access, DecoderError> {
 ///     rlp::decode_fields!(alloc, rlp, Access { address, keys: [..], nonce: ? })

@@ -5,7 +5,8 @@ ghost use Rattle.rlp_examples.specs.Row.{row};
 use rlp::{Decodable, DecoderError, Encodable, Rlp, RlpStream, RoundTrip, StrictRead};
 use std::alloc::{AllocError, Global};
 
-/// A row of a table with thirty-two columns. It shows a struct of many fields.
+/// A row of a table with thirty-two columns. It shows a struct of many fields, which are read in
+/// groups.
 #[derive(Drop)]
 pub struct Row {
     /// Column 1.
