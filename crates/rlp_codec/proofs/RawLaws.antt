@@ -109,6 +109,10 @@ only_by b x false true deep equal is =
     let same : b ≡ x = cc in
     (subst (λ c. c ≡ encoding (raw_item_of c)) same ((bytes_eq-Decides _ _).0 equal), same)
 
+-- bytes that are given as a raw item are the encoding of an item
+pub raw_given : (b x : List ℕ) → raw_of b ≡ Ok x → (x ≡ encoding (raw_item_of x)) × (b ≡ x)
+raw_given b x is = only_by b x (ltb deepest_raw_item (depth b)) (bytes_eq b (encoding (raw_item_of b))) refl refl is
+
 -- bytes that a slice can hold fit if and only if they are a raw item
 pub raw_fits : (b : List ℕ) → length b < 2 ^ 64 → (b ≡ encoding (raw_item_of b)) ↔ IsRawItem b
 raw_fits b short = (λ fit. raw_if b (canonical_if b fit), λ raw. sym (raw_encoding b short raw))
@@ -126,7 +130,7 @@ given_by : (is_strict : Bool) (b x : List ℕ) (r : Result (List ℕ) DecoderErr
     → and_then (seen_fault r) raw_of ≡ Ok x → (x ≡ encoding (raw_item_of x)) × Holds is_strict b (encoding (raw_item_of x))
 given_by is_strict b x (Err e) framed is = absurd (let no : ⊥ = cc in no)
 given_by is_strict b x (Ok f) framed is =
-    let h = only_by f x (ltb deepest_raw_item (depth f)) (bytes_eq f (encoding (raw_item_of f))) refl refl is in
+    let h = raw_given f x is in
     (h.0, subst (Holds is_strict b) h.0 (frame_held is_strict b x (framed ∙ ap Ok h.1)))
 
 pub raw_only : (is_strict : Bool) → GivesOnly is_strict raw_item

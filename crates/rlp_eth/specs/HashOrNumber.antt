@@ -1,6 +1,6 @@
 -- How a block's hash or number is written and read.
-use Rattle.std.specs.Prelude.{ℕ, ◌≡◌, ◌⊎◌, ◌==◌, if◌then◌else◌, Bool, true, false, List, length, Result, Ok, Err}
-use Rattle.std.proofs.Common.{◌^◌, ◌<◌, ◌≢◌, inl, inr, ap, arith, eq-eqb, ne_eqb, refl, subst, sym, ◌∙◌}
+use Rattle.std.specs.Prelude.{ℕ, ◌≡◌, ◌⊎◌, ◌==◌, if◌then◌else◌, Bool, true, false, List, length, Result, Ok}
+use Rattle.std.proofs.Common.{◌^◌, ◌<◌, inl, inr, ap, arith, eq-eqb, ne_eqb, refl, subst, sym, ◌∙◌}
 use Rattle.std.proofs.lemmas.Bool.{cond-true, cond-false, eqb-true}
 use Rattle.rlp.specs.Codec.{Codec, string_type}
 use Rattle.rlp.specs.Form.{Fault, map_value, number_of}

@@ -1,6 +1,6 @@
 -- Node records are read back, and are read from nothing but their encodings.
-use Rattle.std.proofs.Common.{◌≡◌, ◌≤◌, ◌<◌, ◌^◌, ◌≢◌, ℕ, List, [], ◌∷◌, length, map, refl, sym, ap, ◌∙◌, subst, arith, Result, Ok, Err, ltb, ltb-false, le-ltb}
-use Rattle.std.proofs.Common.{◌||◌, IsTrue, Bool, true, false, if◌then◌else◌, codes, Option, Some, is_some}
+use Rattle.std.proofs.Common.{◌≡◌, ◌≤◌, ◌<◌, ◌^◌, ℕ, List, [], ◌∷◌, length, map, refl, sym, ap, ◌∙◌, subst, arith, Result, Ok, Err, ltb, ltb-false, le-ltb}
+use Rattle.std.proofs.Common.{◌||◌, Bool, true, false, if◌then◌else◌, codes, Option, Some, is_some}
 use Rattle.std.proofs.lemmas.Bool.{cond-true, cond-false, lt-ltb}
 use Rattle.std.specs.Str.{bytes_eq}
 use Rattle.std.specs.Bool.{⊤}
@@ -9,7 +9,7 @@ use Rattle.rlp.specs.Format.Encoding.{encoding}
 use Rattle.rlp.specs.Format.WrittenHeader.{AreBytes}
 use Rattle.rlp.specs.Views.View.{strict_view_of}
 use Rattle.rlp_codec.specs.FirstItems.{item_type}
-use Rattle.rlp.specs.Form.{Answer, Fault, and_then, custom, fault_of, is_too_big, map_value}
+use Rattle.rlp.specs.Form.{Answer, Fault, and_then, custom, is_too_big, map_value}
 use Rattle.rlp_codec.proofs.FirstItemLaws.{ReadsItems, items_lawful}
 use Rattle.rlp_codec.proofs.ListLaws.{goes_on, is_mapped}
 use Rattle.rlp.specs.Codec.{Codec, lawful}

@@ -1,21 +1,19 @@
 -- Children are read back, and from nothing else.
 use Rattle.std.proofs.Common.{◌≡◌, ◌≢◌, ◌<◌, ◌^◌, ◌⊎◌, inl, inr, ℕ, Bool, true, false, List, [], length, refl, sym, ap, ◌∙◌, subst, arith, Ok, Err}
-use Rattle.std.specs.Prelude.{codes, nat_le, nat_lt}
+use Rattle.std.specs.Prelude.{nat_le}
 use Rattle.std.specs.Str.{bytes_eq}
 use Rattle.std.proofs.lemmas.Bool.{cond-true, cond-false}
-use Rattle.std.proofs.lemmas.Slice.Eq.{bytes_eq-Decides}
 use Rattle.rlp.specs.Format.Item.{string}
 use Rattle.rlp.specs.Format.Encoding.{IsSized, encoding}
 use Rattle.rlp.specs.Format.Split.{begins_as_list}
 use Rattle.rlp.specs.Format.WrittenHeader.{AreBytes}
-use Rattle.rlp.specs.Values.RawItem.{deepest_raw_item, raw_item_of}
-use Rattle.rlp.specs.Views.Depth.{depth}
+use Rattle.rlp.specs.Values.RawItem.{raw_item_of}
 use Rattle.rlp.proofs.Lemmas.RawItems.{raw_is, string_kind}
 use Rattle.rlp_codec.specs.FirstItems.{item_type}
-use Rattle.rlp.specs.Form.{custom, here, is_too_big, map_value, raw_of}
+use Rattle.rlp.specs.Form.{here, is_too_big, map_value, raw_of}
 use Rattle.rlp_codec.proofs.FirstItemLaws.{ReadsItems, items_lawful}
 use Rattle.rlp_codec.proofs.ListLaws.{is_mapped}
-use Rattle.rlp_codec.proofs.RawLaws.{raw_fits, raw_of-canonical}
+use Rattle.rlp_codec.proofs.RawLaws.{raw_fits, raw_given, raw_of-canonical}
 use Rattle.rlp_codec.proofs.StringLaws.{array_lawful}
 use Rattle.rlp.specs.Codec.{Codec, lawful}
 use Rattle.rlp_trie.specs.Child.{IsChild, child_item, child_of, hash_of, inline_of, seen_child, written_child}
@@ -47,19 +45,6 @@ inline_only b x true long is =
     let r : inline_of b ≡ Err is_too_big = cond-true (nat_le 32 (length b)) _ _ long in absurd (let no : ⊥ = cc in no)
 inline_only b x false long is = sym (cond-false (nat_le 32 (length b)) _ _ long) ∙ is
 
-raw_only : (b x : List ℕ) (deeper same : Bool) → nat_lt deepest_raw_item (depth b) ≡ deeper → bytes_eq b (encoding (raw_item_of b)) ≡ same → raw_of b ≡ Ok x
-    → (x ≡ encoding (raw_item_of x)) × (b ≡ x)
-raw_only b x true same deep equal is =
-    let r : raw_of b ≡ Err (custom (codes "item nests too deep")) = cond-true (nat_lt deepest_raw_item (depth b)) _ _ deep in absurd (let no : ⊥ = cc in no)
-raw_only b x false false deep equal is =
-    let r : raw_of b ≡ Err (custom (codes "item is not canonical")) =
-    cond-false (nat_lt deepest_raw_item (depth b)) _ _ deep ∙ cond-false (bytes_eq b (encoding (raw_item_of b))) _ _ equal in
-    absurd (let no : ⊥ = cc in no)
-raw_only b x false true deep equal is =
-    let r : raw_of b ≡ Ok b = cond-false (nat_lt deepest_raw_item (depth b)) _ _ deep ∙ cond-true (bytes_eq b (encoding (raw_item_of b))) _ _ equal in
-    let same : b ≡ x = cc in
-    (subst (λ c. c ≡ encoding (raw_item_of c)) same ((bytes_eq-Decides b (encoding (raw_item_of b))).0 equal), same)
-
 left_right : {A B : Type 0} (x : A) (y : B) → (let s : A ⊎ B = inl x in s) ≡ inr y → ⊥
 left_right x y same = cc
 
@@ -73,8 +58,7 @@ list_only : (b : List ℕ) (c : Child) → map_value {B = List ℕ ⊎ List ℕ}
 list_only b (Node hash) is = let m = is_mapped (inline_of b) (λ (x : List ℕ). (let s : List ℕ ⊎ List ℕ = inr x in s)) _ is in absurd (left_right _ _ (sym m.then))
 list_only b (Inline node) is =
     let m = is_mapped (inline_of b) (λ (x : List ℕ). (let s : List ℕ ⊎ List ℕ = inr x in s)) _ is in
-    let h = raw_only b m.value (nat_lt deepest_raw_item (depth b)) (bytes_eq b (encoding (raw_item_of b))) refl refl
-    (inline_only b m.value (nat_le 32 (length b)) refl m.is) in
+    let h = raw_given b m.value (inline_only b m.value (nat_le 32 (length b)) refl m.is) in
     let same : m.value ≡ node.item = same_right m.value node.item m.then in
     (subst (λ d. d ≡ encoding (raw_item_of d)) same h.0, h.1 ∙ h.0 ∙ ap (λ d. encoding (raw_item_of d)) same)
 
