@@ -1,5 +1,5 @@
 -- What follows for a body that reads a type from bytes: `law` says that the bytes of a value are read back, and no other bytes are read.
-use Rattle.std.proofs.Common.{◌≡◌, ℕ, ◌^◌, ◌<◌, ◌⊎◌, inl, inr, List, length, sym, ap, ◌∙◌, subst, Result, Ok, Err, IfOk, IfErr, IsOkAnd}
+use Rattle.std.proofs.Common.{◌≡◌, ℕ, ◌^◌, ◌<◌, ◌⊎◌, inl, inr, List, length, sym, ap, ◌∙◌, subst, Result, Ok, Err, IfOk, IfErr}
 use Rattle.rlp.specs.DecoderError.{DecoderError}
 use Rattle.rlp.specs.DecoderError.TheVariants.{OutOfMemory}
 use Rattle.rlp.specs.Format.WrittenHeader.{AreBytes}
