@@ -7,7 +7,7 @@ use Rattle.rlp.specs.DecoderError.{DecoderError}
 use Rattle.rlp.specs.DecoderError.TheVariants.{OutOfMemory}
 use Rattle.rlp.specs.Format.Encoding.{encoding}
 use Rattle.rlp.specs.Format.WrittenHeader.{AreBytes}
-use Rattle.rlp.proofs.Lemmas.Reading.{bytes_held}
+use Rattle.rlp_reading.proofs.Lemmas.Reading.{bytes_held}
 use Rattle.rlp.specs.Views.View.{strict_view_of}
 use Rattle.rlp.specs.Form.{Faults, custom, fault_of}
 use Rattle.rlp_codec.proofs.Corollaries.{not_both}

@@ -5,10 +5,10 @@ use Rattle.rlp.specs.DecoderError.{DecoderError}
 use Rattle.rlp.specs.Format.Encoding.{BeginsWith, encoding}
 use Rattle.rlp.specs.Format.WrittenHeader.{AreBytes, big_endian}
 use Rattle.rlp.specs.Form.{Gives, and_then, custom, number}
-use Rattle.rlp.proofs.Lemmas.Encodings.{front_sized, prefix_free}
-use Rattle.rlp.proofs.Lemmas.Digits.{big_endian_same}
-use Rattle.rlp.proofs.Lemmas.Lists.{same_front}
-use Rattle.rlp.proofs.Lemmas.RawItems.{view_frame-held}
+use Rattle.rlp_format.proofs.Lemmas.Encodings.{front_sized, prefix_free}
+use Rattle.rlp_format.proofs.Lemmas.Digits.{big_endian_same}
+use Rattle.rlp_format.proofs.Lemmas.Lists.{same_front}
+use Rattle.rlp_reading.proofs.Lemmas.RawItems.{view_frame-held}
 use Rattle.rlp.specs.Values.RawItem.{view_frame}
 use Rattle.rlp.specs.Values.Value.{FitsBytes, number_item}
 use Rattle.rlp.specs.Views.View.{View, view_of}

@@ -8,8 +8,8 @@ use Rattle.rlp.specs.DecoderError.TheVariants.{OutOfMemory}
 use Rattle.rlp.specs.Form.{and_then, fault_of}
 use Rattle.rlp.specs.Format.Encoding.{IsSized, encoding}
 use Rattle.rlp.specs.Format.WrittenHeader.{AreBytes}
-use Rattle.rlp.proofs.Lemmas.OneReading.{back_bytes}
-use Rattle.rlp.proofs.Lemmas.Reading.{Bytes}
+use Rattle.rlp_reading.proofs.Lemmas.OneReading.{back_bytes}
+use Rattle.rlp_reading.proofs.Lemmas.Reading.{Bytes}
 use Rattle.rlp.specs.Values.Sums.{sum_tag}
 use Rattle.rlp.specs.Values.Value.{FitsBytes, number_item}
 use Rattle.rlp.specs.Views.View.{strict_view_of}

@@ -10,8 +10,8 @@ use Rattle.rlp.specs.Format.Item.{Item}
 use Rattle.rlp.specs.Format.Encoding.{encoding}
 use Rattle.rlp.specs.Format.Strict.{IsCanonicalWithin}
 use Rattle.rlp.specs.Format.TreeFaults.{tree_fault}
-use Rattle.rlp.proofs.Lemmas.Encodings.{encoding_same}
-use Rattle.rlp.proofs.Lemmas.RawItems.{raw_item_of-encoding, shallow_within}
+use Rattle.rlp_format.proofs.Lemmas.Encodings.{encoding_same}
+use Rattle.rlp_reading.proofs.Lemmas.RawItems.{raw_item_of-encoding, shallow_within}
 use Rattle.rlp.specs.Values.RawItem.{raw_item_of}
 use Rattle.rlp.specs.Views.View.{View, strict_view_of}
 use Rattle.rlp_reading.specs.Format.Walk.{IsWalked}

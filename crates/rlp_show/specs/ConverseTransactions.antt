@@ -6,7 +6,7 @@ use Rattle.rlp.specs.DecoderError.{DecoderError}
 use Rattle.rlp.specs.Format.Encoding.{encoding}
 use Rattle.rlp.specs.Format.Item.{Item, string}
 use Rattle.rlp.specs.Format.Split.{begins_as_list}
-use Rattle.rlp.proofs.Lemmas.StringsHeld.{ReadsHeld, held_reads}
+use Rattle.rlp_reading.proofs.Lemmas.StringsHeld.{ReadsHeld, held_reads}
 use Rattle.rlp.specs.Views.View.{strict_view_of, view_string}
 use Rattle.rlp_records.specs.Alone.{bytes_alone}
 use Rattle.rlp_records.specs.Bounded.{is_read_type}

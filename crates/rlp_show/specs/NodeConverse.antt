@@ -11,10 +11,10 @@ use Rattle.rlp.specs.Format.Encoding.{IsSized, encoding, join_items}
 use Rattle.rlp.specs.Format.Item.{Item, Items, item_and, item_depth, items_depth, list, list_of, no_items, string}
 use Rattle.rlp.specs.Format.Split.{begins_as_list}
 use Rattle.rlp.specs.Format.WrittenHeader.{written_header}
-use Rattle.rlp.proofs.Lemmas.Encodings.{AllSized, first_of_header, list_written, parts_sized}
+use Rattle.rlp_format.proofs.Lemmas.Encodings.{AllSized, first_of_header, list_written, parts_sized}
 use Rattle.rlp_show_text.specs.NodeRecordLemmas.{raw_whole}
-use Rattle.rlp.proofs.Lemmas.StringsHeld.{held_only}
-use Rattle.rlp.proofs.Lemmas.WholeLists.{whole_sized}
+use Rattle.rlp_reading.proofs.Lemmas.StringsHeld.{held_only}
+use Rattle.rlp_reading.proofs.Lemmas.WholeLists.{whole_sized}
 use Rattle.rlp.specs.Views.Text.{error_name}
 use Rattle.rlp.specs.Views.View.{item_count, item_views, strict_view_of}
 use Rattle.rlp_trie.specs.BranchChild.{place_item}

@@ -14,9 +14,9 @@ use Rattle.rlp.specs.Format.Encoding.{IsSized, encoding, join}
 use Rattle.rlp.specs.Format.Item.{list_of, string}
 use Rattle.rlp.specs.Format.Split.{items}
 use Rattle.rlp.specs.Format.Strict.{strict_list_fault}
-use Rattle.rlp.proofs.Lemmas.RawItems.{shallow_within}
-use Rattle.rlp.proofs.Lemmas.StrictReads.{counted_items, counted_told, told_whole}
-use Rattle.rlp.proofs.Lemmas.WholeLists.{strict_item_count, whole_list}
+use Rattle.rlp_reading.proofs.Lemmas.RawItems.{shallow_within}
+use Rattle.rlp_reading.proofs.Lemmas.StrictReads.{counted_items, counted_told, told_whole}
+use Rattle.rlp_reading.proofs.Lemmas.WholeLists.{strict_item_count, whole_list}
 use Rattle.rlp.specs.Values.RawItem.{deepest_raw_item, raw_item_of}
 use Rattle.rlp.specs.Values.Value.{FitsBytes, all_items, number_item}
 use Rattle.rlp.specs.Views.View.{item_count, item_views, strict_view_of}

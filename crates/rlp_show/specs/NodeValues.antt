@@ -12,8 +12,8 @@ use Rattle.rlp.specs.Codec.{Fields, byte_array, byte_string as byte_string_codec
 use Rattle.rlp.specs.Format.Encoding.{IsSized, encoding, join}
 use Rattle.rlp.specs.Format.Item.{Item, list_of, string}
 use Rattle.rlp.specs.Format.Split.{begins_as_list}
-use Rattle.rlp.proofs.Lemmas.RawItems.{string_kind}
-use Rattle.rlp.proofs.Lemmas.WholeLists.{strict_item_count}
+use Rattle.rlp_reading.proofs.Lemmas.RawItems.{string_kind}
+use Rattle.rlp_reading.proofs.Lemmas.WholeLists.{strict_item_count}
 use Rattle.rlp.specs.Values.RawItem.{raw_item_of}
 use Rattle.rlp.specs.Views.View.{item_views, strict_view_of}
 use Rattle.rlp_lines.specs.Digits.{bytes_in}

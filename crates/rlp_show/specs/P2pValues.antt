@@ -16,10 +16,10 @@ use Rattle.rlp.specs.Format.Item.{list_of}
 use Rattle.rlp.specs.Format.Split.{begins_as_list, items}
 use Rattle.rlp.specs.Format.Strict.{strict_list_fault}
 use Rattle.rlp.specs.Format.WrittenHeader.{big_endian}
-use Rattle.rlp.proofs.Lemmas.RawItems.{shallow_within, string_kind}
+use Rattle.rlp_reading.proofs.Lemmas.RawItems.{shallow_within, string_kind}
 use Rattle.rlp_show_text.specs.NodeRecordLemmas.{raw_whole}
-use Rattle.rlp.proofs.Lemmas.StrictReads.{counted_items, counted_told, told_whole}
-use Rattle.rlp.proofs.Lemmas.WholeLists.{strict_item_count, whole_list}
+use Rattle.rlp_reading.proofs.Lemmas.StrictReads.{counted_items, counted_told, told_whole}
+use Rattle.rlp_reading.proofs.Lemmas.WholeLists.{strict_item_count, whole_list}
 use Rattle.rlp.specs.Values.RawItem.{deepest_raw_item, raw_item_of}
 use Rattle.rlp.specs.Values.Value.{all_items}
 use Rattle.rlp.specs.Views.Text.{error_name}

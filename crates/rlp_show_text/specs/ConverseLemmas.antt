@@ -16,14 +16,14 @@ use Rattle.rlp.specs.Format.Encoding.{encoding, join, string_encoding}
 use Rattle.rlp.specs.Format.Item.{Item, list_of, string}
 use Rattle.rlp.specs.Format.Split.{items, payload, rest}
 use Rattle.rlp.specs.Format.WrittenHeader.{AreBytes, big_endian, written_header}
-use Rattle.rlp.proofs.Lemmas.Encodings.{encoding_list, form, form_some, string_cases}
-use Rattle.rlp.proofs.Lemmas.Numbered.{length-views}
-use Rattle.rlp.proofs.Lemmas.OneReading.{back_bytes, front_bytes}
-use Rattle.rlp.proofs.Lemmas.Slices.{payload_short}
-use Rattle.rlp.proofs.Lemmas.StrictReads.{counted_items, counted_told, told_whole}
-use Rattle.rlp.proofs.Lemmas.StringsHeld.{ReadsHeld, held_reads}
-use Rattle.rlp.proofs.Lemmas.Views.{payload_bytes}
-use Rattle.rlp.proofs.Lemmas.WholeLists.{payload_parts, whole_list}
+use Rattle.rlp_format.proofs.Lemmas.Encodings.{encoding_list, form, form_some, string_cases}
+use Rattle.rlp_reading.proofs.Lemmas.Numbered.{length-views}
+use Rattle.rlp_reading.proofs.Lemmas.OneReading.{back_bytes, front_bytes}
+use Rattle.rlp_reading.proofs.Lemmas.Slices.{payload_short}
+use Rattle.rlp_reading.proofs.Lemmas.StrictReads.{counted_items, counted_told, told_whole}
+use Rattle.rlp_reading.proofs.Lemmas.StringsHeld.{ReadsHeld, held_reads}
+use Rattle.rlp_reading.proofs.Lemmas.Views.{payload_bytes}
+use Rattle.rlp_reading.proofs.Lemmas.WholeLists.{payload_parts, whole_list}
 use Rattle.rlp.specs.Values.Value.{FitsBytes, bit, items_if, number_item}
 use Rattle.rlp.specs.Views.View.{View, item_count, item_views, strict_view_of, view_string}
 use Rattle.rlp_headers.specs.declared.receipt_status.ReceiptStatus.{ReceiptStatus}
@@ -32,7 +32,7 @@ use Rattle.rlp_headers.specs.ReceiptStatus.{IsStatus, status_bytes}
 use Rattle.rlp_transactions.specs.declared.recipient.Recipient.{Recipient}
 use Rattle.rlp_transactions.specs.declared.recipient.Recipient.TheVariants.{Account, Creation}
 use Rattle.rlp_transactions.specs.Recipient.{IsRecipient, recipient_bytes}
-use Rattle.rlp.proofs.Lemmas.Digits.{big_endian_value}
+use Rattle.rlp_format.proofs.Lemmas.Digits.{big_endian_value}
 use Rattle.rlp_codec.specs.Form.{begins_with_zero}
 use Rattle.rlp_codec.proofs.StringLaws.{number_strings}
 use Rattle.rlp_show_text.specs.Lines.{Field, Shape, Shown, Worded, byte_string, field, fields_lines, fixed_bytes_as, fixed_bytes_in, hash_line, hashed, in_field, in_string}

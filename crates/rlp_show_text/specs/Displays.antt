@@ -10,7 +10,7 @@ use Rattle.rlp.specs.Codec.{group, number as number_codec, optional as optional_
 use Rattle.rlp.specs.Format.Encoding.{IsSized, encoding, join}
 use Rattle.rlp.specs.Format.Item.{list_of as list_item}
 use Rattle.rlp.specs.Format.WrittenHeader.{big_endian}
-use Rattle.rlp.proofs.Lemmas.Digits.{big_endian_value}
+use Rattle.rlp_format.proofs.Lemmas.Digits.{big_endian_value}
 use Rattle.rlp.specs.Uint.{Uint}
 use Rattle.rlp.specs.Values.Value.{bit}
 use Rattle.rlp.specs.Streams.Stream.{list_encoding}

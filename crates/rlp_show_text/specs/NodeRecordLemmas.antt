@@ -15,10 +15,10 @@ use Rattle.rlp.specs.DecoderError.TheVariants.{RlpExpectedToBeData}
 use Rattle.rlp.specs.Format.Encoding.{IsSized, encoding, join}
 use Rattle.rlp.specs.Format.Item.{Item, Items, item_and, item_depth, items_depth, items_from, list, list_of, listed, no_items, string}
 use Rattle.rlp.specs.Format.Split.{begins_as_list}
-use Rattle.rlp.proofs.Lemmas.Encodings.{items_from-listed}
-use Rattle.rlp.proofs.Lemmas.RawItems.{list_by, raw_encoding, raw_if}
-use Rattle.rlp.proofs.Lemmas.Strings.{string_list}
-use Rattle.rlp.proofs.Lemmas.StringsHeld.{ReadsHeld, held_fault, held_only, held_reads}
+use Rattle.rlp_format.proofs.Lemmas.Encodings.{items_from-listed}
+use Rattle.rlp_reading.proofs.Lemmas.RawItems.{list_by, raw_encoding, raw_if}
+use Rattle.rlp_reading.proofs.Lemmas.Strings.{string_list}
+use Rattle.rlp_reading.proofs.Lemmas.StringsHeld.{ReadsHeld, held_fault, held_only, held_reads}
 use Rattle.rlp.specs.Values.RawItem.{deepest_raw_item, raw_item_of}
 use Rattle.rlp.specs.Values.Value.{all_items}
 use Rattle.rlp.specs.Views.View.{View, item_count, item_views, strict_view_of, view_string}

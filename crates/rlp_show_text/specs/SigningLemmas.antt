@@ -7,9 +7,9 @@ use Rattle.rlp.specs.Codec.{uint}
 use Rattle.rlp.specs.Format.Item.{Item, list_of, string}
 use Rattle.rlp.specs.Format.Encoding.{IsSized, encoding, join}
 use Rattle.rlp.specs.Format.WrittenHeader.{big_endian}
-use Rattle.rlp.proofs.Lemmas.Digits.{big_endian_value, big_endian_zero}
-use Rattle.rlp.proofs.Lemmas.Encodings.{encoding_list}
-use Rattle.rlp.proofs.Lemmas.StringsHeld.{held_only}
+use Rattle.rlp_format.proofs.Lemmas.Digits.{big_endian_value, big_endian_zero}
+use Rattle.rlp_format.proofs.Lemmas.Encodings.{encoding_list}
+use Rattle.rlp_reading.proofs.Lemmas.StringsHeld.{held_only}
 use Rattle.rlp.specs.Streams.Stream.{list_encoding}
 use Rattle.rlp.specs.Uint.{Uint}
 use Rattle.rlp.specs.Values.Value.{items_if, number_item}

@@ -10,7 +10,7 @@ use Rattle.rlp.specs.DecoderError.TheVariants.{Custom, OutOfMemory, RlpInvalidIn
 use Rattle.rlp.specs.Values.Value.{bit}
 use Rattle.rlp.specs.Views.Text.{error_name}
 use Rattle.rlp.specs.Views.View.{View, HoldsString, view_string}
-use Rattle.rlp.proofs.Lemmas.StringsHeld.{held_only}
+use Rattle.rlp_reading.proofs.Lemmas.StringsHeld.{held_only}
 use Rattle.rlp_codec.specs.Form.{Fault, and_then, begins_with_zero, bit_of, custom, data_len_with_zero, expected_data, expected_list, fault_of, fixed_of, inconsistent_len}
 use Rattle.rlp_codec.specs.Form.{incorrect_list_len, invalid_indirection, invalid_len, is_too_big, is_too_short, list_len_with_zero, map_value, number_of, out_of_memory}
 use Rattle.rlp_codec.specs.Form.{seen_fault, string_of}

@@ -6,8 +6,8 @@ use Rattle.std.specs.List.{AllByRecursion}
 use Rattle.std.proofs.lemmas.Bool.{cond-true}
 use Rattle.rlp.specs.Format.Encoding.{IsSized, encoding, join}
 use Rattle.rlp.specs.Format.Item.{Item, list_of}
-use Rattle.rlp.proofs.Lemmas.Encodings.{encoding_list, small_payload}
-use Rattle.rlp.proofs.Lemmas.WholeLists.{strict_item_count, strict_items}
+use Rattle.rlp_format.proofs.Lemmas.Encodings.{encoding_list, small_payload}
+use Rattle.rlp_reading.proofs.Lemmas.WholeLists.{strict_item_count, strict_items}
 use Rattle.rlp.specs.Views.View.{View, item_views, strict_view_of}
 use Rattle.std.specs.Str.Lines.{strip_carriage_return}
 use Rattle.rlp_lines.specs.Digits.{bytes_in}

@@ -11,7 +11,7 @@ use Rattle.std.specs.Vec.{vec_items}
 use Rattle.rlp.specs.Codec.{Codec, Fields, byte_string, each, end, field}
 use Rattle.rlp.specs.Format.Item.{Item, string}
 use Rattle.rlp.specs.Format.Item.{items_from, listed, list_of}
-use Rattle.rlp.proofs.Lemmas.Encodings.{listed_from}
+use Rattle.rlp_format.proofs.Lemmas.Encodings.{listed_from}
 use Rattle.rlp_trie.specs.BranchChild.{branch_child, place_item}
 use Rattle.rlp_trie.specs.Child.{IsChild, child_item}
 use Rattle.rlp_trie.specs.ChildLaws.{child_some}

@@ -7,8 +7,14 @@ use Rattle.rlp.specs.Format.Item.{string}
 use Rattle.rlp.specs.Format.Encoding.{IsSized, encoding}
 use Rattle.rlp.specs.Format.Split.{begins_as_list}
 use Rattle.rlp.specs.Format.WrittenHeader.{AreBytes}
+<<<<<<< HEAD
 use Rattle.rlp.specs.Values.RawItem.{raw_item_of}
-use Rattle.rlp.proofs.Lemmas.RawItems.{raw_is, string_kind}
+use Rattle.rlp_reading.proofs.Lemmas.RawItems.{raw_is, string_kind}
+=======
+use Rattle.rlp.specs.Values.RawItem.{deepest_raw_item, raw_item_of}
+use Rattle.rlp.specs.Views.Depth.{depth}
+use Rattle.rlp_reading.proofs.Lemmas.RawItems.{raw_is, string_kind}
+>>>>>>> ada219dfc2d2ca897b175b4026bf263847ea976b
 use Rattle.rlp_codec.specs.FirstItems.{item_type}
 use Rattle.rlp.specs.Form.{here, is_too_big, map_value, raw_of}
 use Rattle.rlp_codec.proofs.FirstItemLaws.{ReadsItems, items_lawful}

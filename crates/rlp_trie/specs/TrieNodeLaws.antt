@@ -5,9 +5,9 @@ use Rattle.std.specs.Vec.{vec_items}
 use Rattle.rlp.specs.Format.Encoding.{IsSized, encoding}
 use Rattle.rlp.specs.Format.Item.{Item, list_of, string}
 use Rattle.rlp.specs.Format.WrittenHeader.{AreBytes}
-use Rattle.rlp.proofs.Lemmas.StringsHeld.{held_only}
-use Rattle.rlp.proofs.Lemmas.WholeLists.{strict_first, strict_item_count, strict_items, strict_list_told}
-use Rattle.rlp.specs.Views.View.{item_count, strict_view_of}
+use Rattle.rlp_reading.proofs.Lemmas.StringsHeld.{held_only}
+use Rattle.rlp_reading.proofs.Lemmas.WholeLists.{strict_first, strict_item_count, strict_items, strict_list_told}
+use Rattle.rlp.specs.Views.View.{item_at, item_count, strict_view_of}
 use Rattle.rlp_codec.specs.FirstItems.{item_type}
 use Rattle.rlp.specs.Form.{Answer, Fault, and_then, incorrect_list_len, map_value, seen_fault}
 use Rattle.rlp_codec.proofs.FirstItemLaws.{ReadsItems, items_lawful}

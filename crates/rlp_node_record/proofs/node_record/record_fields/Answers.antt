@@ -1,5 +1,5 @@
 use Rattle.std.proofs.Common.{Ok, Err, ap, inl, arith, ◌∙◌, sym}
-use Rattle.rlp.proofs.Lemmas.Reading.{bytes_held}
+use Rattle.rlp_reading.proofs.Lemmas.Reading.{bytes_held}
 use Rattle.rlp.specs.Form.{fault_of}
 use Rattle.rlp_node_record.specs.NodeRecord.{keys_of, test_keys}
 use Rattle.rlp_node_record.specs.NodeLaws.{keys_pass, read_tested, record_only}

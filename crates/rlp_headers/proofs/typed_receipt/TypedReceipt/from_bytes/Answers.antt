@@ -1,5 +1,5 @@
 use Rattle.std.proofs.Common.{arith}
-use Rattle.rlp.proofs.Lemmas.Reading.{bytes_held}
+use Rattle.rlp_reading.proofs.Lemmas.Reading.{bytes_held}
 use Rattle.rlp_records.proofs.Bytes.{read_memory, read_whole}
 use Rattle.rlp_headers.proofs.Receipts.{receipt_strings}
 use Rattle.rlp_headers.proofs.typed_receipt.TypedReceipt.from_bytes.Goals as goal

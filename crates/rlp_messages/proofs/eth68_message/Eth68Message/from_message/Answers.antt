@@ -1,5 +1,5 @@
 use Rattle.std.proofs.Common.{ℕ, ◌<◌, ◌^◌, length, arith, inl, Err}
-use Rattle.rlp.proofs.Lemmas.Digits.{bytes_held}
+use Rattle.rlp_format.proofs.Lemmas.Digits.{bytes_held}
 use Rattle.rlp_p2p.proofs.Messages.{AreSmall, and_small, body_fault, body_value, id_fails, memory_message, message_whole}
 use Rattle.rlp_messages.specs.Eth68Message.{eth68_body, eth68_messages}
 use Rattle.rlp_messages.proofs.eth68_message.Eth68Message.from_message.Goals as goal

@@ -1,5 +1,5 @@
 use Rattle.std.proofs.Common.{arith, rules, length, inl, refl, ap, subst, ◌∙◌}
-use Rattle.rlp.proofs.Lemmas.Reading.{bytes_held}
+use Rattle.rlp_reading.proofs.Lemmas.Reading.{bytes_held}
 use Rattle.rlp_node_record.specs.NodeRecord.{AreRecordKeys}
 use Rattle.rlp_node_record.specs.NodeLaws.{fields_long, record_made}
 use Rattle.rlp_node_record.proofs.node_record.NodeRecord.new.Goals as goal

@@ -1,5 +1,5 @@
 use Rattle.std.proofs.Common.{◌≡◌, ◌+◌, ◌-◌, ◌<◌, ◌^◌, length, arith}
-use Rattle.rlp.proofs.Lemmas.Digits.{bytes_held}
+use Rattle.rlp_format.proofs.Lemmas.Digits.{bytes_held}
 use Rattle.rlp_p2p.proofs.Ids.{some_item, split_id, split_read}
 use Rattle.rlp_p2p.proofs.message.Numbered.of.Goals as goal
 

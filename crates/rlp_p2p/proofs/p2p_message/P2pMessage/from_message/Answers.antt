@@ -1,5 +1,5 @@
 use Rattle.std.proofs.Common.{ℕ, ◌<◌, ◌^◌, length, arith, inl, Err}
-use Rattle.rlp.proofs.Lemmas.Digits.{bytes_held}
+use Rattle.rlp_format.proofs.Lemmas.Digits.{bytes_held}
 use Rattle.rlp_p2p.proofs.Messages.{AreSmall, and_small, body_fault, body_value, id_fails, memory_message, message_whole}
 use Rattle.rlp_p2p.specs.P2pMessage.{p2p_body, p2p_messages}
 use Rattle.rlp_p2p.proofs.p2p_message.P2pMessage.from_message.Goals as goal
