@@ -1,20 +1,13 @@
 -- Children are read back, and from nothing else.
 use Rattle.std.proofs.Common.{◌≡◌, ◌≢◌, ◌<◌, ◌^◌, ◌⊎◌, inl, inr, ℕ, Bool, true, false, List, [], length, refl, sym, ap, ◌∙◌, subst, arith, Ok, Err}
 use Rattle.std.specs.Prelude.{nat_le}
-use Rattle.std.specs.Str.{bytes_eq}
 use Rattle.std.proofs.lemmas.Bool.{cond-true, cond-false}
 use Rattle.rlp.specs.Format.Item.{string}
 use Rattle.rlp.specs.Format.Encoding.{IsSized, encoding}
 use Rattle.rlp.specs.Format.Split.{begins_as_list}
 use Rattle.rlp.specs.Format.WrittenHeader.{AreBytes}
-<<<<<<< HEAD
 use Rattle.rlp.specs.Values.RawItem.{raw_item_of}
 use Rattle.rlp_reading.proofs.Lemmas.RawItems.{raw_is, string_kind}
-=======
-use Rattle.rlp.specs.Values.RawItem.{deepest_raw_item, raw_item_of}
-use Rattle.rlp.specs.Views.Depth.{depth}
-use Rattle.rlp_reading.proofs.Lemmas.RawItems.{raw_is, string_kind}
->>>>>>> ada219dfc2d2ca897b175b4026bf263847ea976b
 use Rattle.rlp_codec.specs.FirstItems.{item_type}
 use Rattle.rlp.specs.Form.{here, is_too_big, map_value, raw_of}
 use Rattle.rlp_codec.proofs.FirstItemLaws.{ReadsItems, items_lawful}
