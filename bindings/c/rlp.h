@@ -38,6 +38,7 @@ typedef enum rlp_status {
     RLP_INVALID_INDIRECTION = 8,            /* there is a shorter encoding, or a number begins with a zero byte */
     RLP_INCONSISTENT_LENGTH_AND_DATA = 9,   /* the bytes end before the string that is read does */
     RLP_INVALID_LENGTH = 10,                /* a header and its string are 2^64 bytes or more */
+    RLP_INVALID_BOOLEAN = 11,               /* the parity of a signature is a number above 1 */
     RLP_NO_ROOM = 13,                       /* `cap` is less than `*count`, which is what is needed */
     RLP_TOO_DEEP = 14,                      /* there are more lists, one in the other, than allowed */
     RLP_BAD_ITEMS = 15,                     /* the items describe no tree, or lie outside the bytes */
@@ -82,7 +83,7 @@ uint32_t rlp_flatten(const uint8_t *RLP_RESTRICT bytes, size_t len, uint32_t max
  * their last item. A number has at most 8 or 32 bytes, an address 20 and a hash 32. The parity of a signature is 0 or 1;
  * in an authorization it is a number of at most one byte. After RLP_NO_ROOM the elements of `out` have no meaning. After
  * a fault `*count` is the number of the field that has it or is missing, 1 for the first, and 0 if the whole has it.
- * Status: 0, 1, 2, 3, 4, 5, 6, 7, 8, 13, 16; after 2 for no bytes, and 16, `*transaction_type` is as it was. */
+ * Status: 0, 1, 2, 3, 4, 5, 6, 7, 8, 11, 13, 16; after 2 for no bytes, and 16, `*transaction_type` is as it was. */
 uint32_t rlp_transaction(const uint8_t *RLP_RESTRICT bytes, size_t len, uint32_t *RLP_RESTRICT transaction_type,
                          rlp_item *RLP_RESTRICT out, size_t cap, size_t *RLP_RESTRICT count);
 

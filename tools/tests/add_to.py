@@ -7,7 +7,7 @@ import shutil
 from scratch import ROOT, Scratch, contents, text_of
 
 SCRIPT = ROOT / "tools" / "add-to"
-RLP = ["rlp_format", "rlp_write", "rlp_values", "rlp"]
+RLP = ["rlp_format", "rlp_write", "rlp_reading", "rlp_codec", "rlp"]
 
 
 def lines_here():
@@ -133,10 +133,10 @@ class AddTo(Scratch):
     def test_update_adds_what_is_missing(self):
         self.passes(SCRIPT, ".")
         wanted = contents(self.folder)
-        shutil.rmtree(self.crate("rlp_values"))
-        self.write("crates.txt", text_of(self.folder / "crates.txt").replace(f"{lines_here()['rlp_values']}\n", ""))
+        shutil.rmtree(self.crate("rlp_reading"))
+        self.write("crates.txt", text_of(self.folder / "crates.txt").replace(f"{lines_here()['rlp_reading']}\n", ""))
         self.passes(SCRIPT, "--update", ".")
-        self.assertEqual(self.lines().index(lines_here()["rlp_values"]), 3)
+        self.assertEqual(self.lines().index(lines_here()["rlp_reading"]), 4)
         self.assertEqual({path: content for path, content in contents(self.folder).items() if path != "crates.txt"}, {path: content for path, content in wanted.items() if path != "crates.txt"})
 
     def test_update_keeps_the_crates_of_others(self):
@@ -150,7 +150,7 @@ class AddTo(Scratch):
 
     def test_update_of_changed_files(self):
         self.passes(SCRIPT, ".")
-        self.age("rlp_values", "src/lib.rt", "// older\n")
+        self.age("rlp_reading", "src/lib.rt", "// older\n")
         for path in ("src/rlp.rt", "src/new.rt", "CALLING.md", "new-type", "LICENSE"):
             before = contents(self.folder)
             self.write(f"crates/rlp/{path}", "mine\n")
@@ -167,8 +167,8 @@ class AddTo(Scratch):
 
     def test_update_of_a_changed_line(self):
         self.passes(SCRIPT, ".")
-        self.write("crates.txt", text_of(self.folder / "crates.txt").replace("rlp_values: rlp_format", "rlp_values: rlp_format hex"))
-        self.assertIn("the line `rlp_values: rlp_format hex` isn't as it was added", self.refuses("--update", "."))
+        self.write("crates.txt", text_of(self.folder / "crates.txt").replace("rlp_reading: rlp_format", "rlp_reading: rlp_format hex"))
+        self.assertIn("the line `rlp_reading: rlp_format hex` isn't as it was added", self.refuses("--update", "."))
 
     def test_update_of_a_copy_without_checksums(self):
         self.passes(SCRIPT, ".")

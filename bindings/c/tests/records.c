@@ -13,7 +13,7 @@ static const char *const NAMES[] = {
     [RLP_EXPECTED_TO_BE_LIST] = "RlpExpectedToBeList", [RLP_EXPECTED_TO_BE_DATA] = "RlpExpectedToBeData",
     [RLP_INCORRECT_LIST_LEN] = "RlpIncorrectListLen", [RLP_DATA_LEN_WITH_ZERO_PREFIX] = "RlpDataLenWithZeroPrefix",
     [RLP_LIST_LEN_WITH_ZERO_PREFIX] = "RlpListLenWithZeroPrefix", [RLP_INVALID_INDIRECTION] = "RlpInvalidIndirection",
-    [RLP_UNKNOWN_TYPE] = "RlpUnknownType",
+    [RLP_INVALID_BOOLEAN] = "RlpInvalidBoolean", [RLP_UNKNOWN_TYPE] = "RlpUnknownType",
 };
 
 static uint8_t *bytes_of(const char *digits, size_t letters) {

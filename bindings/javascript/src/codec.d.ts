@@ -22,7 +22,7 @@ export interface First {
 }
 
 /** The number of a fault, as in `rlp.h`. */
-export type Status = 1 | 2 | 3 | 4 | 5 | 6 | 7 | 8 | 9 | 10 | 13 | 14 | 15 | 16;
+export type Status = 1 | 2 | 3 | 4 | 5 | 6 | 7 | 8 | 9 | 10 | 11 | 13 | 14 | 15 | 16;
 
 export type FaultName =
   | "RlpIsTooBig"
@@ -35,6 +35,7 @@ export type FaultName =
   | "RlpInvalidIndirection"
   | "RlpInconsistentLengthAndData"
   | "RlpInvalidLength"
+  | "RlpInvalidBoolean"
   | "RlpNoRoom"
   | "RlpTooDeep"
   | "RlpBadItems"

@@ -168,7 +168,8 @@ const cases = {
     check("EIP-1559", await give("input", "02d40108843b9aca008504a817c800825208800600c0"), /An unsigned EIP-1559 transaction: these are the bytes that are signed\.$/);
     const found = await ask(`[...document.querySelectorAll("#record tbody tr")].map((row) => [row.cells[0].textContent, row.cells[2].textContent])`);
     check("names and places", found, [["chainId", "2"], ["nonce", "3"], ["maxPriorityFeePerGas", "4"], ["maxFeePerGas", "9"], ["gasLimit", "15"], ["to", "18"], ["value", "19"], ["data", "20"], ["accessList", "21"]]);
-    check("a fault in a field", await give("input", "02d40108843b9aca008504a817c800820008800600c0"), /No transaction: RlpInvalidIndirection: .* in field 5, gasLimit/);
+    check("a fault in a field", await give("input", "02d70108843b9aca008504a817c800820008800600c0800506"), /No transaction: RlpInvalidIndirection: .* in field 5, gasLimit/);
+    check("too few fields, one with a fault", await give("input", "02d40108843b9aca008504a817c800820008800600c0"), /No transaction: RlpIncorrectListLen: .* in field 10, yParity/);
   },
   async "a node record"() {
     const text = "enr:-IS4QHCYrYZbAKWCBRlAy5zzaDZXJBGkcnh4MHcBFZntXNFrdvJjX04jRzjzCBOonrkTfj499SZuOh8R33Ls8RRcy5wBgmlkgnY0gmlwhH8AAAGJc2VjcDI1NmsxoQPKY0yuDUmstAHYpMa2_oxVtw0RW_QAdpzBQA8yWM0xOIN1ZHCCdl8";
@@ -235,7 +236,7 @@ const cases = {
     check("marked", await marked(), [4]);
     check("short", await give("input", "c8836361748364"), /RlpIsTooShort.*at byte 0/);
     check("the tree tells it", await ask(`document.querySelector("#tree .broken").textContent`), "!RlpIsTooShort at byte 0");
-    check("behind a type byte", await give("input", "02c28105"), /^Not canonical. RlpInvalidIndirection: .*, at byte 2\. No transaction: RlpInvalidIndirection: .* in field 1, chainId, at byte 2\.$/);
+    check("behind a type byte", await give("input", `02cd8105${"80".repeat(11)}`), /^Not canonical. RlpInvalidIndirection: .*, at byte 2\. No transaction: RlpInvalidIndirection: .* in field 1, chainId, at byte 2\.$/);
     check("marked", await marked(), [2]);
     check("digits", await give("input", "0x12g4"), /no hexadecimal digit at digit 3, but “g”/);
     check("half a byte", await give("input", "123"), /last byte has only one/);

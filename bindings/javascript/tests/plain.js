@@ -125,35 +125,36 @@ function checkString(string, kind) {
   if (typeof kind === "number" || (kind === "to" && string.length > 0)) {
     const length = kind === "to" ? 20 : kind;
     if (string.length !== length) throw new Fault(string.length < length ? "RlpIsTooShort" : "RlpIsTooBig", 0);
-  } else if ((number && string.length > Number(kind.slice(1))) || (kind === "bit" && (string.length > 1 || string[0] > 1))) {
-    throw new Fault("RlpIsTooBig", 0);
-  } else if ((number || kind === "bit") && string[0] === 0) {
-    throw new Fault("RlpInvalidIndirection", 0);
+  } else if (number || kind === "bit") {
+    if (string.length > (number ? Number(kind.slice(1)) : 1)) throw new Fault("RlpIsTooBig", 0);
+    if (string[0] === 0) throw new Fault("RlpInvalidIndirection", 0);
+    if (kind === "bit" && string[0] > 1) throw new Fault("RlpInvalidBoolean", 0);
   }
 }
 
-/** Throws the first fault of the fields from a place on, with the place and the number of its field. */
+/** Throws the fault of the fields from a place on, with the place and the number of its field: first that they are too few or too many. */
 function checkFields(data, from, end, kinds) {
-  let place = from;
-  let count = 0;
-  while (place < end) {
-    const stop = header(data, place, end)[1];
-    const kind = kinds[0] === "each" ? kinds[1] : kinds[count];
+  const places = [from];
+  while (places.at(-1) < end) places.push(header(data, places.at(-1), end)[1]);
+  const count = places.length - 1;
+  const allowed = kinds === HEADER ? [15, 16, 17, 20, 21] : kinds[0] === "each" ? [count] : [kinds.length];
+  if (!allowed.includes(count)) {
+    const at = Math.min(count, kinds.length);
+    throw new Fault("RlpIncorrectListLen", places[at], at + 1);
+  }
+  for (let at = 0; at < count; at++) {
+    const [place, stop] = places.slice(at);
+    const kind = kinds[0] === "each" ? kinds[1] : kinds[at];
     try {
-      if (kind === undefined) throw new Fault("RlpIncorrectListLen", 0);
       if (!Array.isArray(kind)) {
         if (data[place] >= 0xc0) throw new Fault("RlpExpectedToBeData", 0);
         checkString(item(data, place, stop, 0)[0], kind);
       } else if (data[place] < 0xc0) throw new Fault("RlpExpectedToBeList", 0);
       else checkFields(data, ...header(data, place, stop), kind);
     } catch (fault) {
-      throw new Fault(fault.name, place, count + 1);
+      throw new Fault(fault.name, place, at + 1);
     }
-    place = stop;
-    count++;
   }
-  const allowed = kinds === HEADER ? [15, 16, 17, 20, 21] : kinds[0] === "each" ? [count] : [kinds.length];
-  if (!allowed.includes(count)) throw new Fault("RlpIncorrectListLen", place, count + 1);
 }
 
 /** The values of the fields of a record that begins at a place. */

@@ -93,21 +93,26 @@ def check_string(string, kind):
         length = 20 if kind == "to" else kind
         if len(string) != length:
             raise Fault("RlpIsTooShort" if len(string) < length else "RlpIsTooBig", 0)
-    elif kind[0] == "n" and len(string) > int(kind[1:]) or kind == "bit" and (len(string) > 1 or string > b"\1"):
-        raise Fault("RlpIsTooBig", 0)
-    elif kind not in ("to", "any") and string[:1] == b"\0":
-        raise Fault("RlpInvalidIndirection", 0)
+    elif kind not in ("to", "any"):
+        if len(string) > (1 if kind == "bit" else int(kind[1:])):
+            raise Fault("RlpIsTooBig", 0)
+        if string[:1] == b"\0":
+            raise Fault("RlpInvalidIndirection", 0)
+        if kind == "bit" and string > b"\1":
+            raise Fault("RlpInvalidBoolean", 0)
 
 
 def check_fields(data, place, end, kinds):
-    """Raises the first fault of the fields from a place on, with the place of its field. Answers their number."""
-    count = 0
-    while place < end:
-        stop = header(data, place, end)[1]
-        kind = kinds[1] if kinds[0] == "each" else kinds[count] if count < len(kinds) else None
+    """Raises the fault of the fields from a place on, with the place of its field: first that their number is wrong."""
+    places = [place]
+    while places[-1] < end:
+        places.append(header(data, places[-1], end)[1])
+    count = len(places) - 1
+    if count not in ((15, 16, 17, 20, 21) if kinds is HEADER else (count,) if kinds[0] == "each" else (len(kinds),)):
+        raise Fault("RlpIncorrectListLen", places[min(count, len(kinds))])
+    for at, (place, stop) in enumerate(zip(places, places[1:])):
+        kind = kinds[1] if kinds[0] == "each" else kinds[at]
         try:
-            if kind is None:
-                raise Fault("RlpIncorrectListLen", 0)
             if not isinstance(kind, list):
                 if data[place] >= 0xC0:
                     raise Fault("RlpExpectedToBeData", 0)
@@ -118,10 +123,6 @@ def check_fields(data, place, end, kinds):
                 check_fields(data, *header(data, place, stop), kind)
         except Fault as fault:
             raise Fault(fault.args[0], place) from None
-        place, count = stop, count + 1
-    if count not in ((15, 16, 17, 20, 21) if kinds is HEADER else (count,) if kinds[0] == "each" else (len(kinds),)):
-        raise Fault("RlpIncorrectListLen", place)
-    return count
 
 
 def record(data, start, kinds):

@@ -27,6 +27,8 @@ pub enum DecoderError {
     RlpInconsistentLengthAndData = 9,
     /// A header and its string are 2^64 bytes or more.
     RlpInvalidLength = 10,
+    /// The parity of a signature is a number above 1.
+    RlpInvalidBoolean = 11,
     /// There are more lists, one in the other, than allowed.
     RlpTooDeep = 14,
     /// The items describe no tree, or lie outside the bytes.
@@ -35,7 +37,7 @@ pub enum DecoderError {
     RlpUnknownType = 16,
 }
 
-const ALL: [DecoderError; 13] = [
+const ALL: [DecoderError; 14] = [
     DecoderError::RlpIsTooBig,
     DecoderError::RlpIsTooShort,
     DecoderError::RlpExpectedToBeList,
@@ -46,6 +48,7 @@ const ALL: [DecoderError; 13] = [
     DecoderError::RlpInvalidIndirection,
     DecoderError::RlpInconsistentLengthAndData,
     DecoderError::RlpInvalidLength,
+    DecoderError::RlpInvalidBoolean,
     DecoderError::RlpTooDeep,
     DecoderError::RlpBadItems,
     DecoderError::RlpUnknownType,

@@ -2,10 +2,10 @@
 use Rattle.std.proofs.Common.{◌≡◌, ◌<◌, ◌^◌, ℕ, false, List, length, refl, sym, ap, ◌∙◌}
 use Rattle.rlp_format.specs.Format.Item.{Item, is_list, string, list}
 use Rattle.rlp_format.specs.Format.Encoding.{encoding}
-use Rattle.rlp_values.specs.Format.Split.{begins_as_list}
+use Rattle.rlp_reading.specs.Format.Split.{begins_as_list}
 use Rattle.rlp_write.specs.Streams.Stream.{State, put, put_item}
-use Rattle.rlp_values.specs.Values.RawItem.{IsRawItem, raw_item_of}
-use Rattle.rlp_values.specs.Lemmas.RawItems.{list_by, raw_encoding}
+use Rattle.rlp_reading.specs.Values.RawItem.{IsRawItem, raw_item_of}
+use Rattle.rlp_reading.proofs.Lemmas.RawItems.{list_by, raw_encoding}
 
 put_string : (x : Item) (s : State) → is_list x ≡ false → put (encoding x) s ≡ put_item x s
 put_string (string d) s is = refl

@@ -1,11 +1,11 @@
 -- The faults of a view whose bytes aren't framed.
 use Rattle.std.proofs.Common.{◌≡◌, ℕ, Bool, true, false, List, Some, Err, ap}
-use Rattle.rlp_values.specs.declared.error.DecoderError.{DecoderError}
-use Rattle.rlp_values.specs.Format.Framing.{frame, framing}
-use Rattle.rlp_values.specs.Format.Strict.{strict_fault, unless}
-use Rattle.rlp_values.specs.Values.RawItem.{view_frame}
-use Rattle.rlp_values.specs.Views.View.{view_header}
-use Rattle.rlp_values.proofs.Views.Fronts.{faulty_front, front_frame_fault}
+use Rattle.rlp_reading.specs.declared.error.DecoderError.{DecoderError}
+use Rattle.rlp_reading.specs.Format.Framing.{frame, framing}
+use Rattle.rlp_reading.specs.Format.Strict.{strict_fault, unless}
+use Rattle.rlp_reading.specs.Values.RawItem.{view_frame}
+use Rattle.rlp_reading.specs.Views.View.{view_header}
+use Rattle.rlp_reading.proofs.Views.Fronts.{faulty_front, front_frame_fault}
 
 pub faulty_view : (b : List ℕ) (strict : Bool) (e : DecoderError) → framing b ≡ Err e
     → (view_frame (record { bytes = b; is_strict = strict }) ≡ Err e) × (view_header (record { bytes = b; is_strict = strict }) ≡ Err e)

@@ -1,28 +1,36 @@
 -- The definitions, in reading order. Each folder lists its files in that order, with a line on each. Each word is defined before it is used.
 
 -- items, and the bytes that they are written as
-pub use Rattle.rlp_values.specs.Format
+pub use Rattle.rlp_reading.specs.Format
 -- the results of a view's methods
-pub use Rattle.rlp_values.specs.Views
+pub use Rattle.rlp_reading.specs.Views
 -- values, their items, and which bytes give them
-pub use Rattle.rlp_values.specs.Values
+pub use Rattle.rlp_reading.specs.Values
 -- streams: their states, and what each call makes of one
 pub mod Streams
--- lemmas for the laws of traits and for authors of types; readers of definitions don't need them
-pub use Rattle.rlp_values.specs.Lemmas
--- the codec of a custom type, from those of its fields
-pub use Rattle.rlp_values.specs.Codec
--- codecs of raw items, and of types whose values are of several types
-pub use Rattle.rlp_values.specs.Codecs
+-- how the values of types are written and read
+pub use Rattle.rlp_codec.specs.Form
+-- values of several types
+pub use Rattle.rlp_codec.specs.Sums
+-- types whose strings are of several kinds
+pub use Rattle.rlp_codec.specs.Kinds
+-- types that are read from a whole item
+pub use Rattle.rlp_codec.specs.FirstItems
+-- the laws of codecs
+pub use Rattle.rlp_codec.specs.Laws
+-- what a reader of items has left
+pub mod Left
+-- the codec of a custom type, from those of its fields, with its laws
+pub mod Codec
 -- the faults of decoding
-pub use Rattle.rlp_values.specs.declared.error.DecoderError
+pub use Rattle.rlp_reading.specs.declared.error.DecoderError
 -- the lengths that a header announces
-pub use Rattle.rlp_values.specs.declared.header.PayloadInfo
+pub use Rattle.rlp_reading.specs.declared.header.PayloadInfo
 -- what a view begins with
-pub use Rattle.rlp_values.specs.declared.prototype.Prototype
+pub use Rattle.rlp_reading.specs.declared.prototype.Prototype
 -- an item of a tree in flat form, and the fault of bytes that have none
-pub use Rattle.rlp_values.specs.declared.flat.FlatItem
-pub use Rattle.rlp_values.specs.declared.flat.TreeFault
+pub use Rattle.rlp_reading.specs.declared.flat.FlatItem
+pub use Rattle.rlp_reading.specs.declared.flat.TreeFault
 -- numbers that are kept as n bytes
 pub use Rattle.rlp_format.specs.declared.uint.Uint
 -- what prints of a number

@@ -12,14 +12,14 @@
 //! ```
 #![tactic(auto)]
 
-ghost use Rattle.std.specs.Prelude.{◌≡◌, IfOk, IfErr, IsOkAnd, ◌⊎◌, List, map, All};
+ghost use Rattle.std.specs.Prelude.{◌≡◌, IfOk, IfErr, IsOkAnd, IsTrue, ◌⊎◌, List, map, All};
+ghost use Rattle.std.specs.Vec.{vec_items};
 ghost use Rattle.rlp_format.specs.Format.Item.{list_of};
 ghost use Rattle.rlp_format.specs.Format.Encoding.{encoding};
-ghost use Rattle.rlp_format.specs.Format.WrittenHeader.{AreBytes};
 ghost use Rattle.rlp_format.specs.Values.Value.{AreAlike};
-ghost use Rattle.rlp_values.specs.declared.error.DecoderError.TheVariants.{OutOfMemory};
-ghost use Rattle.rlp_values.specs.Values.ListReading.{FaultsAsList, GivesList, MayLackAsList};
-ghost use Rattle.rlp_values.specs.Views.View.{strict_view_of, view_of};
+ghost use Rattle.rlp_reading.specs.declared.error.DecoderError.TheVariants.{OutOfMemory};
+ghost use Rattle.rlp_reading.specs.Views.View.{strict_view_of, view_of};
+ghost use Rattle.rlp_codec.specs.Form.{Faults, Gives, list_reading};
 
 mod impls;
 pub mod laws;
@@ -29,7 +29,7 @@ mod traits;
 
 pub use impls::RawItem;
 pub use rlp_format::Uint;
-pub use rlp_values::{DecoderError, FlatItem, PayloadInfo, Prototype, TreeFault};
+pub use rlp_reading::{DecoderError, FlatItem, PayloadInfo, Prototype, TreeFault};
 pub use rlp_write::{
     AppendFields, BasicEncoder, Chain, EMPTY_LIST_RLP, Each, Encodable, FieldsOf, Flattened,
     ListOf, NULL_RLP, Optional, OptionalGroupOf, OptionalListOf, RlpStream, encode, encode_list,
@@ -38,8 +38,8 @@ pub use rlp_write::{
 pub use rlpin::{BasicDecoder, Envelope, Fields, Rlp, RlpIterator};
 use std::alloc::Global;
 pub use structs::{
-    DecodeField, DecodeFields, Field, FieldFault, FixedFields, Groups, Joined, ListField,
-    OptionalGroup, decode_struct,
+    DecodeFields, FieldFault, FixedFields, Groups, Joined, ListField, OptionalField, OptionalGroup,
+    decode_struct,
 };
 pub use traits::{Decodable, RoundTrip, Scalar, StrictRead};
 
@@ -50,9 +50,9 @@ pub use traits::{Decodable, RoundTrip, Scalar, StrictRead};
 /// assert_eq!(rt; rlp::decode::<u64>(alloc, &[0x82, 0x01, 0x00])?, 256);
 /// ```
 pub fn decode<T: Decodable>(alloc: Global, bytes: &[u8]) -> Result<T, DecoderError>
-    ensures value { IfOk result (λ v. T.gives (view_of bytes.now) v) }
-    ensures fault { IfErr result (λ e. (T.faults (view_of bytes.now) e) ⊎ ((e ≡ OutOfMemory)
-        × T.may_lack_memory (view_of bytes.now))) }
+    ensures value { IfOk result (λ x. Gives T.reading (view_of bytes.now) x) }
+    ensures fault { IfErr result (λ e. Faults T.reading (view_of bytes.now) e
+        ⊎ ((e ≡ OutOfMemory) × IsTrue T.reading.takes_memory)) }
 {
     Rlp::new(bytes).as_val(alloc)
 }
@@ -65,9 +65,9 @@ pub fn decode<T: Decodable>(alloc: Global, bytes: &[u8]) -> Result<T, DecoderErr
 /// ```
 pub fn decode_list<T: Decodable>(alloc: Global, bytes: &[u8]) -> Result<Vec<T>, DecoderError>
     ensures value { IfOk result
-        (λ values. GivesList T.gives (view_of bytes.now) values.items) }
-    ensures fault { IfErr result (λ e. (FaultsAsList T.gives T.faults (view_of bytes.now) e)
-        ⊎ ((e ≡ OutOfMemory) × MayLackAsList T.gives T.may_lack_memory (view_of bytes.now))) }
+        (λ values. Gives (list_reading vec_items T.reading) (view_of bytes.now) values) }
+    ensures fault { IfErr result
+        (λ e. Faults (list_reading (λ xs. xs) T.reading) (view_of bytes.now) e ⊎ (e ≡ OutOfMemory)) }
 {
     Rlp::new(bytes).as_list(alloc)
 }
@@ -80,9 +80,9 @@ pub fn decode_list<T: Decodable>(alloc: Global, bytes: &[u8]) -> Result<Vec<T>, 
 /// assert!(rt; rlp::decode_strict::<u64>(alloc, &[0x05, 0x06]) == Err(rlp::DecoderError::RlpIsTooBig));
 /// ```
 pub fn decode_strict<T: Decodable>(alloc: Global, bytes: &[u8]) -> Result<T, DecoderError>
-    ensures value { IfOk result (λ v. T.gives (strict_view_of bytes.now) v) }
-    ensures fault { IfErr result (λ e. (T.faults (strict_view_of bytes.now) e) ⊎ ((e ≡ OutOfMemory)
-        × T.may_lack_memory (strict_view_of bytes.now))) }
+    ensures value { IfOk result (λ x. Gives T.reading (strict_view_of bytes.now) x) }
+    ensures fault { IfErr result (λ e. Faults T.reading (strict_view_of bytes.now) e
+        ⊎ ((e ≡ OutOfMemory) × IsTrue T.reading.takes_memory)) }
 {
     Rlp::new_strict(bytes).as_val(alloc)
 }
@@ -98,9 +98,9 @@ pub fn decode_strict<T: Decodable>(alloc: Global, bytes: &[u8]) -> Result<T, Dec
 /// ```
 pub fn decode_list_strict<T: Decodable>(alloc: Global, bytes: &[u8]) -> Result<Vec<T>, DecoderError>
     ensures value { IfOk result
-        (λ values. GivesList T.gives (strict_view_of bytes.now) values.items) }
-    ensures fault { IfErr result (λ e. (FaultsAsList T.gives T.faults (strict_view_of bytes.now) e)
-        ⊎ ((e ≡ OutOfMemory) × MayLackAsList T.gives T.may_lack_memory (strict_view_of bytes.now))) }
+        (λ values. Gives (list_reading vec_items T.reading) (strict_view_of bytes.now) values) }
+    ensures fault { IfErr result
+        (λ e. Faults (list_reading (λ xs. xs) T.reading) (strict_view_of bytes.now) e ⊎ (e ≡ OutOfMemory)) }
 {
     Rlp::new_strict(bytes).as_list(alloc)
 }
@@ -117,15 +117,14 @@ pub fn decode_list_strict<T: Decodable>(alloc: Global, bytes: &[u8]) -> Result<V
 /// ```
 pub fn decode_whole<T: StrictRead>(alloc: Global, bytes: &[u8]) -> Result<T, DecoderError>
     ensures whole { IfOk result (λ w. T.fits w × (bytes.now ≡ encoding (T.item w))) }
-    ensures fault { IfErr result
-        (λ e. (AreBytes bytes.now × T.faults (strict_view_of bytes.now) e) ⊎ ((e ≡ OutOfMemory)
-        × T.may_lack_memory (strict_view_of bytes.now))) }
+    ensures fault { IfErr result (λ e. Faults T.reading (strict_view_of bytes.now) e
+        ⊎ ((e ≡ OutOfMemory) × IsTrue T.reading.takes_memory)) }
     ensures only { (v : T) → IsOkAnd result (λ w. AreAlike T.item w v)
         → bytes.now ≡ encoding (T.item v) }
     ensures alike { (v : T) → T.fits v → bytes.now ≡ encoding (T.item v)
         → IfOk result (λ w. T.fits w × AreAlike T.item w v) }
     ensures memory { (v : T) → T.fits v → bytes.now ≡ encoding (T.item v)
-        → IfErr result (λ e. (e ≡ OutOfMemory) × T.may_lack_memory (strict_view_of bytes.now)) }
+        → IfErr result (λ e. (e ≡ OutOfMemory) × IsTrue T.reading.takes_memory) }
 {
     decode_strict(alloc, bytes)
 }
@@ -144,17 +143,15 @@ pub fn decode_list_whole<T: StrictRead>(alloc: Global, bytes: &[u8]) -> Result<V
     ensures whole { IfOk result (λ ws. All T.fits ws.items
         × (bytes.now ≡ encoding (list_of (map T.item ws.items)))) }
     ensures fault { IfErr result
-        (λ e. (AreBytes bytes.now × FaultsAsList T.gives T.faults (strict_view_of bytes.now) e)
-        ⊎ ((e ≡ OutOfMemory) × MayLackAsList T.gives T.may_lack_memory (strict_view_of bytes.now))) }
+        (λ e. Faults (list_reading (λ xs. xs) T.reading) (strict_view_of bytes.now) e
+        ⊎ (e ≡ OutOfMemory)) }
     ensures only { (vs : List T)
         → IsOkAnd result (λ ws. map T.item ws.items ≡ map T.item vs)
         → bytes.now ≡ encoding (list_of (map T.item vs)) }
     ensures alike { (vs : List T) → All T.fits vs → bytes.now ≡ encoding (list_of (map T.item vs))
         → IfOk result (λ ws. All T.fits ws.items × (map T.item ws.items ≡ map T.item vs)) }
     ensures memory { (vs : List T) → All T.fits vs
-        → bytes.now ≡ encoding (list_of (map T.item vs))
-        → IfErr result (λ e. (e ≡ OutOfMemory)
-        × MayLackAsList T.gives T.may_lack_memory (strict_view_of bytes.now)) }
+        → bytes.now ≡ encoding (list_of (map T.item vs)) → IfErr result (λ e. e ≡ OutOfMemory) }
 {
     decode_list_strict(alloc, bytes)
 }

@@ -1,14 +1,10 @@
 //! Structs that are read as the list of their fields.
 
-ghost use Rattle.std.specs.Prelude.{◌≡◌, ◌+◌, ◌⊎◌, ◌↔◌, ◌^◌, ◌<◌, ℕ, None, Some, Ok, IfOk, IfErr, IsSomeAnd, IsTrue, MatchOption, OnOk};
+ghost use Rattle.std.specs.Prelude.{◌≡◌, ◌+◌, ◌⊎◌, ◌^◌, Ok, Err, Some, IfOk, IfErr, IsTrue, slice_get};
 ghost use Rattle.std.specs.Vec.{vec_items};
-ghost use Rattle.std.specs.declared.alloc.Global.{Global};
-ghost use Rattle.rlp_values.specs.declared.error.DecoderError.{DecoderError};
-ghost use Rattle.rlp_values.specs.declared.error.DecoderError.TheVariants.{OutOfMemory};
-ghost use Rattle.rlp_values.specs.Views.View.{View, item_count};
-ghost use Rattle.rlp_values.specs.Values.FaultText.{field_fault_text};
-ghost use Rattle.rlp_values.specs.Values.FieldReading.{FaultsAsStruct, FieldsFail, FieldsReading, GivesFields, IsCount, MayLackAsStruct, StructFails, field_before, no_fields, part_fields};
-ghost use Rattle.rlp_values.specs.Values.ListReading.{FaultsAsList, FaultsAt, GivesAt, GivesList, GivesSomeAt, MayLackAsList, MayLackAt};
+ghost use Rattle.rlp_reading.specs.declared.error.DecoderError.TheVariants.{OutOfMemory};
+ghost use Rattle.rlp_reading.specs.Values.FaultText.{field_fault_text};
+ghost use Rattle.rlp_codec.specs.Form.{Faults, FieldsReading, Gives, fault_of, group_before, list_reading, no_fields, one_field, part_fields, struct_reading};
 
 mod groups;
 mod optional;
@@ -17,80 +13,24 @@ mod parts;
 use crate::rlpin::{Fields, Rlp};
 use crate::traits::Decodable;
 pub use groups::{FixedFields, Groups};
-pub use optional::OptionalGroup;
+pub use optional::{OptionalField, OptionalGroup};
 pub use parts::Joined;
-use rlp_values::error::DecoderError;
+use rlp_reading::error::DecoderError;
 use std::alloc::Global;
 use std::error::Error;
 use std::fmt;
 
-/// One field of a struct, read from one item.
-pub trait DecodeField: Sized + Drop {
-    /// The item gives the field.
-    ghost gives: { View → Self → Type 0 };
-
-    /// The item at this place of a view gives some field.
-    ghost gives_some: { ℕ → View → Type 0 };
-
-    /// The item gives no field, and this is the error.
-    ghost faults: { View → DecoderError → Type 0 };
-
-    /// Reading the item can fail with `OutOfMemory`, if memory is refused.
-    ghost may_lack_memory: { View → Type 0 };
-
-    /// Reads the field from the next item. Fails as [`Fields::next_value`] or
-    /// [`Fields::next_list`] does.
-    fn decode_field(alloc: Global, fields: &mut Fields<'_>) -> Result<Self, DecoderError>
-        ensures value { IfOk result (λ x. GivesAt gives fields.old.view fields.old.place x) }
-        ensures some { OnOk result (gives_some fields.old.place fields.old.view) }
-        ensures fault { IfErr result (λ e. (FaultsAt faults fields.old.view fields.old.place e)
-            ⊎ ((e ≡ OutOfMemory) × MayLackAt may_lack_memory fields.old.view fields.old.place)) }
-        ensures next { OnOk result
-            (fields.new ≡ record fields.old { place = fields.old.place + 1 }) }
-        ensures same_view { fields.new.view ≡ fields.old.view };
-}
-
-/// A field that is a value.
-#[derive(Drop)]
-pub struct Field<T>(pub T);
-
-/// A field that is a list of values.
+/// A list of values, as a field of a struct.
 #[derive(Drop)]
 pub struct ListField<T>(pub Vec<T>);
 
-impl<T: Decodable> DecodeField for Field<T> {
-    ghost gives = { λ v x. T.gives v x.0 };
+/// Reads the values as [`Rlp::as_list`] does.
+impl<T: Decodable> Decodable for ListField<T> {
+    ghost reading = { list_reading (λ l. vec_items l.0) T.reading };
 
-    ghost gives_some = { λ i v. GivesSomeAt T.gives v i };
-
-    ghost faults = { T.faults };
-
-    ghost may_lack_memory = { T.may_lack_memory };
-
-    #[inline(always)]
-    fn decode_field(alloc: Global, fields: &mut Fields<'_>) -> Result<Field<T>, DecoderError> {
-        match fields.next_value(alloc) {
-            Ok(value) => Ok(Field(value)),
-            Err(fault) => Err(fault),
-        }
-    }
-}
-
-impl<T: Decodable> DecodeField for ListField<T> {
-    ghost gives = { λ v x. GivesList T.gives v (vec_items x.0) };
-
-    ghost gives_some = { λ i v. GivesSomeAt
-        (λ v values. GivesList T.gives v (vec_items {X = T} {Z = Global} values)) v i };
-
-    ghost faults = { λ v e. FaultsAsList T.gives T.faults v e };
-
-    ghost may_lack_memory = { λ v. MayLackAsList T.gives T.may_lack_memory v };
-
-    fn decode_field(alloc: Global, fields: &mut Fields<'_>) -> Result<ListField<T>, DecoderError> {
-        match fields.next_list(alloc) {
-            Ok(values) => Ok(ListField(values)),
-            Err(fault) => Err(fault),
-        }
+    fn decode(alloc: Global, rlp: &Rlp<'_>) -> Result<ListField<T>, DecoderError> {
+        let values = rlp.as_list(alloc)?;
+        Ok(ListField(values))
     }
 }
 
@@ -119,52 +59,26 @@ impl fmt::Display for FieldFault {
 
 impl Error for FieldFault {}
 
-impl FieldFault {
-    /// The same fault, if this number of items comes before the fields.
-    pub(crate) fn after(self, items: usize) -> FieldFault
-        ensures fault { result.fault ≡ self.fault }
-        ensures place { MatchOption self.place (result.place ≡ None)
-            (λ k. k + items < 2 ^ 64 → result.place ≡ Some (k + items)) }
-    {
-        let place = match self.place {
-            Some(place) => Some(place.saturating_add(items)),
-            None => None,
-        };
-        FieldFault {
-            place,
-            fault: self.fault,
-        }
-    }
-}
-
 /// The fields of a struct, read from the items of a list.
 ///
 /// Pairs that end with `()` are fields one after another, as in `(a, (b, ()))`. The last fields may
-/// be an [`OptionalGroup`](crate::OptionalGroup) or [`Groups`](crate::Groups) in the place of `()`.
-/// A struct has this trait if its fields stand in the list of another struct.
-pub trait DecodeFields: Sized {
+/// be an [`OptionalField`], an [`OptionalGroup`] or [`Groups`] in the place of `()`. A struct has
+/// this trait if its fields stand in the list of another struct.
+pub trait DecodeFields: Sized + Drop {
     /// How the fields are read.
     ghost reading: { FieldsReading Self };
 
     /// Returns whether the fields may be `len` items.
     fn accepts(len: usize) -> bool
-        ensures { IsTrue result ↔ IsCount reading.least reading.IsMore len };
+        ensures { result ≡ reading.accepts len };
 
-    /// Reads the fields from the next `len` items. If a field fails, returns the error of
-    /// [`DecodeField::decode_field`] for the first field that fails, and the place of its item among
-    /// these.
-    fn decode_fields(alloc: Global, fields: &mut Fields<'_>, len: usize) -> Result<Self, FieldFault>
-        requires { IsCount reading.least reading.IsMore len }
-        ensures value { IfOk result (λ x. reading.gives fields.old.place fields.old.view x) }
-        ensures count { IfOk result (λ x. reading.count x ≡ len) }
-        ensures some { OnOk result
-            (GivesFields len reading.some fields.old.view fields.old.place) }
-        ensures fault { IfErr result (λ e. IsSomeAnd e.place (λ k.
-            FieldsFail len reading.some reading.faults reading.may_lack
-            fields.old.view fields.old.place k e.fault)) }
-        ensures next { OnOk result
-            (fields.new ≡ record fields.old { place = fields.old.place + len }) }
-        ensures same_view { fields.new.view ≡ fields.old.view };
+    /// Reads the fields from the next items. If a field fails, the items after its item are left.
+    fn decode_fields(alloc: Global, fields: &mut Fields<'_>) -> Result<Self, DecoderError>
+        ensures value { IfOk result (λ x. (reading.read fields.old.views).result
+            ≡ Ok (reading.seen x, fields.new.views)) }
+        ensures fault { IfErr result (λ e. ((reading.read fields.old.views).result
+            ≡ Err (fields.new.views, fault_of e))
+            ⊎ ((e ≡ OutOfMemory) × IsTrue reading.takes_memory)) };
 }
 
 /// No more fields.
@@ -175,35 +89,27 @@ impl DecodeFields for () {
         len == 0
     }
 
-    fn decode_fields(alloc: Global, fields: &mut Fields<'_>, len: usize) -> Result<(), FieldFault> {
+    fn decode_fields(_alloc: Global, _fields: &mut Fields<'_>) -> Result<(), DecoderError> {
         Ok(())
     }
 }
 
 /// A field, and those after it.
-impl<F: DecodeField, Q: DecodeFields> DecodeFields for (F, Q) {
-    ghost reading = { field_before (λ i v x. GivesAt F.gives v i x.0) F.gives_some F.faults
-        (λ i v. MayLackAt F.may_lack_memory v i) (part_fields (λ x. x.1) Q.reading) };
+impl<T: Decodable, Q: DecodeFields> DecodeFields for (T, Q) {
+    ghost reading = { group_before (λ x. x.0) (one_field T.reading)
+        (part_fields (λ x. x.1) Q.reading) };
 
     fn accepts(len: usize) -> bool {
-        len > 0 && Q::accepts(len - 1)
+        0 < len && Q::accepts(len - 1)
     }
 
-    fn decode_fields(
-        alloc: Global,
-        fields: &mut Fields<'_>,
-        len: usize,
-    ) -> Result<(F, Q), FieldFault> {
-        match F::decode_field(alloc, fields) {
-            Ok(field) => match Q::decode_fields(alloc, fields, len - 1) {
-                Ok(others) => Ok((field, others)),
-                Err(fault) => Err(fault.after(1)),
-            },
-            Err(fault) => Err(FieldFault {
-                place: Some(0),
-                fault,
-            }),
-        }
+    fn decode_fields(alloc: Global, fields: &mut Fields<'_>) -> Result<(T, Q), DecoderError> {
+        let Some(item) = fields.next() else {
+            return Err(DecoderError::RlpIncorrectListLen);
+        };
+        let value = T::decode(alloc, &item)?;
+        let others = Q::decode_fields(alloc, fields)?;
+        Ok((value, others))
     }
 }
 
@@ -211,34 +117,45 @@ impl<F: DecodeField, Q: DecodeFields> DecodeFields for (F, Q) {
 /// fails. `rlp::decode_fields!` calls it.
 ///
 /// Fails with `RlpIncorrectListLen` and no place if the number of items is wrong, whatever the items
-/// are. Also fails as [`Rlp::item_count`] does, with no place, and with the error of the first field
+/// are. Also fails as [`Rlp::item_count`] does, with no place, and with the fault of the first field
 /// that fails and its place.
 #[inline(always)]
 pub fn decode_struct<F: DecodeFields>(alloc: Global, rlp: &Rlp<'_>) -> Result<F, FieldFault>
-    ensures value { IfOk result (λ x. (item_count rlp.now ≡ Ok (F.reading.count x))
-        × F.reading.gives 0 rlp.now x) }
-    ensures fault { IfErr result (λ e.
-        (FaultsAsStruct F.reading.least F.reading.IsMore F.reading.some F.reading.faults rlp.now e.fault)
-        ⊎ ((e.fault ≡ OutOfMemory) × MayLackAsStruct F.reading.least F.reading.IsMore F.reading.some
-        F.reading.may_lack rlp.now)) }
-    ensures place { IfErr result (λ e. StructFails F.reading.least F.reading.IsMore F.reading.some
-        F.reading.faults F.reading.may_lack rlp.now e.place e.fault) }
+    ensures value { IfOk result (λ x. Gives (struct_reading F.reading) rlp.now x) }
+    ensures fault { IfErr result (λ e. Faults (struct_reading F.reading) rlp.now e.fault
+        ⊎ ((e.fault ≡ OutOfMemory) × IsTrue F.reading.takes_memory)) }
+    ensures place { IfErr result (λ e.
+        (slice_get ((struct_reading F.reading).read rlp.now).path 0 ≡ e.place)
+        ⊎ ((e.fault ≡ OutOfMemory) × IsTrue F.reading.takes_memory)) }
 {
-    let count = match rlp.item_count() {
-        Ok(count) => count,
+    let mut fields = match Fields::counted(rlp) {
+        Ok(fields) => fields,
         Err(fault) => return Err(FieldFault { place: None, fault }),
     };
+    let count = fields.count_left();
     if !F::accepts(count) {
         return Err(FieldFault {
             place: None,
             fault: DecoderError::RlpIncorrectListLen,
         });
     }
-    let mut fields = Fields::over(rlp);
-    match F::decode_fields(alloc, &mut fields, count) {
-        Ok(values) => Ok(values),
-        Err(fault) => Err(fault),
+    let values = match F::decode_fields(alloc, &mut fields) {
+        Ok(values) => values,
+        Err(fault) => {
+            let place = count.saturating_sub(1).saturating_sub(fields.count_left());
+            return Err(FieldFault {
+                place: Some(place),
+                fault,
+            });
+        }
+    };
+    if fields.is_empty() {
+        return Ok(values);
     }
+    Err(FieldFault {
+        place: Some(count.saturating_sub(fields.count_left())),
+        fault: DecoderError::RlpIncorrectListLen,
+    })
 }
 
 /// Writes a struct as the list of its fields. The arguments are the stream, and then each field in
@@ -311,18 +228,21 @@ macro_rules! append_fields {
 /// `pairs: [(..)]`. A struct whose fields stand first in the list is written `payload: (..)`, if it
 /// has [`FixedFields`].
 ///
+/// More than sixteen fields are read in groups, `(a, b, c), (d, e, f), g`, for each of which the
+/// definition of the codec has a `group`.
+///
 /// ```rust
 /// fn decode(alloc: Global, rlp: &Rlp<'_>) -> Result<Access, DecoderError> {
 ///     rlp::decode_fields!(alloc, rlp, Access { address, keys: [..], nonce: ? })
 /// }
 /// ```
 ///
-/// With a reader of fields and a number of items in the place of the view, it is the whole body of a
-/// [`DecodeFields::decode_fields`].
+/// With the word `fields` in front, and a reader of fields in the place of the view, it is the whole
+/// body of a [`DecodeFields::decode_fields`].
 ///
 /// ```rust
-/// fn decode_fields(alloc: Global, fields: &mut Fields<'_>, len: usize) -> Result<Pair, FieldFault> {
-///     rlp::decode_fields!(alloc, fields, len, Pair { key, value })
+/// fn decode_fields(alloc: Global, fields: &mut Fields<'_>) -> Result<Pair, DecoderError> {
+///     rlp::decode_fields!(fields alloc, fields, Pair { key, value })
 /// }
 /// ```
 #[macro_export]
@@ -335,7 +255,14 @@ macro_rules! decode_fields {
     (@next $head:tt $left:ident [$($moves:tt)*] [$($names:ident)*] $field:ident $(, $($others:tt)*)?) => {
         $crate::decode_fields!(
             @next $head $left
-            [$($moves)* let ($crate::Field($field), $left) = $left;] [$($names)* $field] $($($others)*)?
+            [$($moves)* let ($field, $left) = $left;] [$($names)* $field] $($($others)*)?
+        )
+    };
+    (@next $head:tt $left:ident [$($moves:tt)*] [$($names:ident)*] ($($field:ident),+ $(,)?) $(, $($others:tt)*)?) => {
+        $crate::decode_fields!(
+            @next $head $left
+            [$($moves)* let $crate::Joined(group, $left) = $left; $(let ($field, group) = group;)+ let () = group;]
+            [$($names)* $($field)+] $($($others)*)?
         )
     };
     (@next $head:tt $left:ident [$($moves:tt)*] [$($names:ident)*] $field:ident: [..] $(, $($others:tt)*)?) => {
@@ -347,28 +274,16 @@ macro_rules! decode_fields {
     (@next $head:tt $left:ident [$($moves:tt)*] [$($names:ident)*] $field:ident: ? $(,)?) => {
         $crate::decode_fields!(
             @call $head $left
-            [$($moves)*
-            let $crate::OptionalGroup(group) = $left;
-            let $field = match group {
-                Some(($crate::Field($field), $left)) => {
-                    let () = $left;
-                    Some($field)
-                }
-                None => None,
-            };]
-            [$($names)* $field]
+            [$($moves)* let $crate::OptionalField($field) = $left;] [$($names)* $field]
         )
     };
     (@next $head:tt $left:ident [$($moves:tt)*] [$($names:ident)*] $field:ident: [..]? $(,)?) => {
         $crate::decode_fields!(
             @call $head $left
             [$($moves)*
-            let $crate::OptionalGroup(group) = $left;
-            let $field = match group {
-                Some(($crate::ListField($field), $left)) => {
-                    let () = $left;
-                    Some($field)
-                }
+            let $crate::OptionalField(list) = $left;
+            let $field = match list {
+                Some($crate::ListField($field)) => Some($field),
                 None => None,
             };]
             [$($names)* $field]
@@ -404,7 +319,7 @@ macro_rules! decode_fields {
     (@each $head:tt $left:ident [$($moves:tt)*] $names:tt $field:ident [$($values:ident)*] [_ $($more:tt)*] $($others:tt)*) => {
         $crate::decode_fields!(
             @each $head $left
-            [$($moves)* let ($crate::Field(value), $left) = $left;] $names $field [$($values)* value] [$($more)*] $($others)*
+            [$($moves)* let (value, $left) = $left;] $names $field [$($values)* value] [$($more)*] $($others)*
         )
     };
     (@call ($read:expr, [$($part:tt)*] $name:ident {}) $left:ident [$($moves:tt)*] [$($field:ident)*]) => {
@@ -431,14 +346,14 @@ macro_rules! decode_fields {
     ($alloc:expr, $rlp:expr, $name:ident ( $($fields:tt)+ )) => {
         $crate::decode_fields!(@next ($crate::decode_struct($alloc, $rlp), [.fault] $name ()) fields [] [] $($fields)+)
     };
-    ($alloc:expr, $from:expr, $len:expr, $name:ident { $($fields:tt)+ }) => {
+    (fields $alloc:expr, $from:expr, $name:ident { $($fields:tt)+ }) => {
         $crate::decode_fields!(
-            @next ($crate::DecodeFields::decode_fields($alloc, $from, $len), [] $name {}) fields [] [] $($fields)+
+            @next ($crate::DecodeFields::decode_fields($alloc, $from), [] $name {}) fields [] [] $($fields)+
         )
     };
-    ($alloc:expr, $from:expr, $len:expr, $name:ident ( $($fields:tt)+ )) => {
+    (fields $alloc:expr, $from:expr, $name:ident ( $($fields:tt)+ )) => {
         $crate::decode_fields!(
-            @next ($crate::DecodeFields::decode_fields($alloc, $from, $len), [] $name ()) fields [] [] $($fields)+
+            @next ($crate::DecodeFields::decode_fields($alloc, $from), [] $name ()) fields [] [] $($fields)+
         )
     };
 }

@@ -6,10 +6,10 @@ use Rattle.rlp_format.specs.Format.Item.{Item, string, list, Items, no_items, it
 use Rattle.rlp_format.specs.Format.Encoding.{encoding, is_low_byte, join_items}
 use Rattle.rlp_format.specs.Format.WrittenHeader.{written_header}
 use Rattle.rlp_c.specs.declared.item.RlpItem.{RlpItem}
-use Rattle.rlp_values.specs.Format.Flat.{flat_item, flat_rows, header_length}
+use Rattle.rlp_reading.specs.Format.Flat.{flat_item, flat_rows, header_length}
 use Rattle.rlp_c.specs.Flat.{flat, flat_items, row_of}
 use Rattle.rlp_c.specs.Tree.{AreRows, DescribeTree, item_of, items_of, tree_of}
-use Rattle.rlp_values.proofs.Trees.Needless.{high_written, low_again}
+use Rattle.rlp_reading.proofs.Trees.Needless.{high_written, low_again}
 use Rattle.rlp_c.proofs.Trees.{item-list, item-string, items_of-behind, items_of-deeper, items_of-here}
 
 -- bytes stand at a place in b

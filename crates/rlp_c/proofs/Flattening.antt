@@ -2,8 +2,8 @@
 use Rattle.std.proofs.Common.{◌≡◌, ℕ, ◌<◌, ◌≤◌, List, length, refl, arith}
 use Rattle.rlp_c.specs.declared.item.RlpItem.{RlpItem}
 use Rattle.rlp_c.specs.Flat.{IsFlattened, filled, flat, no_room, row_of}
-use Rattle.rlp_values.specs.Format.Walk.{IsWalked}
-use Rattle.rlp_values.proofs.Trees.Rows.{extends_start}
+use Rattle.rlp_reading.specs.Format.Walk.{IsWalked}
+use Rattle.rlp_reading.proofs.Trees.Rows.{extends_start}
 
 pub flattened : (most : ℕ) (b : List ℕ) (old new : List RlpItem) (old_count n : ℕ) → IsWalked row_of b 0 0 most old 0 new n → n ≤ length old
     → IsFlattened most b old new old_count n 0

@@ -14,15 +14,11 @@ mod Measuring
 mod Texts
 -- the rows of a tree describe it
 mod Described
+-- what the table of kinds gives, item by item
+mod Tables
+-- the table has the fields that the codecs read
+mod RecordTables
 -- the walk over the fields of a record
 mod Checking
 -- the answers for transactions and headers
 mod RecordAnswers
--- what the codecs write has no fault
-mod WrittenFields
--- the answers for transactions and headers that are written
-mod WrittenRecords
--- items without a fault as fields have none of the codecs
-mod ReadFields
--- the answers for transactions and headers that are read
-mod ReadRecords

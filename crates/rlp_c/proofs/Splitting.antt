@@ -1,18 +1,20 @@
 -- The walk over the items of one list.
-use Rattle.std.proofs.Common.{◌≡◌, ℕ, ◌+◌, ◌-◌, ◌<◌, ◌≤◌, ◌⊎◌, inl, inr, suc, true, List, [], ◌∷◌, ◌++◌, length, drop, refl, sym, ap, ◌∙◌}
+use Rattle.std.proofs.Common.{◌≡◌, ℕ, ◌+◌, ◌-◌, ◌^◌, ◌<◌, ◌≤◌, ◌⊎◌, inl, inr, suc, true, List, [], ◌∷◌, ◌++◌, length, drop, refl, sym, ap, ◌∙◌}
 use Rattle.std.proofs.Common.{subst, arith, Ok, Some, None, append-nil, append_assoc, length-append}
-use Rattle.rlp_values.specs.declared.error.DecoderError.{DecoderError}
-use Rattle.rlp_values.specs.declared.header.PayloadInfo.{PayloadInfo}
-use Rattle.rlp_values.specs.Format.Framing.{fault, framing, value}
-use Rattle.rlp_values.specs.Format.Split.{begins_as_list, items, split}
-use Rattle.rlp_values.specs.Format.Strict.{after_items, fault_of_some, strict_fault, strict_list_fault}
-use Rattle.rlp_values.proofs.Format.Splits.{split-nil}
-use Rattle.rlp_values.proofs.Format.StrictLists.{after_items-next, after_items-nil, after_items-none, fault_of_some-some, strict_whole, value-items}
+use Rattle.rlp_reading.specs.declared.error.DecoderError.{DecoderError}
+use Rattle.rlp_reading.specs.declared.header.PayloadInfo.{PayloadInfo}
+use Rattle.rlp_reading.specs.Format.Framing.{IsFramedItem, fault, framing, value}
+use Rattle.rlp_reading.specs.Format.Split.{begins_as_list, split}
+use Rattle.rlp_reading.specs.Format.Strict.{after_items, fault_of_some, strict_fault, strict_list_fault}
+use Rattle.rlp_reading.proofs.Format.Splits.{split-nil}
+use Rattle.rlp_reading.proofs.Format.StrictLists.{after_items-next, after_items-nil, after_items-none, fault_of_some-some, strict_whole, value-items}
 use Rattle.rlp_c.specs.declared.item.RlpItem.{RlpItem}
-use Rattle.rlp_c.specs.Rows.{IsItemized, header_length, row, row_by, rows_at}
+use Rattle.rlp_c.specs.Rows.{ArePlaced, IsItemized, header_length, row, row_by, rows_at}
 use Rattle.rlp_c.specs.Status.{fault_status}
-use Rattle.rlp_values.specs.Format.Walk.{Extends}
-use Rattle.rlp_values.proofs.Trees.Rows.{extends_both, extends_start}
+use Rattle.rlp_reading.specs.Format.Walk.{Extends}
+use Rattle.rlp_reading.proofs.Trees.Needless.{whole_item}
+use Rattle.rlp_reading.proofs.Trees.Rows.{extends_both, extends_start}
+use Rattle.rlp_reading.proofs.Trees.Walks.{content_payload}
 use Rattle.std.specs.List.{concat}
 
 -- the first items have rows, and the others are those of the rest
@@ -115,29 +117,36 @@ unfolding rows_at
 rows_counted place depth [] = refl
 rows_counted place depth (f ∷ fs) = ap (λ n. suc n) (rows_counted (place + length f) depth fs)
 
--- the answer for a list
-pub itemized : (b q : List ℕ) (h : PayloadInfo) (old new : List RlpItem) (old_count n status : ℕ) → true ≡ begins_as_list b → strict_fault b ≡ None
-    → value b ≡ Ok q → framing b ≡ Ok h → fault_of_some (after_items q) ≡ None → n ≡ length (split q) → Extends old 0 (rows_at h.header_len 1 (split q)) new
-    → ((n ≤ length old) × (status ≡ 0)) ⊎ ((length old < n) × (status ≡ 13)) → IsItemized b old new old_count n status (strict_list_fault b)
-itemized b q h old new old_count n status kind whole found header none count rows room =
-    let same : split q ≡ items b = value-items b q kind found in
-    let fault : None ≡ strict_list_fault b = sym none ∙ strict_whole b q kind whole found in
-    let counted : n ≡ length (items b) = count ∙ ap length same in
-    let wrote : Extends old 0 (rows_at (header_length (framing b)) 1 (items b)) new =
-    subst (λ fs. Extends old 0 (rows_at (header_length (framing b)) 1 fs) new) same
-    (subst (λ k. Extends old 0 (rows_at k 1 (split q)) new) (ap header_length (sym header)) rows) in
-    let len = rows_counted (header_length (framing b)) 1 (items b) in
-    subst (IsItemized b old new old_count n status) fault (counted, roomy b old new n status counted wrote len room)
-  where
-    roomy : (b : List ℕ) (old new : List RlpItem) (n status : ℕ) → n ≡ length (items b) → Extends old 0 (rows_at (header_length (framing b)) 1 (items b)) new
-        → length (rows_at (header_length (framing b)) 1 (items b)) ≡ length (items b)
-        → ((n ≤ length old) × (status ≡ 0)) ⊎ ((length old < n) × (status ≡ 13))
-        → ((n ≤ length old) × (status ≡ 0) × (new ≡ rows_at (header_length (framing b)) 1 (items b) ++ drop n old)) ⊎ ((length old < n) × (status ≡ 13))
-    roomy b old new n status counted wrote len (inl (fits, ok)) =
-        inl (fits, ok, extends_start old new n (rows_at (header_length (framing b)) 1 (items b)) wrote (omega (arith, counted, len)) fits)
-    roomy b old new n status counted wrote len (inr full) = inr full
+module _ (place : ℕ) (b q : List ℕ) (h : PayloadInfo) (kind : true ≡ begins_as_list b) where
+  -- the payload ends within the bytes
+  pub payload_fits : value b ≡ Ok q → IsFramedItem b → framing b ≡ Ok h → place + length b < 2 ^ 64 → place + h.header_len + length q < 2 ^ 64
+  payload_fits found framed header small =
+      let w = whole_item b h q framed header found in
+      let same = content_payload b h q w kind found in
+      omega (arith, small, w.whole, same.1, ap length same.0)
+
+  -- the answer for a list
+  pub itemized : (old new : List RlpItem) (old_count n status : ℕ) → strict_fault b ≡ None → value b ≡ Ok q → framing b ≡ Ok h
+      → fault_of_some (after_items q) ≡ None → n ≡ length (split q) → Extends old 0 (rows_at (place + h.header_len) 1 (split q)) new
+      → ((n ≤ length old) × (status ≡ 0)) ⊎ ((length old < n) × (status ≡ 13))
+      → IsItemized place b old new old_count n status (strict_list_fault b)
+  itemized old new old_count n status whole found header none count rows room =
+      subst (IsItemized place b old new old_count n status) (sym none ∙ strict_whole b q kind whole found)
+      (subst (λ fs. ArePlaced place b fs old new n status) (value-items b q kind found) (count, by room))
+    where
+      by : ((n ≤ length old) × (status ≡ 0)) ⊎ ((length old < n) × (status ≡ 13))
+          → ((n ≤ length old) × (status ≡ 0) × (new ≡ rows_at (place + header_length (framing b)) 1 (split q) ++ drop n old)) ⊎ ((length old < n) × (status ≡ 13))
+      by (inl (fits, ok)) =
+          let len = rows_counted (place + h.header_len) 1 (split q) in
+          inl (
+            fits,
+            ok,
+            extends_start old new n (rows_at (place + h.header_len) 1 (split q)) rows (omega (arith, count, len)) fits
+                ∙ ap (λ f. rows_at (place + header_length f) 1 (split q) ++ drop n old) (sym header),
+          )
+      by (inr full) = inr full
 
 -- the answer for what isn't a list
-pub not_itemized : (b : List ℕ) (old new : List RlpItem) (count status : ℕ) (e : DecoderError) → strict_list_fault b ≡ Some e → status ≡ fault_status e
-    → IsItemized b old new count count status (strict_list_fault b)
-not_itemized b old new count status e fault is = subst (IsItemized b old new count count status) (sym fault) (is, refl)
+pub not_itemized : (place : ℕ) (b : List ℕ) (old new : List RlpItem) (count status : ℕ) (e : DecoderError) → strict_list_fault b ≡ Some e
+    → status ≡ fault_status e → IsItemized place b old new count count status (strict_list_fault b)
+not_itemized place b old new count status e fault is = subst (IsItemized place b old new count count status) (sym fault) (is, refl)

@@ -1,12 +1,12 @@
 -- Where the string that bytes begin with is.
 use Rattle.std.proofs.Common.{◌≡◌, ℕ, ◌^◌, ◌<◌, ◌+◌, List, length, take, drop, false, ap, sym, ◌∙◌, subst, arith, le-leb, Ok, Err, MatchResult}
 use Rattle.std.proofs.lemmas.Bool.{cond-true}
-use Rattle.rlp_values.specs.declared.error.DecoderError.{DecoderError}
-use Rattle.rlp_values.specs.declared.header.PayloadInfo.{PayloadInfo}
-use Rattle.rlp_values.specs.Format.Framing.{framing, framing_in}
-use Rattle.rlp_values.specs.Format.Header.{header, payload_info}
-use Rattle.rlp_values.specs.Format.StringReading.{IsString}
-use Rattle.rlp_values.proofs.Trees.Placed.{Ok_same, string_placed}
+use Rattle.rlp_reading.specs.declared.error.DecoderError.{DecoderError}
+use Rattle.rlp_reading.specs.declared.header.PayloadInfo.{PayloadInfo}
+use Rattle.rlp_reading.specs.Format.Framing.{framing, framing_in}
+use Rattle.rlp_reading.specs.Format.Header.{header, payload_info}
+use Rattle.rlp_reading.specs.Format.StringReading.{IsString}
+use Rattle.rlp_reading.proofs.Trees.Placed.{Ok_same, string_placed}
 use Rattle.rlp_c.specs.declared.item.RlpItem.{RlpItem}
 use Rattle.rlp_c.specs.Rows.{IsRowOfString, row}
 

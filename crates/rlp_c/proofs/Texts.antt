@@ -3,9 +3,9 @@ use Rattle.std.proofs.Common.{◌≡◌, ℕ, ◌+◌, ◌-◌, ◌^◌, ◌<◌
 use Rattle.std.proofs.Common.{append-nil, append_assoc, length-append}
 use Rattle.std.proofs.lemmas.Grind.{flat_map-append}
 use Rattle.std.proofs.lemmas.List.{drop-drop, drop_at, length-take-le, take_at, take_more}
-use Rattle.rlp_values.specs.Format.Split.{items, split}
-use Rattle.rlp_values.specs.Views.Text.{hex, hex_pair, separated, text}
-use Rattle.rlp_values.proofs.Views.Printing.{done-more, separator_after, separator_after-more, texts-more}
+use Rattle.rlp_reading.specs.Format.Split.{items, split}
+use Rattle.rlp_reading.specs.Views.Text.{hex, hex_pair, separated, text}
+use Rattle.rlp_reading.proofs.Views.Printing.{done-more, separator_after, separator_after-more, texts-more}
 use Rattle.rlp_c.specs.Written.{IsPut}
 
 pub put_both : (old mid new : List ℕ) (n m k : ℕ) (e f : List ℕ) → length old < 2 ^ 64 - 1 → IsPut old n e mid m → IsPut mid m f new k → IsPut old n (e ++ f) new k

@@ -1,12 +1,12 @@
 -- A tree as rows, one for each item, in the order in which the items begin.
 use Rattle.std.specs.Prelude.{ℕ, ◌≡◌, ◌<◌, ◌≤◌, List, ◌++◌, length, drop, Some}
-use Rattle.rlp_values.specs.declared.flat.FlatItem.{FlatItem}
-use Rattle.rlp_values.specs.declared.flat.TreeFault.{TreeFault}
+use Rattle.rlp_reading.specs.declared.flat.FlatItem.{FlatItem}
+use Rattle.rlp_reading.specs.declared.flat.TreeFault.{TreeFault}
 use Rattle.rlp_format.specs.Format.Item.{Item, Items, item_depth}
 use Rattle.rlp_format.specs.Format.Encoding.{encoding}
-use Rattle.rlp_values.specs.Format.Flat.{flat_rows, flat_rows_inside}
-use Rattle.rlp_values.specs.Format.Strict.{IsCanonicalWithin}
-use Rattle.rlp_values.specs.Format.TreeFaults.{tree_fault}
+use Rattle.rlp_reading.specs.Format.Flat.{flat_rows, flat_rows_inside}
+use Rattle.rlp_reading.specs.Format.Strict.{IsCanonicalWithin}
+use Rattle.rlp_reading.specs.Format.TreeFaults.{tree_fault}
 use Rattle.rlp_format.specs.Values.Value.{bit}
 use Rattle.rlp_c.specs.declared.item.RlpItem.{RlpItem}
 use Rattle.rlp_c.specs.Status.{tree_status}

@@ -1,5 +1,5 @@
--- The records of Ethereum: the fields of each, in order, as the EIPs and the yellow paper list them. By the clauses `written` and `sound` of `rlp_transaction`
--- and `rlp_header_fields` they agree with the codecs of `rlp_ethereum`.
+-- The records of Ethereum: the fields of each, in order, as the EIPs and the yellow paper list them. By the clauses of `rlp_transaction` and `rlp_header_fields`
+-- they are the fields that the codecs of `rlp_transactions` and `rlp_headers` read.
 use Rattle.std.specs.Prelude.{ℕ, Bool, true, ◌==◌, ◌||◌, List, [], ◌∷◌, Option, Some, slice_get}
 use Rattle.rlp_c.specs.declared.records.kinds.Kind.{Kind}
 use Rattle.rlp_c.specs.declared.records.kinds.Kind.TheVariants.{Number, Parity, Exactly, Recipient, Bytes, List as list_of}
@@ -79,3 +79,17 @@ may_end Authorization n = n == 6
 may_end AccessList n = true
 may_end Hashes n = true
 may_end Authorizations n = true
+
+-- the most fields that a record has; lists of items of one kind have no such number
+abbrev pub most_fields : Record → ℕ
+most_fields Legacy = 9
+most_fields AccessListPayload = 11
+most_fields FeeMarketPayload = 12
+most_fields BlobPayload = 14
+most_fields SetCodePayload = 13
+most_fields Header = 21
+most_fields Access = 2
+most_fields Authorization = 6
+most_fields AccessList = 0
+most_fields Hashes = 0
+most_fields Authorizations = 0

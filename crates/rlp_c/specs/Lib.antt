@@ -12,7 +12,7 @@ pub mod Written
 pub mod Tree
 -- the records of Ethereum
 pub mod Kinds
--- the first fault of the fields of a record
+-- what the codecs of records read
 pub mod Fields
 -- the answers for transactions and headers
 pub mod Records

@@ -1,8 +1,7 @@
 -- Where the fields of a transaction and of a header are, by the codecs of `rlp_ethereum`.
-use Rattle.std.specs.Prelude.{ℕ, ◌≡◌, ◌+◌, ◌<◌, ◌≤◌, ◌⊎◌, List, [], ◌++◌, length, map, drop}
+use Rattle.std.specs.Prelude.{ℕ, ◌≡◌, ◌⊎◌, List, [], map}
 use Rattle.rlp_format.specs.Format.Item.{Item, list, listed, string}
 use Rattle.rlp_format.specs.Format.Encoding.{encoding}
-use Rattle.rlp_values.specs.Format.Framing.{framing}
 use Rattle.rlp_transactions.specs.declared.transaction.Transaction.{Transaction}
 use Rattle.rlp_transactions.specs.declared.transaction.Transaction.TheVariants.{AccessList, Blob, FeeMarket, Legacy, SetCode}
 use Rattle.rlp_transactions.specs.AccessListTransaction.{signed_access_list_transaction}
@@ -10,21 +9,11 @@ use Rattle.rlp_transactions.specs.BlobTransaction.{signed_blob_transaction}
 use Rattle.rlp_transactions.specs.FeeMarketTransaction.{signed_fee_market_transaction}
 use Rattle.rlp_transactions.specs.LegacyTransaction.{signed_legacy_transaction}
 use Rattle.rlp_transactions.specs.SetCodeTransaction.{signed_set_code_transaction}
-use Rattle.rlp_c.specs.declared.item.RlpItem.{RlpItem}
-use Rattle.rlp_c.specs.Rows.{header_length, rows_at}
 
--- the items of a list
-abbrev pub fields_in : Item → List Item
+-- the encodings of the items of a list
+abbrev pub fields_in : Item → List (List ℕ)
 fields_in (string d) = []
-fields_in (list xs) = listed xs
-
--- The answer for a list x, whose encoding begins at this place: `count` is the number of its items, and if the array has room for them, it begins with the
--- places of their encodings, in order, and the elements behind them are as they were.
-pub data ArePlaced (place : ℕ) (x : Item) (old new : List RlpItem) (count status : ℕ) : Type 0 where
-  filled : count ≡ length (fields_in x) → count ≤ length old
-      → new ≡ rows_at (place + header_length (framing (encoding x))) 1 (map encoding (fields_in x)) ++ drop count old → status ≡ 0
-      → ArePlaced place x old new count status
-  no_room : count ≡ length (fields_in x) → length old < count → status ≡ 13 → ArePlaced place x old new count status
+fields_in (list xs) = map encoding (listed xs)
 
 -- the list of the fields of a transaction and its signature
 abbrev pub fields_of : Transaction → Item

@@ -1,13 +1,10 @@
 -- What C sees of items.
 use Rattle.std.specs.Prelude.{ℕ, ◌≡◌, ◌+◌, ◌<◌, ◌≤◌, ◌⊎◌, Bool, false, List, [], ◌∷◌, ◌++◌, length, take, drop, Option, Some, None, Result, Ok, Err, MatchResult}
-use Rattle.rlp_values.specs.declared.error.DecoderError.{DecoderError}
-use Rattle.rlp_values.specs.declared.header.PayloadInfo.{PayloadInfo}
-use Rattle.rlp_values.specs.Format.Framing.{framing}
-use Rattle.rlp_values.specs.Format.Split.{begins_as_list, items}
-use Rattle.rlp_format.specs.Format.WrittenHeader.{big_endian}
+use Rattle.rlp_reading.specs.declared.error.DecoderError.{DecoderError}
+use Rattle.rlp_reading.specs.declared.header.PayloadInfo.{PayloadInfo}
+use Rattle.rlp_reading.specs.Format.Framing.{framing}
+use Rattle.rlp_reading.specs.Format.Split.{begins_as_list, items}
 use Rattle.rlp_format.specs.Values.Value.{bit}
-use Rattle.rlp_values.specs.Views.View.{View}
-use Rattle.rlp.specs.Values.ValueReading.{GivesBytes, GivesNumber}
 use Rattle.rlp_c.specs.Status.{fault_status}
 use Rattle.rlp_c.specs.declared.item.RlpItem.{RlpItem}
 
@@ -22,14 +19,6 @@ IsRowOfString b r = MatchResult (framing b) (λ p. r ≡ row 0 0 false p) (λ e.
 -- the payload that a row points at
 abbrev pub payload_at : List ℕ → RlpItem → List ℕ
 payload_at b r = take r.payload_len (drop (r.offset + r.header_len) b)
-
--- the row points at the string that the view gives
-abbrev pub PointsAtString : View → RlpItem → Type 0
-PointsAtString v r = GivesBytes v (payload_at v.bytes r)
-
--- the row points at the digits, without a zero in front, of the number of at most this number of bytes that the view gives
-abbrev pub PointsAtNumber : ℕ → View → RlpItem → Type 0
-PointsAtNumber width v r = (n : ℕ) × GivesNumber width v n × (payload_at v.bytes r ≡ big_endian n)
 
 -- the row of a framed item, by its header
 abbrev pub row_by : ℕ → ℕ → Bool → Result PayloadInfo DecoderError → RlpItem
@@ -46,10 +35,14 @@ abbrev pub header_length : Result PayloadInfo DecoderError → ℕ
 header_length (Ok p) = p.header_len
 header_length (Err e) = 0
 
--- The answer for the items of one list: if b isn't exactly one list, its fault. Else `count` is the number of items, and if the array has room for them,
--- it begins with their rows, and the elements behind them are as they were.
-abbrev pub IsItemized : List ℕ → List RlpItem → List RlpItem → ℕ → ℕ → ℕ → Option DecoderError → Type 0
-IsItemized b old new old_count count status (Some e) = (status ≡ fault_status e) × (count ≡ old_count)
-IsItemized b old new old_count count status None = (count ≡ length (items b))
-    × (((count ≤ length old) × (status ≡ 0) × (new ≡ rows_at (header_length (framing b)) 1 (items b) ++ drop count old))
+-- The places of items f, one after another in a list b that begins at this place: `count` is the number of the items, and if the array has room for their rows, it
+-- begins with the rows, and the elements behind them are as they were.
+abbrev pub ArePlaced : ℕ → List ℕ → List (List ℕ) → List RlpItem → List RlpItem → ℕ → ℕ → Type 0
+ArePlaced place b fs old new count status = (count ≡ length fs)
+    × (((count ≤ length old) × (status ≡ 0) × (new ≡ rows_at (place + header_length (framing b)) 1 fs ++ drop count old))
     ⊎ ((length old < count) × (status ≡ 13)))
+
+-- The answer for the items of one list, which begins at this place: if b isn't exactly one list, its fault, and else the places of its items.
+abbrev pub IsItemized : ℕ → List ℕ → List RlpItem → List RlpItem → ℕ → ℕ → ℕ → Option DecoderError → Type 0
+IsItemized place b old new old_count count status (Some e) = (status ≡ fault_status e) × (count ≡ old_count)
+IsItemized place b old new old_count count status None = ArePlaced place b (items b) old new count status

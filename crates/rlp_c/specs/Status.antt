@@ -1,27 +1,29 @@
 -- The numbers by which C tells faults apart.
 use Rattle.std.specs.Prelude.{ℕ}
-use Rattle.rlp_values.specs.declared.error.DecoderError.{DecoderError}
-use Rattle.rlp_values.specs.declared.error.DecoderError.TheVariants.{RlpIsTooBig, RlpIsTooShort, RlpExpectedToBeList, RlpExpectedToBeData}
-use Rattle.rlp_values.specs.declared.error.DecoderError.TheVariants.{RlpIncorrectListLen, RlpDataLenWithZeroPrefix, RlpListLenWithZeroPrefix}
-use Rattle.rlp_values.specs.declared.error.DecoderError.TheVariants.{RlpInvalidIndirection, RlpInconsistentLengthAndData, RlpInvalidLength, Custom}
-use Rattle.rlp_values.specs.declared.error.DecoderError.TheVariants.{OutOfMemory}
-use Rattle.rlp_values.specs.declared.flat.TreeFault.{TreeFault}
-use Rattle.rlp_values.specs.declared.flat.TreeFault.TheVariants.{Decoding, TooDeep}
+use Rattle.rlp_reading.specs.declared.error.DecoderError.{DecoderError}
+use Rattle.rlp_reading.specs.declared.flat.TreeFault.{TreeFault}
+use Rattle.rlp_reading.specs.declared.flat.TreeFault.TheVariants.{Decoding, TooDeep}
+use Rattle.rlp_codec.specs.Form.{Fault, custom, data_len_with_zero, expected_data, expected_list, fault_of, inconsistent_len, incorrect_list_len, invalid_indirection, invalid_len}
+use Rattle.rlp_codec.specs.Form.{is_too_big, is_too_short, list_len_with_zero, out_of_memory}
 
 -- the number of a fault; 0 is none of them
+abbrev pub fault_number : Fault → ℕ
+fault_number is_too_big = 1
+fault_number is_too_short = 2
+fault_number expected_list = 3
+fault_number expected_data = 4
+fault_number incorrect_list_len = 5
+fault_number data_len_with_zero = 6
+fault_number list_len_with_zero = 7
+fault_number invalid_indirection = 8
+fault_number inconsistent_len = 9
+fault_number invalid_len = 10
+fault_number (custom text) = 11
+fault_number out_of_memory = 12
+
+-- the number of an error
 abbrev pub fault_status : DecoderError → ℕ
-fault_status RlpIsTooBig = 1
-fault_status RlpIsTooShort = 2
-fault_status RlpExpectedToBeList = 3
-fault_status RlpExpectedToBeData = 4
-fault_status RlpIncorrectListLen = 5
-fault_status RlpDataLenWithZeroPrefix = 6
-fault_status RlpListLenWithZeroPrefix = 7
-fault_status RlpInvalidIndirection = 8
-fault_status RlpInconsistentLengthAndData = 9
-fault_status RlpInvalidLength = 10
-fault_status (Custom text) = 11
-fault_status OutOfMemory = 12
+fault_status e = fault_number (fault_of e)
 
 -- the number of a fault of a tree
 abbrev pub tree_status : TreeFault → ℕ

@@ -1,9 +1,9 @@
 //! Whether bytes are canonical.
 
 ghost use Rattle.std.specs.Prelude.{◌≡◌, ◌↔◌, IsTrue, min};
-ghost use Rattle.rlp_values.specs.Format.Strict.{IsCanonicalWithin};
+ghost use Rattle.rlp_reading.specs.Format.Strict.{IsCanonicalWithin};
 
-use rlp_values::walking::is_canonical;
+use rlp_reading::walking::is_canonical;
 
 /// The greatest depth of lists that any function goes to, whatever the caller allows. It bounds how
 /// many calls of itself a function is in.

@@ -6,7 +6,7 @@ ghost use Rattle.rlp_c.specs.Flat.{IsFlattened};
 use crate::canonical::depth_within;
 use crate::item::RlpItem;
 use crate::status::{RLP_NO_ROOM, RLP_OK, status_of_tree};
-use rlp_values::walking::walk_whole;
+use rlp_reading::walking::walk_whole;
 
 /// Writes a row for each item of the tree whose encoding the bytes are. `count` gets the number of
 /// rows. The elements behind them stay as they were. If the array has fewer elements, the status is

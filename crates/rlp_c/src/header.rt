@@ -1,14 +1,14 @@
 //! The header of the item that bytes begin with.
 
 ghost use Rattle.std.specs.Prelude.{◌≡◌, MatchResult};
-ghost use Rattle.rlp_values.specs.Format.Framing.{framing};
-ghost use Rattle.rlp_values.specs.Format.Split.{begins_as_list};
+ghost use Rattle.rlp_reading.specs.Format.Framing.{framing};
+ghost use Rattle.rlp_reading.specs.Format.Split.{begins_as_list};
 ghost use Rattle.rlp_c.specs.Rows.{row};
 ghost use Rattle.rlp_c.specs.Status.{fault_status};
 
 use crate::item::{RlpItem, bit};
 use crate::status::{RLP_OK, status_of};
-use rlp_values::framed::first_framed;
+use rlp_reading::framed::first_framed;
 
 /// Reads the header of the item that the bytes begin with. The item lies within the bytes. Other
 /// bytes may follow it.

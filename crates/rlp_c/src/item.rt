@@ -3,7 +3,7 @@
 ghost use Rattle.std.specs.Prelude.{◌≡◌};
 ghost use Rattle.rlp_format.specs.Values.Value.{bit};
 
-use rlp_values::flat::{FlatItem, FlatRow};
+use rlp_reading::flat::{FlatItem, FlatRow};
 
 /// An item of some bytes. Its header begins at `offset`, and its payload follows the header.
 /// `depth` is the number of lists around it. `is_list` is 1 for a list and 0 for a string: a

@@ -1,16 +1,16 @@
 //! The items of one list as rows.
 
 ghost use Rattle.std.specs.Prelude.{◌≡◌, ◌+◌, ◌<◌, ◌^◌, length, None, Some, IfOk, MatchResult};
-ghost use Rattle.rlp_values.specs.Format.Split.{split};
-ghost use Rattle.rlp_values.specs.Format.Strict.{after_items, fault_of_some, strict_list_fault};
-ghost use Rattle.rlp_values.specs.Format.Walk.{Extends};
+ghost use Rattle.rlp_reading.specs.Format.Split.{split};
+ghost use Rattle.rlp_reading.specs.Format.Strict.{after_items, fault_of_some, strict_list_fault};
+ghost use Rattle.rlp_reading.specs.Format.Walk.{Extends};
 ghost use Rattle.rlp_c.specs.Rows.{IsItemized, rows_at};
 
 use crate::item::{RlpItem, bit};
 use crate::status::{RLP_NO_ROOM, RLP_OK, status_of};
 use rlp::DecoderError;
-use rlp_values::framed::{begins_as_list, first_framed, whole_framed};
-use rlp_values::walking::put;
+use rlp_reading::framed::{begins_as_list, first_framed, whole_framed};
+use rlp_reading::walking::put;
 
 /// Writes a row for each item of the list that the bytes are. It doesn't look into the items.
 /// `count` gets the number of items. The elements behind their rows stay as they were. If the array
@@ -18,7 +18,16 @@ use rlp_values::walking::put;
 /// the rows.
 #[unsafe(no_mangle)]
 pub extern "C" fn rlp_split(bytes: &[u8], out: &mut [RlpItem], count: &mut usize) -> u32
-    ensures { IsItemized bytes.now out.old out.new count.old count.new result
+    ensures { IsItemized 0 bytes.now out.old out.new count.old count.new result
+        (strict_list_fault bytes.now) }
+{
+    split_list(bytes, 0, out, count)
+}
+
+/// Does what [`rlp_split`] does, for a list that begins at this place.
+pub(crate) fn split_list(bytes: &[u8], place: usize, out: &mut [RlpItem], count: &mut usize) -> u32
+    requires { place + length bytes.now < 2 ^ 64 }
+    ensures { IsItemized place bytes.now out.old out.new count.old count.new result
         (strict_list_fault bytes.now) }
 {
     if !begins_as_list(bytes) {
@@ -28,7 +37,7 @@ pub extern "C" fn rlp_split(bytes: &[u8], out: &mut [RlpItem], count: &mut usize
         Ok(list) => list,
         Err(fault) => return status_of(&fault),
     };
-    match split_payload(list.content, list.header.header_len, out) {
+    match split_payload(list.content, place + list.header.header_len, out) {
         Ok(items) => {
             *count = items;
             if items <= out.len() {
@@ -43,11 +52,7 @@ pub extern "C" fn rlp_split(bytes: &[u8], out: &mut [RlpItem], count: &mut usize
 
 /// Writes a row for each item of a payload that begins at this place, and returns their number, or
 /// the fault of what follows the items.
-pub(crate) fn split_payload(
-    payload: &[u8],
-    place: usize,
-    out: &mut [RlpItem],
-) -> Result<usize, DecoderError>
+fn split_payload(payload: &[u8], place: usize, out: &mut [RlpItem]) -> Result<usize, DecoderError>
     requires { place + length payload.now < 2 ^ 64 }
     ensures fault { MatchResult result (λ _. fault_of_some (after_items payload.now) ≡ None)
         (λ e. fault_of_some (after_items payload.now) ≡ Some e) }

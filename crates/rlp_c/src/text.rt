@@ -1,14 +1,14 @@
 //! The text of bytes.
 
 ghost use Rattle.std.specs.Prelude.{◌≡◌, ◌+◌, ◌<◌, ◌≤◌, ◌^◌, ◌++◌, codes, length};
-ghost use Rattle.rlp_values.specs.Views.Depth.{depth};
-ghost use Rattle.rlp_values.specs.Views.Text.{error_name, hex, hex_digit, text};
+ghost use Rattle.rlp_reading.specs.Views.Depth.{depth};
+ghost use Rattle.rlp_reading.specs.Views.Text.{error_name, hex, hex_digit, text};
 ghost use Rattle.rlp_c.specs.Written.{IsPut, IsTextWritten};
 
 use crate::canonical::RLP_DEPTH_LIMIT;
 use crate::status::{RLP_NO_ROOM, RLP_OK, RLP_TOO_DEEP};
 use rlp::{DecoderError, Rlp};
-use rlp_values::framed::{Framed, first_framed, is_null};
+use rlp_reading::framed::{Framed, first_framed, is_null};
 
 /// Writes the text of the item that the bytes begin with: `"0x.."` for a string, `[.., ..]` for a
 /// list, `null` for no bytes. Bytes that aren't framed have the name of their fault.

@@ -1,15 +1,17 @@
 //! Values that are read from one string.
 
 ghost use Rattle.std.specs.Prelude.{◌≡◌};
-ghost use Rattle.rlp_values.specs.Format.StringReading.{IsString};
-ghost use Rattle.rlp.specs.Values.ValueReading.{FaultsAsBytes, FaultsAsNumber, GivesNumber};
+ghost use Rattle.rlp_reading.specs.Format.StringReading.{IsString};
+ghost use Rattle.rlp_format.specs.Format.WrittenHeader.{big_endian};
+ghost use Rattle.rlp_codec.specs.Form.{map_value, string_of};
+ghost use Rattle.rlp.specs.Codec.{number};
 ghost use Rattle.rlp_c.specs.Answers.{Answers, view_as};
-ghost use Rattle.rlp_c.specs.Rows.{IsRowOfString, PointsAtNumber, PointsAtString, payload_at};
+ghost use Rattle.rlp_c.specs.Rows.{IsRowOfString, payload_at};
 
 use crate::item::RlpItem;
+use crate::records::fields::check_number;
 use crate::status::{RLP_OK, status_of};
 use rlp::{Decodable, PayloadInfo, Rlp};
-use rlp_values::numbers::check_digits;
 use std::alloc::Global;
 
 /// A view of the bytes, strict or lenient.
@@ -26,8 +28,8 @@ fn view_over(bytes: &[u8], strict: bool) -> Rlp<'_>
 /// Reads a number below 2^64. If strict, nothing may follow it.
 #[unsafe(no_mangle)]
 pub extern "C" fn rlp_decode_u64(alloc: Global, bytes: &[u8], strict: bool, out: &mut u64) -> u32
-    ensures { Answers (λ n. GivesNumber 8 (view_as strict bytes.now) n)
-        (λ e. FaultsAsNumber 8 (view_as strict bytes.now) e) result out.old out.new }
+    ensures { Answers (λ n. n) ((number 8).reading.read (view_as strict bytes.now)).result
+        result out.old out.new }
 {
     match u64::decode(alloc, &view_over(bytes, strict)) {
         Ok(number) => {
@@ -41,22 +43,22 @@ pub extern "C" fn rlp_decode_u64(alloc: Global, bytes: &[u8], strict: bool, out:
 /// Finds the digits of a number of at most `width` bytes, the greatest first and without leading
 /// zeros: the row is the one that [`rlp_decode_bytes`] finds. If strict, nothing may follow it.
 #[unsafe(no_mangle)]
-#[tactic(auto, using(rlp_values::specs::Lemmas::Numbers::number_answers))]
 pub extern "C" fn rlp_decode_uint(
     bytes: &[u8],
     strict: bool,
     width: usize,
     out: &mut RlpItem,
 ) -> u32
-    ensures answer { Answers (λ r. PointsAtNumber width (view_as strict bytes.now) r)
-        (λ e. FaultsAsNumber width (view_as strict bytes.now) e) result out.old out.new }
+    ensures answer { Answers (λ r. payload_at bytes.now r)
+        (map_value big_endian ((number width).reading.read (view_as strict bytes.now)).result)
+        result out.old out.new }
     ensures row { result ≡ 0 → IsRowOfString bytes.now out.new }
 {
     let digits = match view_over(bytes, strict).decoder().string() {
         Ok(digits) => digits,
         Err(fault) => return status_of(&fault),
     };
-    match check_digits(digits, width) {
+    match check_number(digits, width) {
         Ok(()) => {
             *out = string_row(bytes, digits);
             RLP_OK
@@ -68,8 +70,8 @@ pub extern "C" fn rlp_decode_uint(
 /// Finds a byte string: the row is the one that `rlp_header` finds. If strict, nothing may follow it.
 #[unsafe(no_mangle)]
 pub extern "C" fn rlp_decode_bytes(bytes: &[u8], strict: bool, out: &mut RlpItem) -> u32
-    ensures answer { Answers (λ r. PointsAtString (view_as strict bytes.now) r)
-        (λ e. FaultsAsBytes (view_as strict bytes.now) e) result out.old out.new }
+    ensures answer { Answers (λ r. payload_at bytes.now r) (string_of (view_as strict bytes.now))
+        result out.old out.new }
     ensures row { result ≡ 0 → IsRowOfString bytes.now out.new }
 {
     match view_over(bytes, strict).decoder().string() {

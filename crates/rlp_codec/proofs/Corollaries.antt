@@ -2,24 +2,24 @@
 use Rattle.std.proofs.Common.{refl, ◌≡◌, ◌↔◌, ◌⊎◌, ⊎_elim, ℕ, ◌^◌, ◌<◌, true, false, IsTrue, List, [], ◌∷◌, ◌++◌, length, map, sym, ap, ◌∙◌, subst}
 use Rattle.std.proofs.Common.{Result, Ok, Err, IfOk, IfErr, IsOkAnd, append-nil}
 use Rattle.std.specs.List.{All}
-use Rattle.rlp_values.specs.declared.error.DecoderError.{DecoderError}
-use Rattle.rlp_values.specs.declared.error.DecoderError.TheVariants.{OutOfMemory}
+use Rattle.rlp_reading.specs.declared.error.DecoderError.{DecoderError}
+use Rattle.rlp_reading.specs.declared.error.DecoderError.TheVariants.{OutOfMemory}
 use Rattle.rlp_format.specs.Format.Item.{list_of}
 use Rattle.rlp_format.specs.Format.WrittenHeader.{AreBytes}
 use Rattle.rlp_format.specs.Format.Encoding.{BeginsWith, IsSized, encoding}
 use Rattle.rlp_format.specs.Values.Value.{AreAlike}
-use Rattle.rlp_values.specs.Values.RoundTrip.{AlwaysReadsBack, AlwaysReadsStrictly}
-use Rattle.rlp_values.specs.Values.RoundTrip as words
-use Rattle.rlp_values.specs.Values.ValueReading.{GivesValue}
-use Rattle.rlp_values.specs.Views.View.{View, strict_view_of, view_of}
-use Rattle.std.proofs.lemmas.List.Elements.{All-from_recursion, recursion_from_All}
-use Rattle.rlp_codec.proofs.ListLaws.{each_told, item_back, items_sized, list_back, list_type_only}
-use Rattle.rlp_values.specs.Values.ListReading.{FaultsAt, GivesAt, GivesEach, GivesList}
-use Rattle.rlp_values.specs.Lemmas.ListRoundTrips.{list_item_reads_back}
-use Rattle.rlp_codec.specs.Codec.{Codec, Fault, Faults, Gives, Reading, fault_of, list_reading}
+use Rattle.rlp_reading.specs.Values.RoundTrip.{AlwaysReadsBack, AlwaysReadsStrictly}
+use Rattle.rlp_reading.specs.Values.RoundTrip as words
+use Rattle.rlp_reading.specs.Values.ValueReading.{GivesValue}
+use Rattle.rlp_reading.specs.Views.View.{View, item_at, strict_view_of, view_of}
+use Rattle.std.proofs.lemmas.List.Elements.{recursion_from_All}
+use Rattle.rlp_codec.proofs.ListLaws.{each_told, item_back, items_sized, list_back, list_type_only, seen_alike}
+use Rattle.rlp_reading.specs.Values.ListReading.{GivesEach, GivesList}
+use Rattle.rlp_reading.proofs.Lemmas.ListRoundTrips.{list_item_reads_back}
+use Rattle.rlp_codec.specs.Form.{Form, Fault, Faults, Gives, Reading, and_then, fault_of, list_reading, reading_at, seen_fault}
 use Rattle.std.specs.List.{AllByRecursion}
-use Rattle.rlp_format.specs.Lemmas.Encodings.{front_sized}
-use Rattle.rlp_values.specs.Lemmas.Numbered.{item_views-list}
+use Rattle.rlp_format.proofs.Lemmas.Encodings.{front_sized}
+use Rattle.rlp_reading.proofs.Lemmas.Numbered.{item_views-list}
 use Rattle.rlp_codec.specs.Laws.{views_of, GivesOnly, IsLawful, IsReadBack, IsSeen}
 
 -- ---- one reading
@@ -39,9 +39,15 @@ one_fault r v e f bad also = let same = sym bad ∙ also in cc
 pub not_both : {A : Type 0} (r : Reading A) (v : View) (x : A) (e : DecoderError) → Gives r v x → ¬ Faults r v e
 not_both r v x e given bad = let same = sym given ∙ bad in cc
 
-module _ {A : Type 0} (c : Codec A) where
+-- the value that an item gives, if there is one
+given_at : {A : Type 0} (r : Reading A) (x : A) (found : Result View DecoderError) → IsOkAnd found (λ item. (r.read item).result ≡ Ok (r.seen x))
+    ↔ (and_then (seen_fault found) (λ item. (r.read item).result) ≡ Ok (r.seen x))
+given_at r x (Ok item) = (λ given. given, λ given. given)
+given_at r x (Err e) = (λ none. absurd none, λ is. absurd (let no : ⊥ = cc in no))
+
+module _ {A : Type 0} (c : Form A) where
   alike_by : IsSeen c → (v : View) (x : A) → c.Fits x → Gives c.reading v x → (w : A) → Gives c.reading v w → c.Fits w × AreAlike c.item w x
-  alike_by law v x fit given w also = law.told x w (one_value c.reading v x w given also) fit
+  alike_by law v x fit given w also = seen_alike c law x w (one_value c.reading v x w given also) fit
 
   -- ---- the law of `RoundTrip`
 
@@ -115,7 +121,7 @@ module _ {A : Type 0} (c : Codec A) where
 
 -- ---- lists of values
 
-module _ {A : Type 0} (c : Codec A) where
+module _ {A : Type 0} (c : Form A) where
   -- how lists of values of the type are read
   abbrev lists : Reading (List A)
   lists = list_reading (λ xs. xs) c.reading
@@ -128,9 +134,7 @@ module _ {A : Type 0} (c : Codec A) where
       → Gives (list_reading (λ xs. xs) c.reading) (view_of b) ws
       → All c.Fits ws × (map c.item ws ≡ map c.item vs)
   alike_lists law b vs ws fits all begins given =
-      let same : map c.reading.seen vs ≡ map c.reading.seen ws = same_value _ _ (sym (lists_back law b vs fits all begins) ∙ given) in
-      let h = each_told c law.told vs ws same (recursion_from_All c.Fits vs all) in
-      (All-from_recursion c.Fits ws h.0, h.1)
+      each_told c law.told vs ws (same_value _ _ (sym (lists_back law b vs fits all begins) ∙ given)) all
 
   -- from the encoding of a list of values, values with the same items are read, each in the same place
   pub list_alike : {B : Type 0} (values : B → List A) → IsReadBack c → (b : List ℕ) (vs : List A) (r : Result B DecoderError) → length b < 2 ^ 64
@@ -168,8 +172,14 @@ module _ {A : Type 0} (c : Codec A) where
   -- item i of the encoding of a list gives the values that fit and are alike to value i, and has no fault
   pub list_item_back : IsReadBack c → (before after : List A) (x : A) (b : List ℕ) → length b < 2 ^ 64 → c.Fits x
       → BeginsWith b (encoding (list_of (map c.item (before ++ x ∷ after))))
-      → words.ReadsBack c.Fits c.item (λ v w. GivesAt (Gives c.reading) v (length before) w) (λ v e. FaultsAt (Faults c.reading) v (length before) e) (view_of b) x
-  list_item_back law = list_item_reads_back c.Fits c.item (Gives c.reading) (Faults c.reading) (gives_back c law)
+      → words.ReadsBack c.Fits c.item (Gives (reading_at (length before) c.reading)) (Faults (reading_at (length before) c.reading)) (view_of b) x
+  list_item_back law before after x b fits fit begins =
+      let h = list_item_reads_back c.Fits c.item (Gives c.reading) (Faults c.reading) (gives_back c law) before after x b fits fit begins in
+      let found = item_at (view_of b) (length before) in
+      record {
+        alike = λ w. let at = given_at c.reading w found in (λ given. (h.alike w).0 (at.1 given), λ same. at.0 ((h.alike w).1 same));
+        no_fault = λ e. not_both (reading_at (length before) c.reading) (view_of b) x e ((given_at c.reading x found).0 ((h.alike x).1 (fit, refl)));
+      }
 
   -- ---- read strictly
 
@@ -189,9 +199,7 @@ module _ {A : Type 0} (c : Codec A) where
       → IfOk r (λ w. All c.Fits (values w) × (map c.item (values w) ≡ map c.item vs))
   strict_list_alike values law b vs (Err e) fits all whole given = tt
   strict_list_alike values law b vs (Ok w) fits all whole given =
-      let same : map c.reading.seen vs ≡ map c.reading.seen (values w) = same_value _ _ (sym (strict_lists law b vs fits all whole) ∙ given) in
-      let h = each_told c law.told vs (values w) same (recursion_from_All c.Fits vs all) in
-      (All-from_recursion c.Fits (values w) h.0, h.1)
+      each_told c law.told vs (values w) (same_value _ _ (sym (strict_lists law b vs fits all whole) ∙ given)) all
 
   pub strict_list_memory : {B : Type 0} → IsLawful c → (b : List ℕ) (vs : List A) (r : Result B DecoderError) → length b < 2 ^ 64
       → All c.Fits vs → b ≡ encoding (list_of (map c.item vs))

@@ -1,16 +1,14 @@
--- Fields of one type, one by one as `each` has them, and together as the values of an array.
-use Rattle.std.proofs.Common.{◌≡◌, ℕ, zero, suc, List, [], ◌∷◌, ◌++◌, length, map, get_or, refl, sym, ap, ◌∙◌, subst, arith, append_assoc, length-append}
-use Rattle.std.specs.List.{All, AllByRecursion}
-use Rattle.std.proofs.lemmas.List.Elements.{recursion_from_All}
-use Rattle.rlp_codec.specs.Codec.{Codec, Fields, each}
+-- FieldsForm of one type, one by one as `each` has them, and together as the values of an array.
+use Rattle.std.proofs.Common.{◌≡◌, ℕ, zero, suc, List, [], ◌∷◌, ◌++◌, length, map, get_or, refl, sym, ap, ◌∙◌, arith, append_assoc, length-append}
+use Rattle.rlp_codec.specs.Form.{Form, FieldsForm, each}
 
 get_or-middle : {A : Type 0} (before after : List A) (x d : A) → get_or (before ++ x ∷ after) (length before) d ≡ x
 get_or-middle [] after x d = refl
 get_or-middle (y ∷ before) after x d = get_or-middle before after x d
 
-module _ {A P : Type 0} (d : A) (values : P → List A) (c : Codec A) (more : Fields P) (p : P) where
+module _ {A P : Type 0} (d : A) (values : P → List A) (c : Form A) (more : FieldsForm P) (p : P) where
   -- a number of fields, from place k on
-  abbrev fields_from : ℕ → ℕ → Fields P
+  abbrev fields_from : ℕ → ℕ → FieldsForm P
   fields_from k n = each (λ j p. get_or (values p) j d) c more k n
 
   there : (before after : List A) (x : A) (k : ℕ) → values p ≡ before ++ x ∷ after → length before ≡ k → get_or (values p) k d ≡ x
@@ -29,20 +27,6 @@ module _ {A P : Type 0} (d : A) (values : P → List A) (c : Codec A) (more : Fi
       (omega (arith, length-append before (x ∷ []))) (omega arith))
       ∙ ap (λ y. c.item y ∷ (fields_from (suc k) n).items p) (sym (there before after x k whole at))
 
-  fits_from : (k n : ℕ) (before after : List A) → values p ≡ before ++ after → length before ≡ k → length after ≡ n → AllByRecursion c.Fits after
-      → more.Fits p → (fields_from k n).Fits p
-  fits_from k zero before [] whole at many all last = last
-  fits_from k zero before (x ∷ after) whole at many all last = absurd (omega arith)
-  fits_from k (suc n) before [] whole at many all last = absurd (omega arith)
-  fits_from k (suc n) before (x ∷ after) whole at many (fit, all) last = (
-    subst (λ y. c.Fits y) (sym (there before after x k whole at)) fit,
-    fits_from (suc k) n (before ++ x ∷ []) after (one_further before after x whole) (omega (arith, length-append before (x ∷ []))) (omega arith) all last,
-  )
-
   -- fields of one type, for the same number of values, are written as the items of the values
   pub each_items : (n : ℕ) → length (values p) ≡ n → map c.item (values p) ++ more.items p ≡ (fields_from 0 n).items p
   each_items n many = items_from 0 n [] (values p) refl refl many
-
-  -- fields of one type fit, if each value fits and the other fields fit
-  pub each_fits : (n : ℕ) → length (values p) ≡ n → All c.Fits (values p) → more.Fits p → (fields_from 0 n).Fits p
-  each_fits n many all last = fits_from 0 n [] (values p) refl refl many (recursion_from_All c.Fits (values p) all) last

@@ -16,5 +16,9 @@ pub mod GroupLaws
 pub mod RawLaws
 -- fields of one type, as the values of an array
 pub mod EachField
--- the paths of faults
-pub mod Places
+-- types whose values are strings of several kinds
+pub mod KindLaws
+-- types that are read from the whole first item of a view
+pub mod FirstItemLaws
+-- each view gives one value or has one fault
+pub mod Readings

@@ -6,18 +6,18 @@ use Rattle.std.proofs.lemmas.Bool.{cases_lt, cond-true, cond-false}
 use Rattle.std.proofs.lemmas.Slice.Eq.{bytes_eq-Decides}
 use Rattle.rlp_format.specs.Format.Encoding.{encoding}
 use Rattle.rlp_format.specs.Format.Item.{item_depth}
-use Rattle.rlp_format.specs.Lemmas.Encodings.{front_sized}
-use Rattle.rlp_values.specs.declared.error.DecoderError.{DecoderError}
-use Rattle.rlp_values.specs.declared.header.PayloadInfo.{PayloadInfo}
-use Rattle.rlp_values.specs.Format.Framing.{frame, framing, map_ok, total_len}
-use Rattle.rlp_values.specs.Format.Strict.{IsCanonicalWithin, strict_fault, unless}
-use Rattle.rlp_values.specs.Values.RawItem.{IsRawItem, deepest_raw_item, raw_item_of, view_frame}
-use Rattle.rlp_values.specs.Views.Depth.{depth}
-use Rattle.rlp_values.specs.Views.View.{Holds}
-use Rattle.rlp_values.specs.Lemmas.Depths.{depth_of_item}
-use Rattle.rlp_values.specs.Lemmas.RawItems.{encoding-item_within, raw_encoding, raw_if, shallow_within, view_frame-held}
-use Rattle.rlp_values.proofs.Views.Fronts.{long_header}
-use Rattle.rlp_codec.specs.Codec.{and_then, custom, raw_item, raw_of, seen_fault}
+use Rattle.rlp_format.proofs.Lemmas.Encodings.{front_sized}
+use Rattle.rlp_reading.specs.declared.error.DecoderError.{DecoderError}
+use Rattle.rlp_reading.specs.declared.header.PayloadInfo.{PayloadInfo}
+use Rattle.rlp_reading.specs.Format.Framing.{frame, framing, map_ok, total_len}
+use Rattle.rlp_reading.specs.Format.Strict.{IsCanonicalWithin, strict_fault, unless}
+use Rattle.rlp_reading.specs.Values.RawItem.{IsRawItem, deepest_raw_item, raw_item_of, view_frame}
+use Rattle.rlp_reading.specs.Views.Depth.{depth}
+use Rattle.rlp_reading.specs.Views.View.{Holds}
+use Rattle.rlp_reading.proofs.Lemmas.Depths.{depth_of_item}
+use Rattle.rlp_reading.proofs.Lemmas.RawItems.{encoding-item_within, raw_encoding, raw_if, shallow_within, view_frame-held}
+use Rattle.rlp_reading.proofs.Views.Fronts.{long_header}
+use Rattle.rlp_codec.specs.Form.{and_then, custom, raw_item, raw_of, seen_fault}
 use Rattle.rlp_codec.specs.Laws.{GivesOnly, IsLawful, ReadsBack, viewed}
 
 -- ---- the first item of a view
@@ -48,13 +48,13 @@ held_by b f (Some e) faulty is = absurd (let no : ⊥ = cc in no)
 held_by b f None faulty is = let front = front_is b f is in sym (front.is ∙ take_all front.many b (front.all faulty))
 
 -- a view holds the bytes of its first item
-frame_held : (is_strict : Bool) (b f : List ℕ) → view_frame (viewed is_strict b) ≡ Ok f → Holds is_strict b f
+pub frame_held : (is_strict : Bool) (b f : List ℕ) → view_frame (viewed is_strict b) ≡ Ok f → Holds is_strict b f
 frame_held false b f is =
     let front = front_is b f is in
     (drop front.many b, sym (ap (λ s. s ++ drop front.many b) front.is ∙ take-append-drop front.many b))
 frame_held true b f is = held_by b f (strict_fault b) refl is
 
-held_short : (is_strict : Bool) (b f : List ℕ) → length b < 2 ^ 64 → Holds is_strict b f → length f < 2 ^ 64
+pub held_short : (is_strict : Bool) (b f : List ℕ) → length b < 2 ^ 64 → Holds is_strict b f → length f < 2 ^ 64
 held_short false b f fits (rest, is) = omega (arith, ap length is, length-append f rest)
 held_short true b f fits is = omega (arith, ap length is)
 
@@ -109,6 +109,10 @@ only_by b x false true deep equal is =
     let same : b ≡ x = cc in
     (subst (λ c. c ≡ encoding (raw_item_of c)) same ((bytes_eq-Decides _ _).0 equal), same)
 
+-- bytes that are given as a raw item are the encoding of an item
+pub raw_given : (b x : List ℕ) → raw_of b ≡ Ok x → (x ≡ encoding (raw_item_of x)) × (b ≡ x)
+raw_given b x is = only_by b x (ltb deepest_raw_item (depth b)) (bytes_eq b (encoding (raw_item_of b))) refl refl is
+
 -- bytes that a slice can hold fit if and only if they are a raw item
 pub raw_fits : (b : List ℕ) → length b < 2 ^ 64 → (b ≡ encoding (raw_item_of b)) ↔ IsRawItem b
 raw_fits b short = (λ fit. raw_if b (canonical_if b fit), λ raw. sym (raw_encoding b short raw))
@@ -126,7 +130,7 @@ given_by : (is_strict : Bool) (b x : List ℕ) (r : Result (List ℕ) DecoderErr
     → and_then (seen_fault r) raw_of ≡ Ok x → (x ≡ encoding (raw_item_of x)) × Holds is_strict b (encoding (raw_item_of x))
 given_by is_strict b x (Err e) framed is = absurd (let no : ⊥ = cc in no)
 given_by is_strict b x (Ok f) framed is =
-    let h = only_by f x (ltb deepest_raw_item (depth f)) (bytes_eq f (encoding (raw_item_of f))) refl refl is in
+    let h = raw_given f x is in
     (h.0, subst (Holds is_strict b) h.0 (frame_held is_strict b x (framed ∙ ap Ok h.1)))
 
 pub raw_only : (is_strict : Bool) → GivesOnly is_strict raw_item
@@ -134,7 +138,7 @@ raw_only is_strict = record { only = λ b x bytes fits is. given_by is_strict b 
 
 pub raw_lawful : IsLawful raw_item
 raw_lawful = record {
-  told = record { told = λ x y same fit. (subst (λ b. b ≡ encoding (raw_item_of b)) same fit, ap raw_item_of (sym same)) };
+  told = record { fits = λ x y same fit. subst (λ b. b ≡ encoding (raw_item_of b)) same fit; written = λ b. refl };
   back = raw_back;
   exact = raw_only true;
 }

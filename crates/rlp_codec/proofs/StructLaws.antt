@@ -1,13 +1,13 @@
 -- Structs are read back, and strictly from nothing else.
-use Rattle.std.proofs.Common.{Bool, Err, List, Ok, Result, [], ap, append-nil, arith, false, leb, length, refl, sym, true, ℕ, ◌&&◌, ◌-◌, ◌<◌, ◌^◌, ◌∙◌, ◌∷◌, ◌≡◌, ◌≤◌}
+use Rattle.std.proofs.Common.{Bool, Err, List, Ok, Result, [], ap, append-nil, arith, false, leb, length, refl, sym, true, ℕ, ◌&&◌, ◌<◌, ◌^◌, ◌∙◌, ◌∷◌, ◌≡◌, ◌≤◌}
 use Rattle.std.proofs.lemmas.Bool.{cond-false, cond-true, lt-leb}
 use Rattle.std.proofs.lemmas.List.{length-map}
 use Rattle.std.specs.List.{AllByRecursion}
 use Rattle.rlp_format.specs.Format.Encoding.{IsSized, encoding}
 use Rattle.rlp_format.specs.Format.Item.{list_of}
-use Rattle.rlp_values.specs.Views.View.{View, item_count, item_views, strict_view_of}
-use Rattle.rlp_codec.proofs.ListLaws.{not_faulty, counted_length, goes_on, is_mapped, items_held, items_only, items_sized}
-use Rattle.rlp_codec.specs.Codec.{Answer, Fault, Fields, Path, Taken, and_then, go_on, here, incorrect_list_len, items_of, map_fault, map_value, path_by, path_in, read_struct, seen_fault, struct_of, all_taken}
+use Rattle.rlp_reading.specs.Views.View.{View, strict_view_of}
+use Rattle.rlp_codec.proofs.ListLaws.{not_faulty, goes_on, is_mapped, items_held, items_only, items_sized}
+use Rattle.rlp_codec.specs.Form.{Answer, Fault, FieldsForm, Path, Taken, and_then, go_on, here, incorrect_list_len, items_of, map_fault, map_value, path_by, read_struct, struct_of, all_taken}
 use Rattle.rlp_codec.specs.Laws.{AreLawful, AreSeen, GivesOnly, IsLawful, IsSeen, ReadsBack, TakesBack, TakesOnly, viewed, views_of}
 use Rattle.rlp_codec.proofs.FieldLaws.{ok_same}
 
@@ -21,16 +21,13 @@ ended {M} r = and_then r (λ (t : M × List View). (all_taken t.0 t.1).result)
 abbrev outcome : {M : Type 0} → Result (M × List View) (List View × Fault) → Result M Fault
 outcome {M} r = map_fault (λ (e : List View × Fault). e.1) (map_value (λ (m : M × List View). m.0) r)
 
-module _ {M : Type 0} (accepts : ℕ → Bool) (read : List View → Taken M) (v : View) where
-  counted_as : (n : ℕ) (right : Bool) → Ok n ≡ item_count v → accepts n ≡ right → accepts (length (item_views v)) ≡ right
-  counted_as n right count is = ap accepts (sym (counted_length v n count)) ∙ is
-
-  -- a struct is read from the items of a view that has a number of items
-  by_items : (n : ℕ) (a : Answer M Fault) → Ok n ≡ item_count v → read_struct accepts read (item_views v) ≡ a
+module _ {M : Type 0} (accepts : ℕ → Bool) (read : List View → Taken M) (v : View) (vs : List View) where
+  -- a struct is read from the items of a view
+  by_items : (a : Answer M Fault) → items_of v ≡ Ok vs → read_struct accepts read vs ≡ a
       → ((go_on (here (items_of v)) (read_struct accepts read)).result ≡ a.result) × ((go_on (here (items_of v)) (read_struct accepts read)).path ≡ a.path)
-  by_items n a count is = (
-    ap (λ r. and_then (map_value (λ (n : ℕ). item_views v) (seen_fault r)) (λ vs. (read_struct accepts read vs).result)) (sym count) ∙ ap (λ a. a.result) is,
-    ap (λ r. path_by (map_value (λ (n : ℕ). item_views v) (seen_fault r)) [] (λ vs. (read_struct accepts read vs).path)) (sym count) ∙ ap (λ a. a.path) is,
+  by_items a items is = (
+    ap (λ r. and_then r (λ vs. (read_struct accepts read vs).result)) items ∙ ap (λ a. a.result) is,
+    ap (λ r. path_by r [] (λ vs. (read_struct accepts read vs).path)) items ∙ ap (λ a. a.path) is,
   )
 
   -- Why a struct isn't read: the fault, and the path.
@@ -39,45 +36,10 @@ module _ {M : Type 0} (accepts : ℕ → Bool) (read : List View → Taken M) (v
     pub at : (go_on (here (items_of v)) (read_struct accepts read)).path ≡ path
 
   -- there is another number of items
-  pub other_number : (n : ℕ) → Ok n ≡ item_count v → accepts n ≡ false → StructFails [] incorrect_list_len
-  other_number n count wrong =
-      let h = by_items n (here (Err incorrect_list_len)) count (cond-false (accepts (length (item_views v))) _ _ (counted_as n false count wrong)) in
+  pub other_number : items_of v ≡ Ok vs → accepts (length vs) ≡ false → StructFails [] incorrect_list_len
+  other_number items wrong =
+      let h = by_items (here (Err incorrect_list_len)) items (cond-false (accepts (length vs)) _ _ wrong) in
       record { fault = h.0; at = h.1 }
-
-  fails_by : (n : ℕ) (inner : Path) (left : List View) (e : Fault) → Ok n ≡ item_count v → accepts n ≡ true
-      → ended (read (item_views v)).result ≡ Err (left, e) → (go_on (read (item_views v)) (λ t. all_taken t.0 t.1)).path ≡ inner
-      → StructFails ((n - 1 - length left) ∷ inner) e
-  fails_by n inner left e count right fails within =
-      let h = by_items n _ count (cond-true (accepts (length (item_views v))) _ _ (counted_as n true count right)) in
-      record {
-        fault = h.0 ∙ ap outcome fails;
-        at = h.1 ∙ ap (λ r. path_in (length (item_views v)) r (go_on (read (item_views v)) (λ t. all_taken t.0 t.1)).path) fails
-            ∙ ap (λ m. (m - 1 - length left) ∷ (go_on (read (item_views v)) (λ t. all_taken t.0 t.1)).path) (sym (counted_length v n count))
-            ∙ ap (λ p. (n - 1 - length left) ∷ p) within;
-      }
-
-  -- a field fails, and these views are after its item
-  pub field_failed : (n : ℕ) (left : List View) (e : Fault) → Ok n ≡ item_count v → accepts n ≡ true → (read (item_views v)).result ≡ Err (left, e)
-      → StructFails ((n - 1 - length left) ∷ (read (item_views v)).path) e
-  field_failed n left e count right fails =
-      fails_by n (read (item_views v)).path left e count right
-      (ap ended fails)
-      (ap (λ r. path_by r (read (item_views v)).path (λ t. (all_taken t.0 t.1).path)) fails)
-
-  -- an item is left, and these views after it
-  pub item_left : (n : ℕ) (m : M) (item : View) (left : List View) → Ok n ≡ item_count v → accepts n ≡ true
-      → (read (item_views v)).result ≡ Ok (m, item ∷ left) → StructFails ((n - 1 - length left) ∷ []) incorrect_list_len
-  item_left n m item left count right took =
-      fails_by n [] left incorrect_list_len count right
-      (ap ended took)
-      (ap (λ r. path_by r (read (item_views v)).path (λ t. (all_taken t.0 t.1).path)) took)
-
-  -- all fields are read
-  pub all_read : (n : ℕ) (m : M) → Ok n ≡ item_count v → accepts n ≡ true → (read (item_views v)).result ≡ Ok (m, [])
-      → (go_on (here (items_of v)) (read_struct accepts read)).result ≡ Ok m
-  all_read n m count right took =
-      let h = by_items n _ count (cond-true (accepts (length (item_views v))) _ _ (counted_as n true count right)) in
-      h.0 ∙ ap outcome (ap ended took)
 
 -- a list of fewer than 2^64 items isn't as wide as this
 pub too_wide : (w n : ℕ) (b : Bool) → 2 ^ 64 ≤ w → n < 2 ^ 64 → (leb w n && b) ≡ false
@@ -85,7 +47,7 @@ too_wide w n b wide few = ap (λ c. c && b) (lt-leb w n (omega (arith, wide, few
 
 -- ---- a struct
 
-module _ {P : Type 0} (f : Fields P) where
+module _ {P : Type 0} (f : FieldsForm P) where
   abbrev read_items : List View → Result f.reading.M Fault
   read_items vs = (read_struct f.reading.accepts f.reading.read vs).result
 
@@ -138,7 +100,7 @@ module _ {P : Type 0} (f : Fields P) where
   }
 
   pub struct_told : AreSeen f → IsSeen (struct_of f)
-  struct_told law = record { told = λ p q same fit. let h = law.told p q same fit in (h.0, ap list_of h.1) }
+  struct_told law = record { fits = law.fits; written = λ p. ap list_of (law.written p) }
 
   pub struct_lawful : AreLawful f → IsLawful (struct_of f)
   struct_lawful law = record { told = struct_told law.told; back = λ is_strict. struct_back is_strict (law.back is_strict); exact = struct_only law.exact }

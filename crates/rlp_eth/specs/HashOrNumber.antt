@@ -1,21 +1,16 @@
 -- How a block's hash or number is written and read.
-use Rattle.std.specs.Prelude.{ℕ, ◌≡◌, ◌^◌, ◌<◌, List, length}
-use Rattle.std.proofs.Common.{ap, arith, sym}
-use Rattle.rlp.specs.DecoderError.{DecoderError}
-use Rattle.rlp.specs.Format.Item.{Item, string}
-use Rattle.rlp.specs.Format.WrittenHeader.{big_endian}
-use Rattle.rlp.specs.Lemmas.OneReading.{few_digits, sound_length}
-use Rattle.rlp.specs.Lemmas.Told.{number_told, string_told}
-use Rattle.rlp.specs.Lemmas.RoundTrips.{held_back, number_held_back}
-use Rattle.rlp.specs.Values.RoundTrip.{ReadsBack}
+use Rattle.std.specs.Prelude.{ℕ, ◌≡◌, ◌⊎◌, ◌==◌, if◌then◌else◌, Bool, true, false, List, length, Result, Ok}
+use Rattle.std.proofs.Common.{◌^◌, ◌<◌, inl, inr, ap, arith, eq-eqb, ne_eqb, refl, subst, sym, ◌∙◌}
+use Rattle.std.proofs.lemmas.Bool.{cond-true, cond-false, eqb-true}
+use Rattle.rlp.specs.Codec.{Codec, string_type}
+use Rattle.rlp.specs.Form.{Fault, map_value, number_of}
+use Rattle.rlp.specs.Format.WrittenHeader.{AreBytes, big_endian}
+use Rattle.rlp_reading.proofs.Lemmas.OneReading.{few_digits}
 use Rattle.rlp.specs.Values.Value.{FitsBytes}
-use Rattle.rlp.specs.Values.ValueReading.{FaultsAsNumber, GivesNumber, GivesValue, IsLengthFault}
-use Rattle.rlp.specs.Views.View.{View, HoldsItem, strict_view_of, view_of}
-use Rattle.rlp.specs.Codec.{Codec}
-use Rattle.rlp_records.specs.declared.hash.Hash.{Hash as BlockHash}
+use Rattle.rlp_codec.proofs.ListLaws.{is_mapped}
+use Rattle.rlp_codec.proofs.StringLaws.{ReadsStrings, number_strings}
 use Rattle.rlp_eth.specs.declared.hash_or_number.HashOrNumber.{HashOrNumber}
 use Rattle.rlp_eth.specs.declared.hash_or_number.HashOrNumber.TheVariants.{Hash, Number}
-use Rattle.rlp_records.specs.Hash.{hash}
 
 -- the bytes of the hash, or the digits of the number
 abbrev pub hash_or_number_bytes : HashOrNumber → List ℕ
@@ -27,80 +22,73 @@ abbrev pub IsHashOrNumber : HashOrNumber → Type 0
 IsHashOrNumber (Hash h) = length h.0 ≡ 32
 IsHashOrNumber (Number n) = FitsBytes 8 n
 
--- the string of these bytes
-abbrev pub hash_or_number_item : HashOrNumber → Item
-hash_or_number_item x = string (hash_or_number_bytes x)
+-- the bytes of the hash, or the number
+abbrev pub seen_hash_or_number : HashOrNumber → List ℕ ⊎ ℕ
+seen_hash_or_number (Hash h) = inl h.0
+seen_hash_or_number (Number n) = inr n
 
--- Why a view gives neither: it has some fault as a hash, and this fault as a number.
-pub record FaultsAsHashOrNumber (v : View) (e : DecoderError) : Type 0 where
-  pub other : DecoderError
-  pub no_hash : hash.faults v other
-  pub no_number : FaultsAsNumber 8 v e
+-- the bytes of a hash or number, by what contracts see of it
+abbrev pub written_hash_or_number : List ℕ ⊎ ℕ → List ℕ
+written_hash_or_number (inl h) = h
+written_hash_or_number (inr n) = big_endian n
 
--- both are the same hash, or both are the same number
-abbrev pub SameHashOrNumber : HashOrNumber → HashOrNumber → Type 0
-SameHashOrNumber (Hash h) (Hash k) = h.0 ≡ k.0
-SameHashOrNumber (Hash h) (Number n) = ⊥
-SameHashOrNumber (Number n) (Hash h) = ⊥
-SameHashOrNumber (Number n) (Number m) = n ≡ m
+-- what a string gives: a hash if it has 32 bytes, and else a number of at most eight
+abbrev pub hash_or_number_of : List ℕ → Result (List ℕ ⊎ ℕ) Fault
+hash_or_number_of d = if length d == 32 then Ok (inl d) else map_value inr (number_of 8 d)
 
--- ---- laws
+-- ---- what is written is read, and nothing else
 
-pub found_hash : (v : View) (h : BlockHash) → hash.gives v h → GivesValue IsHashOrNumber hash_or_number_item v (Hash h)
-found_hash v h g = record { fits = g.fits; begins = g.begins }
+found_back : (x : HashOrNumber) → IsHashOrNumber x → length (hash_or_number_bytes x) < 2 ^ 64
+    → hash_or_number_of (hash_or_number_bytes x) ≡ Ok (seen_hash_or_number x)
+found_back (Hash h) fit short = cond-true (length h.0 == 32) _ _ (eq-eqb (length h.0) 32 fit)
+found_back (Number n) fit short =
+    cond-false (length (big_endian n) == 32) _ _ (ne_eqb (length (big_endian n)) 32 (λ same. omega (arith, same, few_digits 8 n fit)))
+    ∙ ap (map_value inr) ((number_strings 8).back n fit short)
 
-pub found_number : (v : View) (n : ℕ) → GivesNumber 8 v n → GivesValue IsHashOrNumber hash_or_number_item v (Number n)
-found_number v n g = record { fits = g.fits; begins = g.begins }
+left_right : {A B : Type 0} (x : A) (y : B) → (let s : A ⊎ B = inl x in s) ≡ inr y → ⊥
+left_right x y same = cc
 
-pub found_neither : (v : View) (f e : DecoderError) → hash.faults v f → FaultsAsNumber 8 v e → FaultsAsHashOrNumber v e
-found_neither v f e no_hash no_number = record { other = f; no_hash = no_hash; no_number = no_number }
+abbrev as_number : ℕ → List ℕ ⊎ ℕ
+as_number n = inr n
 
-pub ruleset hash_or_number_found = (found_hash, found_number, found_neither)
+found_by : (d : List ℕ) (x : HashOrNumber) (long : Bool) → AreBytes d → length d < 2 ^ 64 → (length d == 32) ≡ long
+    → hash_or_number_of d ≡ Ok (seen_hash_or_number x) → IsHashOrNumber x × (d ≡ hash_or_number_bytes x)
+found_by d (Hash h) true bytes short long is =
+    let r : Ok (inl d) ≡ Ok (inl h.0) = sym (cond-true (length d == 32) _ _ long) ∙ is in
+    let same : d ≡ h.0 = cc in
+    (subst (λ d. length d ≡ 32) same (eqb-true (length d) 32 long), same)
+found_by d (Number n) true bytes short long is =
+    let r : hash_or_number_of d ≡ Ok (inl d) = cond-true (length d == 32) _ _ long in absurd (let no : ⊥ = cc in no)
+found_by d (Hash h) false bytes short long is =
+    let m = is_mapped (number_of 8 d) as_number (inl h.0) (sym (cond-false (length d == 32) _ _ long) ∙ is) in absurd (left_right _ _ (sym m.then))
+found_by d (Number n) false bytes short long is =
+    let m = is_mapped (number_of 8 d) as_number (inr n) (sym (cond-false (length d == 32) _ _ long) ∙ is) in
+    let h = (number_strings 8).only d m.value bytes short m.is in
+    let same : m.value ≡ n = same_number m.value n m.then in
+    (subst (FitsBytes 8) same h.0, h.1 ∙ ap big_endian same)
+  where
+    same_number : (m n : ℕ) → as_number m ≡ inr n → m ≡ n
+    same_number m n is = cc
 
--- a view that holds a hash or a number has no fault
-pub sound_hash_or_number : (view : View) → length view.bytes < 2 ^ 64 → (x : HashOrNumber) → IsHashOrNumber x
-    → HoldsItem view (hash_or_number_item x) → (e : DecoderError) → ¬ FaultsAsHashOrNumber view e
-sound_hash_or_number view bound (Hash h) fit holds e f =
-    (held_back (λ (d : List ℕ). length d ≡ 32) (λ d. d) view h.0 bound holds (IsLengthFault 32) (λ e. sound_length 32 h.0 e fit)).no_fault
-    f.other f.no_hash
-sound_hash_or_number view bound (Number n) fit holds e f = (number_held_back 8 view n bound fit holds).no_fault e f.no_number
+found_same : (x : HashOrNumber) → written_hash_or_number (seen_hash_or_number x) ≡ hash_or_number_bytes x
+found_same (Hash h) = refl
+found_same (Number n) = refl
 
--- a view that holds a hash or a number reads it back
-pub hash_or_number_held_back : (view : View) → length view.bytes < 2 ^ 64 → (x : HashOrNumber) → IsHashOrNumber x
-    → HoldsItem view (hash_or_number_item x)
-    → ReadsBack IsHashOrNumber hash_or_number_item (λ view x. GivesValue IsHashOrNumber hash_or_number_item view x) FaultsAsHashOrNumber view x
-hash_or_number_held_back view bound x fit holds = record {
-  alike = (held_back IsHashOrNumber hash_or_number_bytes view x bound holds (λ d e. ⊥) (λ e none. none)).alike;
-  no_fault = sound_hash_or_number view bound x fit holds;
+found_fits : (x y : HashOrNumber) → seen_hash_or_number x ≡ seen_hash_or_number y → IsHashOrNumber x → IsHashOrNumber y
+found_fits (Hash h) (Hash k) same fit = subst (λ d. length d ≡ 32) (let bytes : h.0 ≡ k.0 = cc in bytes) fit
+found_fits (Hash h) (Number n) same fit = absurd (let no : ⊥ = cc in no)
+found_fits (Number n) (Hash h) same fit = absurd (let no : ⊥ = cc in no)
+found_fits (Number n) (Number m) same fit = subst (FitsBytes 8) (let numbers : n ≡ m = cc in numbers) fit
+
+pub hash_or_number_strings : ReadsStrings IsHashOrNumber hash_or_number_bytes seen_hash_or_number written_hash_or_number hash_or_number_of
+hash_or_number_strings = record {
+  back = found_back;
+  only = λ d x bytes short is. found_by d x (length d == 32) bytes short refl is;
+  fits = found_fits;
+  same = found_same;
 }
-
--- a hash has more bytes than a number
-apart_hash_or_number : (h : BlockHash) (n : ℕ) → length h.0 ≡ 32 → FitsBytes 8 n → hash_or_number_item (Hash h) ≡ hash_or_number_item (Number n) → ⊥
-apart_hash_or_number h n long fit same =
-    omega (arith, long, few_digits 8 n fit, ap length (string_told h.0 (big_endian n) same))
-
--- values that fit and have equal items agree
-pub hash_or_number_told : (x y : HashOrNumber) → IsHashOrNumber x → IsHashOrNumber y → hash_or_number_item x ≡ hash_or_number_item y → SameHashOrNumber x y
-hash_or_number_told (Hash h) (Hash k) fit other same = string_told h.0 k.0 same
-hash_or_number_told (Hash h) (Number n) fit other same = absurd (apart_hash_or_number h n fit other same)
-hash_or_number_told (Number n) (Hash h) fit other same = absurd (apart_hash_or_number h n other fit (sym same))
-hash_or_number_told (Number n) (Number m) fit other same = number_told n m same
-
--- ---- the codec
 
 -- the string of the hash or of the number
 abbrev pub hash_or_number : Codec HashOrNumber
-hash_or_number = record {
-  Fits = IsHashOrNumber;
-  item = hash_or_number_item;
-  gives = λ v x. GivesValue IsHashOrNumber hash_or_number_item v x;
-  faults = λ v e. FaultsAsHashOrNumber v e;
-  may_lack = λ v. ⊥;
-  reads_back = λ b x bound fit holds. hash_or_number_held_back (view_of b) bound x fit holds;
-  reads_strictly = λ b x bytes bound. record {
-    exact = (λ g. (g.fits, g.begins), λ (fit, is). record { fits = fit; begins = is });
-    sound = λ fit is. sound_hash_or_number (strict_view_of b) bound x fit is;
-  };
-  Same = SameHashOrNumber;
-  told = hash_or_number_told;
-}
+hash_or_number =
+    string_type IsHashOrNumber hash_or_number_bytes seen_hash_or_number written_hash_or_number hash_or_number_of false hash_or_number_strings

@@ -29,11 +29,7 @@ impl Encodable for NewBlockHash {
 }
 
 impl Decodable for NewBlockHash {
-    ghost gives = { new_block_hash.gives };
-
-    ghost faults = { new_block_hash.faults };
-
-    ghost may_lack_memory = { new_block_hash.may_lack };
+    ghost reading = { new_block_hash.reading };
 
     fn decode(alloc: Global, rlp: &Rlp<'_>) -> Result<NewBlockHash, DecoderError> {
         rlp::decode_fields!(alloc, rlp, NewBlockHash { hash, number })
@@ -63,11 +59,7 @@ impl Encodable for NewBlockHashes {
 }
 
 impl Decodable for NewBlockHashes {
-    ghost gives = { new_block_hashes.gives };
-
-    ghost faults = { new_block_hashes.faults };
-
-    ghost may_lack_memory = { new_block_hashes.may_lack };
+    ghost reading = { new_block_hashes.reading };
 
     fn decode(alloc: Global, rlp: &Rlp<'_>) -> Result<NewBlockHashes, DecoderError> {
         let blocks = rlp.as_list(alloc)?;
@@ -106,11 +98,7 @@ impl Encodable for NewPooledTransactionHashes {
 }
 
 impl Decodable for NewPooledTransactionHashes {
-    ghost gives = { new_pooled_transaction_hashes.gives };
-
-    ghost faults = { new_pooled_transaction_hashes.faults };
-
-    ghost may_lack_memory = { new_pooled_transaction_hashes.may_lack };
+    ghost reading = { new_pooled_transaction_hashes.reading };
 
     fn decode(alloc: Global, rlp: &Rlp<'_>) -> Result<NewPooledTransactionHashes, DecoderError> {
         rlp::decode_fields!(
@@ -161,11 +149,7 @@ impl Encodable for BlockRangeUpdate {
 }
 
 impl Decodable for BlockRangeUpdate {
-    ghost gives = { block_range_update.gives };
-
-    ghost faults = { block_range_update.faults };
-
-    ghost may_lack_memory = { block_range_update.may_lack };
+    ghost reading = { block_range_update.reading };
 
     fn decode(alloc: Global, rlp: &Rlp<'_>) -> Result<BlockRangeUpdate, DecoderError> {
         rlp::decode_fields!(
@@ -208,11 +192,7 @@ impl Encodable for NewBlock {
 }
 
 impl Decodable for NewBlock {
-    ghost gives = { new_block.gives };
-
-    ghost faults = { new_block.faults };
-
-    ghost may_lack_memory = { new_block.may_lack };
+    ghost reading = { new_block.reading };
 
     fn decode(alloc: Global, rlp: &Rlp<'_>) -> Result<NewBlock, DecoderError> {
         rlp::decode_fields!(
@@ -250,11 +230,7 @@ impl Encodable for Transactions {
 }
 
 impl Decodable for Transactions {
-    ghost gives = { transactions.gives };
-
-    ghost faults = { transactions.faults };
-
-    ghost may_lack_memory = { transactions.may_lack };
+    ghost reading = { transactions.reading };
 
     fn decode(alloc: Global, rlp: &Rlp<'_>) -> Result<Transactions, DecoderError> {
         let transactions = rlp.as_list(alloc)?;

@@ -34,13 +34,9 @@ impl Encodable for HashOrNumber {
 /// bytes and not 32, and with `RlpInvalidIndirection` if it is shorter and begins with a zero. It
 /// doesn't allocate.
 impl Decodable for HashOrNumber {
-    ghost gives = { hash_or_number.gives };
+    ghost reading = { hash_or_number.reading };
 
-    ghost faults = { hash_or_number.faults };
-
-    ghost may_lack_memory = { hash_or_number.may_lack };
-
-    #[tactic(auto, using(crate::specs::HashOrNumber::hash_or_number_found))]
+    #[tactic(auto, using(crate::proofs::Found::hash_or_number_found))]
     fn decode(alloc: Global, rlp: &Rlp<'_>) -> Result<HashOrNumber, DecoderError> {
         match rlp.as_val(alloc) {
             Ok(hash) => Ok(HashOrNumber::Hash(hash)),

@@ -6,7 +6,6 @@ mod announcements;
 mod hash_or_number;
 mod receipts;
 mod receipts69;
-mod record;
 mod requests;
 mod status;
 mod with_request_id;

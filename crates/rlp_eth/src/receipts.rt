@@ -21,11 +21,7 @@ impl Encodable for BlockReceipts {
 }
 
 impl Decodable for BlockReceipts {
-    ghost gives = { block_receipts.gives };
-
-    ghost faults = { block_receipts.faults };
-
-    ghost may_lack_memory = { block_receipts.may_lack };
+    ghost reading = { block_receipts.reading };
 
     fn decode(alloc: Global, rlp: &Rlp<'_>) -> Result<BlockReceipts, DecoderError> {
         let receipts = rlp.as_list(alloc)?;
@@ -57,11 +53,7 @@ impl Encodable for Receipts {
 }
 
 impl Decodable for Receipts {
-    ghost gives = { receipts.gives };
-
-    ghost faults = { receipts.faults };
-
-    ghost may_lack_memory = { receipts.may_lack };
+    ghost reading = { receipts.reading };
 
     fn decode(alloc: Global, rlp: &Rlp<'_>) -> Result<Receipts, DecoderError> {
         let blocks = rlp.as_list(alloc)?;

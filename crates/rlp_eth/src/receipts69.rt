@@ -39,11 +39,7 @@ impl Encodable for Receipt69 {
 }
 
 impl Decodable for Receipt69 {
-    ghost gives = { receipt69.gives };
-
-    ghost faults = { receipt69.faults };
-
-    ghost may_lack_memory = { receipt69.may_lack };
+    ghost reading = { receipt69.reading };
 
     fn decode(alloc: Global, rlp: &Rlp<'_>) -> Result<Receipt69, DecoderError> {
         rlp::decode_fields!(
@@ -82,11 +78,7 @@ impl Encodable for BlockReceipts69 {
 }
 
 impl Decodable for BlockReceipts69 {
-    ghost gives = { block_receipts69.gives };
-
-    ghost faults = { block_receipts69.faults };
-
-    ghost may_lack_memory = { block_receipts69.may_lack };
+    ghost reading = { block_receipts69.reading };
 
     fn decode(alloc: Global, rlp: &Rlp<'_>) -> Result<BlockReceipts69, DecoderError> {
         let receipts = rlp.as_list(alloc)?;
@@ -118,11 +110,7 @@ impl Encodable for Receipts69 {
 }
 
 impl Decodable for Receipts69 {
-    ghost gives = { receipts69.gives };
-
-    ghost faults = { receipts69.faults };
-
-    ghost may_lack_memory = { receipts69.may_lack };
+    ghost reading = { receipts69.reading };
 
     fn decode(alloc: Global, rlp: &Rlp<'_>) -> Result<Receipts69, DecoderError> {
         let blocks = rlp.as_list(alloc)?;

@@ -31,11 +31,7 @@ impl Encodable for GetBlockHeaders {
 }
 
 impl Decodable for GetBlockHeaders {
-    ghost gives = { get_block_headers.gives };
-
-    ghost faults = { get_block_headers.faults };
-
-    ghost may_lack_memory = { get_block_headers.may_lack };
+    ghost reading = { get_block_headers.reading };
 
     fn decode(alloc: Global, rlp: &Rlp<'_>) -> Result<GetBlockHeaders, DecoderError> {
         rlp::decode_fields!(
@@ -74,11 +70,7 @@ impl Encodable for BlockHeaders {
 }
 
 impl Decodable for BlockHeaders {
-    ghost gives = { block_headers.gives };
-
-    ghost faults = { block_headers.faults };
-
-    ghost may_lack_memory = { block_headers.may_lack };
+    ghost reading = { block_headers.reading };
 
     fn decode(alloc: Global, rlp: &Rlp<'_>) -> Result<BlockHeaders, DecoderError> {
         let headers = rlp.as_list(alloc)?;
@@ -109,11 +101,7 @@ impl Encodable for GetBlockBodies {
 }
 
 impl Decodable for GetBlockBodies {
-    ghost gives = { get_block_bodies.gives };
-
-    ghost faults = { get_block_bodies.faults };
-
-    ghost may_lack_memory = { get_block_bodies.may_lack };
+    ghost reading = { get_block_bodies.reading };
 
     fn decode(alloc: Global, rlp: &Rlp<'_>) -> Result<GetBlockBodies, DecoderError> {
         let hashes = rlp.as_list(alloc)?;
@@ -144,11 +132,7 @@ impl Encodable for BlockBodies {
 }
 
 impl Decodable for BlockBodies {
-    ghost gives = { block_bodies.gives };
-
-    ghost faults = { block_bodies.faults };
-
-    ghost may_lack_memory = { block_bodies.may_lack };
+    ghost reading = { block_bodies.reading };
 
     fn decode(alloc: Global, rlp: &Rlp<'_>) -> Result<BlockBodies, DecoderError> {
         let bodies = rlp.as_list(alloc)?;
@@ -180,11 +164,7 @@ impl Encodable for GetPooledTransactions {
 }
 
 impl Decodable for GetPooledTransactions {
-    ghost gives = { get_pooled_transactions.gives };
-
-    ghost faults = { get_pooled_transactions.faults };
-
-    ghost may_lack_memory = { get_pooled_transactions.may_lack };
+    ghost reading = { get_pooled_transactions.reading };
 
     fn decode(alloc: Global, rlp: &Rlp<'_>) -> Result<GetPooledTransactions, DecoderError> {
         let transactions = rlp.as_list(alloc)?;
@@ -217,11 +197,7 @@ impl Encodable for PooledTransactions {
 }
 
 impl Decodable for PooledTransactions {
-    ghost gives = { pooled_transactions.gives };
-
-    ghost faults = { pooled_transactions.faults };
-
-    ghost may_lack_memory = { pooled_transactions.may_lack };
+    ghost reading = { pooled_transactions.reading };
 
     fn decode(alloc: Global, rlp: &Rlp<'_>) -> Result<PooledTransactions, DecoderError> {
         let transactions = rlp.as_list(alloc)?;
@@ -252,11 +228,7 @@ impl Encodable for GetReceipts {
 }
 
 impl Decodable for GetReceipts {
-    ghost gives = { get_receipts.gives };
-
-    ghost faults = { get_receipts.faults };
-
-    ghost may_lack_memory = { get_receipts.may_lack };
+    ghost reading = { get_receipts.reading };
 
     fn decode(alloc: Global, rlp: &Rlp<'_>) -> Result<GetReceipts, DecoderError> {
         let blocks = rlp.as_list(alloc)?;

@@ -24,11 +24,7 @@ impl Encodable for ForkHash {
 /// Read as the array of the bytes is. Fails with `RlpIsTooShort` if the string is shorter, and with
 /// `RlpIsTooBig` if it is longer. It doesn't allocate.
 impl Decodable for ForkHash {
-    ghost gives = { fork_hash.gives };
-
-    ghost faults = { fork_hash.faults };
-
-    ghost may_lack_memory = { fork_hash.may_lack };
+    ghost reading = { fork_hash.reading };
 
     fn decode(alloc: Global, rlp: &Rlp<'_>) -> Result<ForkHash, DecoderError> {
         let bytes = rlp.as_val(alloc)?;
@@ -64,11 +60,7 @@ impl Encodable for ForkId {
 }
 
 impl Decodable for ForkId {
-    ghost gives = { fork_id.gives };
-
-    ghost faults = { fork_id.faults };
-
-    ghost may_lack_memory = { fork_id.may_lack };
+    ghost reading = { fork_id.reading };
 
     fn decode(alloc: Global, rlp: &Rlp<'_>) -> Result<ForkId, DecoderError> {
         rlp::decode_fields!(
@@ -126,11 +118,7 @@ impl Encodable for Status68 {
 }
 
 impl Decodable for Status68 {
-    ghost gives = { status68.gives };
-
-    ghost faults = { status68.faults };
-
-    ghost may_lack_memory = { status68.may_lack };
+    ghost reading = { status68.reading };
 
     fn decode(alloc: Global, rlp: &Rlp<'_>) -> Result<Status68, DecoderError> {
         rlp::decode_fields!(
@@ -195,11 +183,7 @@ impl Encodable for Status69 {
 }
 
 impl Decodable for Status69 {
-    ghost gives = { status69.gives };
-
-    ghost faults = { status69.faults };
-
-    ghost may_lack_memory = { status69.may_lack };
+    ghost reading = { status69.reading };
 
     fn decode(alloc: Global, rlp: &Rlp<'_>) -> Result<Status69, DecoderError> {
         rlp::decode_fields!(

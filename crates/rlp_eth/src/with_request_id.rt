@@ -4,7 +4,7 @@ ghost use Rattle.std.specs.Prelude.{[], ◌∷◌, ⊤};
 ghost use Rattle.rlp.specs.Format.Item.{list_of};
 ghost use Rattle.rlp.specs.Values.Value.{FitsBytes, number_item};
 ghost use Rattle.rlp.specs.Codec.{codec_of};
-ghost use Rattle.rlp_eth.specs.WithRequestId.{FaultsWithRequestId, GivesWithRequestId, MayLackWithRequestId, with_request_id};
+ghost use Rattle.rlp_eth.specs.WithRequestId.{with_request_id, with_request_id_reading};
 
 use rlp::{Decodable, DecoderError, Encodable, Rlp, RlpStream, RoundTrip, StrictRead};
 use std::alloc::{AllocError, Global};
@@ -31,11 +31,7 @@ impl<T: Encodable> Encodable for WithRequestId<T> {
 }
 
 impl<T: Decodable> Decodable for WithRequestId<T> {
-    ghost gives = { GivesWithRequestId T.gives };
-
-    ghost faults = { FaultsWithRequestId T.gives T.faults };
-
-    ghost may_lack_memory = { MayLackWithRequestId T.gives T.may_lack_memory };
+    ghost reading = { with_request_id_reading T.reading };
 
     fn decode(alloc: Global, rlp: &Rlp<'_>) -> Result<WithRequestId<T>, DecoderError> {
         rlp::decode_fields!(
@@ -50,11 +46,9 @@ impl<T: Decodable> Decodable for WithRequestId<T> {
 }
 
 impl<T: StrictRead> RoundTrip for WithRequestId<T> {
-    ghost round_trip = { (with_request_id (codec_of T.fits T.item T.gives T.faults
-        T.may_lack_memory T.round_trip T.strict)).reads_back };
+    ghost round_trip = { (with_request_id (codec_of T.fits T.item T.reading T.strict)).reads_back };
 }
 
 impl<T: StrictRead> StrictRead for WithRequestId<T> {
-    ghost strict = { (with_request_id (codec_of T.fits T.item T.gives T.faults
-        T.may_lack_memory T.round_trip T.strict)).reads_strictly };
+    ghost strict = { (with_request_id (codec_of T.fits T.item T.reading T.strict)).reads_strictly };
 }

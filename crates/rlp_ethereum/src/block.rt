@@ -39,11 +39,7 @@ impl Encodable for Block {
 }
 
 impl Decodable for Block {
-    ghost gives = { block.gives };
-
-    ghost faults = { block.faults };
-
-    ghost may_lack_memory = { block.may_lack };
+    ghost reading = { block.reading };
 
     fn decode(alloc: Global, rlp: &Rlp<'_>) -> Result<Block, DecoderError> {
         rlp::decode_fields!(

@@ -36,11 +36,7 @@ impl Encodable for Body {
 }
 
 impl Decodable for Body {
-    ghost gives = { body.gives };
-
-    ghost faults = { body.faults };
-
-    ghost may_lack_memory = { body.may_lack };
+    ghost reading = { body.reading };
 
     fn decode(alloc: Global, rlp: &Rlp<'_>) -> Result<Body, DecoderError> {
         rlp::decode_fields!(

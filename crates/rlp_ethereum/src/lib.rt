@@ -7,7 +7,6 @@
 mod block;
 mod body;
 pub mod laws;
-mod record;
 
 pub use block::Block;
 pub use body::Body;
@@ -17,7 +16,7 @@ pub use rlp_headers::{
 };
 pub use rlp_node_record::{NodeFields, NodePair, NodeRecord};
 pub use rlp_records::{
-    ACCESS_LIST_TYPE, Address, BLOB_TYPE, Enveloped, FEE_MARKET_TYPE, Hash, Record, SET_CODE_TYPE,
+    ACCESS_LIST_TYPE, Address, BLOB_TYPE, Enveloped, FEE_MARKET_TYPE, Hash, SET_CODE_TYPE,
     decode_at_most, encoding_hash,
 };
 pub use rlp_transactions::{

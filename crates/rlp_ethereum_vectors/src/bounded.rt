@@ -1,7 +1,7 @@
 //! Reading with a bound on the number of items.
 
-use rlp::DecoderError;
-use rlp_ethereum::{AnyTransaction, Body, Record, Transaction, Withdrawal, decode_at_most};
+use rlp::{DecoderError, StrictRead};
+use rlp_ethereum::{AnyTransaction, Body, Transaction, Withdrawal, decode_at_most};
 use rlp_rows::{Line, bytes_in, cut, number};
 use std::alloc::Global;
 use std::fmt;
@@ -67,7 +67,12 @@ pub(crate) fn tell(alloc: Global, asked: &str, bytes: &[u8], out: &mut Line) -> 
 }
 
 /// Tells the answer for this type.
-fn tell_read<R: Record>(alloc: Global, most: &str, bytes: &[u8], out: &mut Line) -> fmt::Result {
+fn tell_read<R: StrictRead>(
+    alloc: Global,
+    most: &str,
+    bytes: &[u8],
+    out: &mut Line,
+) -> fmt::Result {
     match decode_at_most::<R>(alloc, bytes, number(most)) {
         Ok(_) => out.write_str("Ok"),
         Err(DecoderError::Custom(text)) => out.write_str(text),

@@ -2,12 +2,13 @@
 
 use crate::node_records::TEXTS;
 use crate::text::bytes_of;
+use rlp::StrictRead;
 use rlp_ethereum::laws::{
     bytes_tell_transactions, encodings_tell_records, no_bytes_are_signed_for_two_meanings,
     node_text_round_trips, reading_without_memory_is_total, record_is_read, record_is_written,
     record_round_trips,
 };
-use rlp_ethereum::{Account, AnyTransaction, NodeRecord, Record, Withdrawal};
+use rlp_ethereum::{Account, AnyTransaction, NodeRecord, Withdrawal};
 use rlp_trie::laws::paths_have_one_value;
 use std::alloc::Global;
 use std::test::Fail;
@@ -23,7 +24,7 @@ const TRANSACTION: &str = "9d+FEE_MARKET";
 
 /// Returns whether the bytes are read as a record that is written as the same bytes, also after it
 /// was written and read back.
-fn laws_hold<R: Record>(alloc: Global, text: &str) -> Result<bool, Fail> {
+fn laws_hold<R: StrictRead>(alloc: Global, text: &str) -> Result<bool, Fail> {
     let bytes = bytes_of(alloc, text)?;
     let value = record_is_read::<R>(alloc, bytes.as_slice())?;
     let again = reading_without_memory_is_total::<R>(alloc, bytes.as_slice())?;

@@ -35,6 +35,17 @@ pub(crate) const ROWS: &str = "
     NodeRecord | c480016105 | Custom(\"key id is missing\")
     NodeRecord | c28001 | Custom(\"key id is missing\")
 
+    The fields are read before the order of the keys is tested: the keys b and a, with a longer
+    spelling of the value of the one or the other, and with a sequence number that begins with a
+    zero. An odd number of items comes before such a value. A record of 301 bytes is too big before
+    its keys are looked at, and one of 300 bytes isn't.
+    NodeRecord | c780016281056105 | Custom(\"item is not canonical\")
+    NodeRecord | c780016205618105 | Custom(\"item is not canonical\")
+    NodeRecord | c6800062056105 | RlpInvalidIndirection
+    NodeRecord | c6800161810561 | RlpIncorrectListLen
+    NodeRecord | f9012a800162b90122+00*290+6105 | RlpIsTooBig
+    NodeRecord | f90129800162b90121+00*289+6105 | Custom(\"keys are not in order\")
+
     A record of 17 pairs.
     NodeRecord | e68001+6180+6280+6380+6480+6580+6680+6780+6880+82696480+6a80+6b80+6c80+6d80+6e80\
      +6f80+7080+7180

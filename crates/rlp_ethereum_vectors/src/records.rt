@@ -22,6 +22,7 @@ pub(crate) const ROWS: &str = "
     Log | 05 | RlpExpectedToBeList
     Log | c0 | RlpIncorrectListLen
     Log | c405c08080 | RlpIncorrectListLen
+    Log | f83c94+11*20+e1a0+22*32+8363617480 | RlpIncorrectListLen
     Log | c305c0c0 | RlpIsTooShort
 
     The example of an access list in EIP-2930, of 116 bytes: an account with two keys, and another
@@ -125,13 +126,18 @@ pub(crate) const ROWS: &str = "
     Header | c105 | RlpIncorrectListLen
 
     Lists that aren't the fields since London, with what the fault prints: a string, no items, a fee
-    that begins with a zero, and a list in the place of the root of the withdrawals and of the root
-    of the beacon block.
+    that begins with a zero, a list in the place of the root of the withdrawals and of the root of the
+    beacon block, and a hash of the requests of 31 bytes. The last lists have three items, the first
+    of them such a fee, and an item after all fields: a wrong number of items comes first, and has no
+    place.
     London | 05 | RlpExpectedToBeList
     London | c0 | RlpIncorrectListLen
     London | c100 | field 0: RlpInvalidIndirection
     London | c205c0 | field 1: RlpExpectedToBeData
     London | e505a0+08*32+0607c0 | field 4: RlpExpectedToBeData
+    London | f86505a0+08*32+0607a0+09*32+9f+0a*31 | field 5: RlpIsTooShort
+    London | c300c0c0 | RlpIncorrectListLen
+    London | f86705a0+08*32+0607a0+09*32+a0+0a*32+80 | RlpIncorrectListLen
 
     The header of the example of EIP-2481.
     fields of Header | f901f9a00000000000000000000000000000000000000000000000000000000000000000a000\

@@ -99,6 +99,13 @@ pub(crate) const ROWS: &str = "
     signing: parity | c98080808080801a0102 | None
     signing: parity | c98080808080801d0102 | None
     signing: parity | c9808080808080220102 | None
+    The parity of types 1 to 4 is 0 or 1: a parity of 2, of 256, and 0 as a byte.
+    Transaction alone | 01cb+80*7+c0020102 | Custom(\"invalid boolean value\")
+    Transaction alone | 02cc+80*8+c0020102 | Custom(\"invalid boolean value\")
+    Transaction alone | 03e2+80*5+94+35*20+8080c080c0020102 | Custom(\"invalid boolean value\")
+    Transaction alone | 04e1+80*5+94+35*20+8080c0c0020102 | Custom(\"invalid boolean value\")
+    Transaction alone | 01cd+80*7+c08201000102 | RlpIsTooBig
+    Transaction alone | 01cb+80*7+c0000102 | RlpInvalidIndirection
     With one blob of zeros, as in EIP-4844 and EIP-7594.
     sent: with proofs | 03fa0200b1+f843018002030494+35*20+0780c008e1a001+00*31+800102+fa020004ba02\
      0000+00*131072+f1b0c0+00*47+f1b0c0+00*47

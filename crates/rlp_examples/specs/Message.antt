@@ -3,8 +3,7 @@ use Rattle.std.specs.Prelude.{ℕ, ◌⊎◌, codes}
 use Rattle.std.proofs.Common.{inl, inr}
 use Rattle.std.specs.Global.{Vec}
 use Rattle.std.specs.Vec.{vec_items}
-use Rattle.rlp.specs.Codec.{Codec, byte_string, newtype, number}
-use Rattle.rlp.specs.Codecs.Sums.{Cases, and_case, last_case, tagged_list}
+use Rattle.rlp.specs.Codec.{Cases, Codec, and_case, byte_string, last_case, newtype, number, tagged_list}
 use Rattle.rlp_examples.specs.declared.message.Message.{Message}
 use Rattle.rlp_examples.specs.declared.message.Message.TheVariants.{Data, Ping}
 
@@ -12,7 +11,7 @@ use Rattle.rlp_examples.specs.declared.message.Message.TheVariants.{Data, Ping}
 abbrev pub message_kinds : Cases (ℕ ⊎ Vec ℕ)
 message_kinds =
     and_case 1 (number 8) (
-    last_case 2 (byte_string vec_items))
+    last_case (codes "unknown message") 2 (byte_string vec_items))
 
 -- a message as one of these kinds
 abbrev pub as_sum : Message → ℕ ⊎ Vec ℕ
@@ -21,4 +20,4 @@ as_sum (Data bytes) = inr bytes
 
 -- the list of the number of its kind, and its content
 abbrev pub message : Codec Message
-message = newtype as_sum (tagged_list 1 (codes "unknown message") message_kinds)
+message = newtype as_sum (tagged_list 1 message_kinds)

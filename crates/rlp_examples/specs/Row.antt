@@ -1,11 +1,12 @@
 -- How values of `Row` are written and read.
+use Rattle.std.specs.Prelude.{refl}
 use Rattle.std.specs.Vec.{vec_items}
-use Rattle.rlp.specs.Codec.{Codec, Fields, byte_array, byte_string, end, field, number, struct_of}
+use Rattle.rlp.specs.Codec.{Codec, Fields, byte_array, byte_string, end, field, group, number, struct_of}
 use Rattle.rlp_examples.specs.declared.row.Row.{Row}
 
--- the fields, in order
-abbrev pub row_fields : Fields Row
-row_fields =
+-- columns 1 to 8
+abbrev pub first_columns : Fields Row
+first_columns =
     field (λ (r : Row). r.column_1) (number 8) (
     field (λ (r : Row). r.column_2) (byte_array 32) (
     field (λ (r : Row). r.column_3) (byte_string vec_items) (
@@ -13,7 +14,11 @@ row_fields =
     field (λ (r : Row). r.column_5) (number 8) (
     field (λ (r : Row). r.column_6) (byte_array 32) (
     field (λ (r : Row). r.column_7) (byte_string vec_items) (
-    field (λ (r : Row). r.column_8) (byte_array 8) (
+    field (λ (r : Row). r.column_8) (byte_array 8) end)))))))
+
+-- columns 9 to 16
+abbrev pub second_columns : Fields Row
+second_columns =
     field (λ (r : Row). r.column_9) (number 8) (
     field (λ (r : Row). r.column_10) (byte_array 32) (
     field (λ (r : Row). r.column_11) (byte_string vec_items) (
@@ -21,7 +26,11 @@ row_fields =
     field (λ (r : Row). r.column_13) (number 8) (
     field (λ (r : Row). r.column_14) (byte_array 32) (
     field (λ (r : Row). r.column_15) (byte_string vec_items) (
-    field (λ (r : Row). r.column_16) (byte_array 8) (
+    field (λ (r : Row). r.column_16) (byte_array 8) end)))))))
+
+-- columns 17 to 24
+abbrev pub third_columns : Fields Row
+third_columns =
     field (λ (r : Row). r.column_17) (number 8) (
     field (λ (r : Row). r.column_18) (byte_array 32) (
     field (λ (r : Row). r.column_19) (byte_string vec_items) (
@@ -29,7 +38,11 @@ row_fields =
     field (λ (r : Row). r.column_21) (number 8) (
     field (λ (r : Row). r.column_22) (byte_array 32) (
     field (λ (r : Row). r.column_23) (byte_string vec_items) (
-    field (λ (r : Row). r.column_24) (byte_array 8) (
+    field (λ (r : Row). r.column_24) (byte_array 8) end)))))))
+
+-- columns 25 to 32
+abbrev pub fourth_columns : Fields Row
+fourth_columns =
     field (λ (r : Row). r.column_25) (number 8) (
     field (λ (r : Row). r.column_26) (byte_array 32) (
     field (λ (r : Row). r.column_27) (byte_string vec_items) (
@@ -37,7 +50,15 @@ row_fields =
     field (λ (r : Row). r.column_29) (number 8) (
     field (λ (r : Row). r.column_30) (byte_array 32) (
     field (λ (r : Row). r.column_31) (byte_string vec_items) (
-    field (λ (r : Row). r.column_32) (byte_array 8) end)))))))))))))))))))))))))))))))
+    field (λ (r : Row). r.column_32) (byte_array 8) end)))))))
+
+-- the fields, in order
+abbrev pub row_fields : Fields Row
+row_fields =
+    group (λ r. r) first_columns refl (
+    group (λ r. r) second_columns refl (
+    group (λ r. r) third_columns refl (
+    fourth_columns)))
 
 -- the list of the fields
 abbrev pub row : Codec Row

@@ -23,11 +23,7 @@ impl Encodable for Inner {
 }
 
 impl Decodable for Inner {
-    ghost gives = { inner.gives };
-
-    ghost faults = { inner.faults };
-
-    ghost may_lack_memory = { inner.may_lack };
+    ghost reading = { inner.reading };
 
     fn decode(alloc: Global, rlp: &Rlp<'_>) -> Result<Inner, DecoderError> {
         rlp::decode_fields!(alloc, rlp, Inner(first, second))

@@ -2,7 +2,7 @@
 
 ghost use Rattle.rlp_examples.specs.Message.{message};
 
-use rlp::{Decodable, DecoderError, Encodable, Rlp, RlpStream, RoundTrip, StrictRead};
+use rlp::{Decodable, DecoderError, Encodable, Fields, Rlp, RlpStream, RoundTrip, StrictRead};
 use std::alloc::{AllocError, Global};
 
 /// A message between peers: the list of the number of its kind and its content.
@@ -29,27 +29,17 @@ impl Encodable for Message {
 
 /// Reading fails with `Custom("unknown message")` for another number.
 impl Decodable for Message {
-    ghost gives = { message.gives };
+    ghost reading = { message.reading };
 
-    ghost faults = { message.faults };
-
-    ghost may_lack_memory = { message.may_lack };
-
-    #[tactic(auto, using(rlp::proofs::Tagged::tagged))]
     fn decode(alloc: Global, rlp: &Rlp<'_>) -> Result<Message, DecoderError> {
-        if rlp.item_count()? != 2 {
+        let mut items = Fields::of(rlp)?;
+        let (Some(kind), Some(content), None) = (items.next(), items.next(), items.next()) else {
             return Err(DecoderError::RlpIncorrectListLen);
-        }
-        let kind: u8 = rlp.val_at(alloc, 0)?;
+        };
+        let kind: u8 = kind.as_val(alloc)?;
         match kind {
-            1 => match rlp.val_at(alloc, 1) {
-                Ok(number) => Ok(Message::Ping(number)),
-                Err(fault) => Err(fault),
-            },
-            2 => match rlp.val_at(alloc, 1) {
-                Ok(bytes) => Ok(Message::Data(bytes)),
-                Err(fault) => Err(fault),
-            },
+            1 => Ok(Message::Ping(content.as_val(alloc)?)),
+            2 => Ok(Message::Data(content.as_val(alloc)?)),
             _ => Err(DecoderError::Custom("unknown message")),
         }
     }

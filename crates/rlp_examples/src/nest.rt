@@ -4,7 +4,8 @@ ghost use Rattle.std.specs.Prelude.{[], ◌∷◌, ⊤, All, map};
 ghost use Rattle.std.specs.Vec.{vec_items};
 ghost use Rattle.rlp.specs.Format.Item.{list_of};
 ghost use Rattle.rlp.specs.Codec.{codec_of};
-ghost use Rattle.rlp_examples.specs.Nest.{FaultsAsNest, GivesNest, MayLackAsNest, nest_reads_back, nest};
+ghost use Rattle.rlp.specs.Laws.{form_of};
+ghost use Rattle.rlp_examples.specs.Nest.{nest, nest_read_back, nest_reading};
 
 use rlp::{Decodable, DecoderError, Encodable, ListOf, Rlp, RlpStream, RoundTrip, StrictRead};
 use std::alloc::{AllocError, Global};
@@ -24,11 +25,7 @@ impl<T: Encodable> Encodable for Nest<T> {
 }
 
 impl<T: Decodable> Decodable for Nest<T> {
-    ghost gives = { GivesNest T.gives };
-
-    ghost faults = { FaultsAsNest T.gives T.faults };
-
-    ghost may_lack_memory = { MayLackAsNest T.gives T.may_lack_memory };
+    ghost reading = { nest_reading T.reading };
 
     fn decode(alloc: Global, rlp: &Rlp<'_>) -> Result<Nest<T>, DecoderError> {
         rlp::decode_fields!(alloc, rlp, Nest(values: [..]))
@@ -36,10 +33,9 @@ impl<T: Decodable> Decodable for Nest<T> {
 }
 
 impl<T: RoundTrip> RoundTrip for Nest<T> {
-    ghost round_trip = { nest_reads_back T.fits T.item T.gives T.faults T.round_trip };
+    ghost round_trip = { nest_read_back (form_of T.fits T.item T.reading) T.round_trip };
 }
 
 impl<T: StrictRead> StrictRead for Nest<T> {
-    ghost strict = { (nest (codec_of T.fits T.item T.gives T.faults T.may_lack_memory
-        T.round_trip T.strict)).reads_strictly };
+    ghost strict = { (nest (codec_of T.fits T.item T.reading T.strict)).reads_strictly };
 }

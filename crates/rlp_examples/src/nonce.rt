@@ -1,7 +1,6 @@
 //! A custom type that is written and read as a number.
 
 ghost use Rattle.rlp.specs.Values.Value.{FitsBytes, number_item};
-ghost use Rattle.rlp.specs.Values.ValueReading.{FaultsAsNumber, GivesNumber};
 ghost use Rattle.rlp.specs.Codec.{newtype, number};
 
 use rlp::{Decodable, DecoderError, Encodable, Rlp, RlpStream, RoundTrip, StrictRead};
@@ -24,11 +23,7 @@ impl Encodable for Nonce {
 
 /// Read as a `u64` is.
 impl Decodable for Nonce {
-    ghost gives = { λ v n. GivesNumber 8 v n.0 };
-
-    ghost faults = { λ v e. FaultsAsNumber 8 v e };
-
-    ghost may_lack_memory = { λ v. ⊥ };
+    ghost reading = { (newtype (λ (n : Self). n.0) (number 8)).reading };
 
     fn decode(alloc: Global, rlp: &Rlp<'_>) -> Result<Nonce, DecoderError> {
         let sent = rlp.as_val(alloc)?;

@@ -5,7 +5,9 @@ ghost use Rattle.rlp.specs.DecoderError.TheVariants.{OutOfMemory};
 ghost use Rattle.rlp.specs.Format.Encoding.{BeginsWith, encoding};
 ghost use Rattle.rlp_examples.specs.Pair.{pair};
 
-use rlp::{Decodable, DecoderError, Encodable, Rlp, RlpStream, RoundTrip, StrictRead, laws};
+use rlp::{
+    Decodable, DecoderError, Encodable, Fields, Rlp, RlpStream, RoundTrip, StrictRead, laws,
+};
 use std::alloc::{AllocError, Global};
 
 /// Two numbers.
@@ -25,19 +27,15 @@ impl Encodable for Pair {
 }
 
 impl Decodable for Pair {
-    ghost gives = { pair.gives };
+    ghost reading = { pair.reading };
 
-    ghost faults = { pair.faults };
-
-    ghost may_lack_memory = { pair.may_lack };
-
-    #[tactic(auto, using(rlp::proofs::Reading::reading))]
     fn decode(alloc: Global, rlp: &Rlp<'_>) -> Result<Pair, DecoderError> {
-        if rlp.item_count()? != 2 {
+        let mut items = Fields::of(rlp)?;
+        let (Some(first), Some(second), None) = (items.next(), items.next(), items.next()) else {
             return Err(DecoderError::RlpIncorrectListLen);
-        }
-        let first = rlp.val_at(alloc, 0)?;
-        let second = rlp.val_at(alloc, 1)?;
+        };
+        let first = first.as_val(alloc)?;
+        let second = second.as_val(alloc)?;
         Ok(Pair(first, second))
     }
 }

@@ -3,6 +3,7 @@
 ghost use Rattle.std.specs.Option.{option_map};
 ghost use Rattle.std.specs.Prelude.{◌≡◌};
 ghost use Rattle.std.specs.Vec.{vec_items};
+ghost use Rattle.rlp.specs.Format.Encoding.{IsSized};
 ghost use Rattle.rlp_examples.specs.Parcel.{parcel};
 
 use rlp::{
@@ -40,11 +41,7 @@ impl Encodable for Parcel {
 }
 
 impl Decodable for Parcel {
-    ghost gives = { parcel.gives };
-
-    ghost faults = { parcel.faults };
-
-    ghost may_lack_memory = { parcel.may_lack };
+    ghost reading = { parcel.reading };
 
     fn decode(alloc: Global, rlp: &Rlp<'_>) -> Result<Parcel, DecoderError> {
         rlp::decode_fields!(
@@ -68,10 +65,11 @@ impl StrictRead for Parcel {
     ghost strict = { parcel.reads_strictly };
 }
 
-/// A law: two parcels that are written as the same item have equal fields. It is the member `told`
-/// of their codec.
+/// A law: two parcels that are written as the same item, whose encoding is shorter than 2^64, have
+/// equal fields.
 pub fn items_tell_parcels(a: &Parcel, b: &Parcel)
     ensures { parcel.Fits a.now → parcel.Fits b.now → parcel.item a.now ≡ parcel.item b.now
+        → IsSized (parcel.item a.now)
         → (a.now.number ≡ b.now.number)
         × (vec_items a.now.address ≡ vec_items b.now.address)
         × (vec_items a.now.weights ≡ vec_items b.now.weights)

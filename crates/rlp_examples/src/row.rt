@@ -5,7 +5,8 @@ ghost use Rattle.rlp_examples.specs.Row.{row};
 use rlp::{Decodable, DecoderError, Encodable, Rlp, RlpStream, RoundTrip, StrictRead};
 use std::alloc::{AllocError, Global};
 
-/// A row of a table with thirty-two columns. It shows a struct of many fields.
+/// A row of a table with thirty-two columns. It shows a struct of many fields, which are read in
+/// groups.
 #[derive(Drop)]
 pub struct Row {
     /// Column 1.
@@ -119,41 +120,43 @@ impl Encodable for Row {
 }
 
 impl Decodable for Row {
-    ghost gives = { row.gives };
-
-    ghost faults = { row.faults };
-
-    ghost may_lack_memory = { row.may_lack };
+    ghost reading = { row.reading };
 
     fn decode(alloc: Global, rlp: &Rlp<'_>) -> Result<Row, DecoderError> {
         rlp::decode_fields!(
             alloc,
             rlp,
             Row {
-                column_1,
-                column_2,
-                column_3,
-                column_4,
-                column_5,
-                column_6,
-                column_7,
-                column_8,
-                column_9,
-                column_10,
-                column_11,
-                column_12,
-                column_13,
-                column_14,
-                column_15,
-                column_16,
-                column_17,
-                column_18,
-                column_19,
-                column_20,
-                column_21,
-                column_22,
-                column_23,
-                column_24,
+                (
+                    column_1,
+                    column_2,
+                    column_3,
+                    column_4,
+                    column_5,
+                    column_6,
+                    column_7,
+                    column_8,
+                ),
+                (
+                    column_9,
+                    column_10,
+                    column_11,
+                    column_12,
+                    column_13,
+                    column_14,
+                    column_15,
+                    column_16,
+                ),
+                (
+                    column_17,
+                    column_18,
+                    column_19,
+                    column_20,
+                    column_21,
+                    column_22,
+                    column_23,
+                    column_24,
+                ),
                 column_25,
                 column_26,
                 column_27,

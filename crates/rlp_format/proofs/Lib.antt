@@ -4,3 +4,5 @@
 pub mod Format
 -- values, and what prints of them
 pub mod Values
+-- lemmas for the laws of traits and for authors of types
+pub mod Lemmas

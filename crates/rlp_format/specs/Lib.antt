@@ -2,5 +2,3 @@
 pub mod Format
 -- values, and their items
 pub mod Values
--- lemmas for the laws of traits and for authors of types; readers of definitions don't need them
-pub mod Lemmas

@@ -1,7 +1,10 @@
 -- How statuses of receipts are written and read.
-use Rattle.std.specs.Prelude.{ℕ, ◌≡◌, ◌≢◌, ⊤, List, [], ◌∷◌, codes, length, refl}
-use Rattle.rlp.specs.DecoderError.{DecoderError}
-use Rattle.rlp.specs.Values.ValueReading.{IsCustom}
+use Rattle.std.specs.Prelude.{ℕ, zero, suc, ◌≡◌, ◌≢◌, ◌==◌, ⊤, Bool, true, false, if◌then◌else◌, List, [], ◌∷◌, Option, Some, None, codes, length, refl, Result, Ok, Err}
+use Rattle.std.proofs.Common.{◌↔◌, ◌∙◌, ap, sym, eq-eqb, ne_eqb}
+use Rattle.std.proofs.lemmas.Bool.{cond-true, cond-false, eqb-true}
+use Rattle.rlp.specs.Form.{Fault, custom, map_value}
+use Rattle.rlp_codec.specs.Kinds.{read_kind}
+use Rattle.rlp_codec.proofs.KindLaws.{HaveKinds, kinds_read}
 use Rattle.rlp.specs.Codec.{Codec, string_type}
 use Rattle.rlp_headers.specs.declared.receipt_status.ReceiptStatus.{ReceiptStatus}
 use Rattle.rlp_headers.specs.declared.receipt_status.ReceiptStatus.TheVariants.{Failure, StateRoot, Success}
@@ -18,17 +21,59 @@ IsStatus Failure = ⊤
 IsStatus Success = ⊤
 IsStatus (StateRoot root) = length root.0 ≡ 32
 
--- The fault of a string that isn't a status: it isn't empty, isn't the byte 1, and hasn't 32 bytes.
-pub data IsStatusFault (d : List ℕ) (e : DecoderError) : Type 0 where
-  other_status : d ≢ [] → d ≢ 1 ∷ [] → length d ≢ 32 → IsCustom (codes "unknown receipt status") e → IsStatusFault d e
+-- whether the transaction succeeded, or `None` for a root, which doesn't say so
+abbrev pub succeeded : ReceiptStatus → Option Bool
+succeeded Failure = Some false
+succeeded Success = Some true
+succeeded (StateRoot root) = None
 
-pub ruleset status_faults = (other_status)
+-- whether the transaction succeeded, by a string that isn't a root
+abbrev pub outcome_of : List ℕ → Result Bool Fault
+outcome_of [] = Ok false
+outcome_of (zero ∷ []) = Err (custom (codes "unknown receipt status"))
+outcome_of (suc zero ∷ []) = Ok true
+outcome_of (suc (suc n) ∷ []) = Err (custom (codes "unknown receipt status"))
+outcome_of (byte ∷ next ∷ rest) = Err (custom (codes "unknown receipt status"))
 
-pub sound_status : (s : ReceiptStatus) (e : DecoderError) → IsStatus s → ¬ IsStatusFault (status_bytes s) e
-sound_status Failure e fit (other_status none one many custom) = none refl
-sound_status Success e fit (other_status none one many custom) = one refl
-sound_status (StateRoot root) e fit (other_status none one many custom) = many fit
+-- the kind of a status that a string is: a string of 32 bytes is a root
+abbrev pub status_kind : List ℕ → Result (Option Bool) Fault
+status_kind d = if length d == 32 then Ok None else map_value Some (outcome_of d)
+
+-- a string that isn't empty and isn't the byte 1 tells no outcome
+no_outcome : (d : List ℕ) → d ≢ [] → d ≢ 1 ∷ [] → outcome_of d ≡ Err (custom (codes "unknown receipt status"))
+no_outcome [] none one = absurd (none refl)
+no_outcome (zero ∷ []) none one = refl
+no_outcome (suc zero ∷ []) none one = absurd (one refl)
+no_outcome (suc (suc n) ∷ []) none one = refl
+no_outcome (byte ∷ next ∷ rest) none one = refl
+
+-- any other string is no status
+pub no_status : (d : List ℕ) → d ≢ [] → d ≢ 1 ∷ [] → length d ≢ 32 → status_kind d ≡ Err (custom (codes "unknown receipt status"))
+no_status d none one many = cond-false (length d == 32) _ _ (ne_eqb (length d) 32 many) ∙ ap (map_value Some) (no_outcome d none one)
+
+-- 32 bytes are a root
+pub is_root : (d : List ℕ) → length d ≡ 32 → status_kind d ≡ Ok None
+is_root d is = cond-true (length d == 32) _ _ (eq-eqb _ _ is)
+
+not_none : (r : Result Bool Fault) → (let k : Option Bool = None in map_value Some r ≡ Ok k) → ⊥
+not_none (Ok b) is = cc
+not_none (Err e) is = cc
+
+root_by : (d : List ℕ) (many : Bool) → (length d == 32) ≡ many → status_kind d ≡ Ok None → length d ≡ 32
+root_by d true many is = eqb-true _ 32 many
+root_by d false many is = absurd (not_none (outcome_of d) (sym (cond-false (length d == 32) _ _ many) ∙ is))
+
+pub status_kinds : HaveKinds IsStatus status_bytes succeeded status_kind
+status_kinds = record { of_kind = of_kind }
+  where
+    of_kind : (s : ReceiptStatus) → IsStatus s ↔ (status_kind (status_bytes s) ≡ Ok (succeeded s))
+    of_kind Failure = (λ fit. refl, λ is. tt)
+    of_kind Success = (λ fit. refl, λ is. tt)
+    of_kind (StateRoot root) = (is_root root.0, root_by root.0 (length root.0 == 32) refl)
 
 -- the string of these bytes
 abbrev pub receipt_status : Codec ReceiptStatus
-receipt_status = string_type IsStatus status_bytes IsStatusFault sound_status
+receipt_status = string_type IsStatus status_bytes (λ s. (succeeded s, status_bytes s)) (λ m. m.1) (read_kind status_kind) false
+    (kinds_read IsStatus status_bytes succeeded status_kind status_kinds)
+
+pub ruleset statuses = (no_status, is_root)

@@ -39,11 +39,7 @@ impl Encodable for Account {
 }
 
 impl Decodable for Account {
-    ghost gives = { account.gives };
-
-    ghost faults = { account.faults };
-
-    ghost may_lack_memory = { account.may_lack };
+    ghost reading = { account.reading };
 
     fn decode(alloc: Global, rlp: &Rlp<'_>) -> Result<Account, DecoderError> {
         rlp::decode_fields!(

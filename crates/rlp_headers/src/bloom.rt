@@ -25,11 +25,7 @@ impl Encodable for Bloom {
 /// Read as the array of the bytes is. Fails with `RlpIsTooShort` if the string is shorter, and with
 /// `RlpIsTooBig` if it is longer. It doesn't allocate.
 impl Decodable for Bloom {
-    ghost gives = { bloom.gives };
-
-    ghost faults = { bloom.faults };
-
-    ghost may_lack_memory = { bloom.may_lack };
+    ghost reading = { bloom.reading };
 
     fn decode(alloc: Global, rlp: &Rlp<'_>) -> Result<Bloom, DecoderError> {
         let bytes = rlp.as_val(alloc)?;

@@ -110,11 +110,7 @@ impl Encodable for Header {
 }
 
 impl Decodable for Header {
-    ghost gives = { header.gives };
-
-    ghost faults = { header.faults };
-
-    ghost may_lack_memory = { header.may_lack };
+    ghost reading = { header.reading };
 
     fn decode(alloc: Global, rlp: &Rlp<'_>) -> Result<Header, DecoderError> {
         rlp::decode_fields!(

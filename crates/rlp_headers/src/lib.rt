@@ -7,7 +7,6 @@ mod header;
 mod log;
 mod receipt;
 mod receipt_status;
-mod record;
 mod typed_receipt;
 mod withdrawal;
 

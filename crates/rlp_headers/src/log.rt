@@ -31,11 +31,7 @@ impl Encodable for Log {
 }
 
 impl Decodable for Log {
-    ghost gives = { log.gives };
-
-    ghost faults = { log.faults };
-
-    ghost may_lack_memory = { log.may_lack };
+    ghost reading = { log.reading };
 
     fn decode(alloc: Global, rlp: &Rlp<'_>) -> Result<Log, DecoderError> {
         rlp::decode_fields!(

@@ -40,11 +40,7 @@ impl Encodable for Receipt {
 }
 
 impl Decodable for Receipt {
-    ghost gives = { receipt.gives };
-
-    ghost faults = { receipt.faults };
-
-    ghost may_lack_memory = { receipt.may_lack };
+    ghost reading = { receipt.reading };
 
     fn decode(alloc: Global, rlp: &Rlp<'_>) -> Result<Receipt, DecoderError> {
         rlp::decode_fields!(

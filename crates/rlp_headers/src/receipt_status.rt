@@ -1,7 +1,9 @@
 //! Statuses of receipts: a string of one byte, of none, or of 32.
 
-ghost use Rattle.std.specs.Prelude.{◌≡◌, IfErr, IfOk};
-ghost use Rattle.rlp_headers.specs.ReceiptStatus.{IsStatus, IsStatusFault, receipt_status, status_bytes};
+ghost use Rattle.std.specs.Prelude.{◌≡◌, ⊤, Ok, Err, IfErr, IfOk};
+ghost use Rattle.rlp.specs.Form.{fault_of};
+ghost use Rattle.rlp_codec.specs.Kinds.{read_kind};
+ghost use Rattle.rlp_headers.specs.ReceiptStatus.{receipt_status, status_kind};
 
 use rlp::{Decodable, DecoderError, Encodable, Rlp, RlpStream, RoundTrip, StrictRead};
 use rlp_records::Hash;
@@ -37,15 +39,10 @@ impl Encodable for ReceiptStatus {
 /// Reading fails with `Custom("unknown receipt status")` if the string isn't empty, isn't the byte
 /// 1, and hasn't 32 bytes. It doesn't allocate.
 impl Decodable for ReceiptStatus {
-    ghost gives = { receipt_status.gives };
+    ghost reading = { receipt_status.reading };
 
-    ghost faults = { receipt_status.faults };
-
-    ghost may_lack_memory = { receipt_status.may_lack };
-
-    #[tactic(auto, using(rlp::proofs::Reading::reading))]
     fn decode(_alloc: Global, rlp: &Rlp<'_>) -> Result<ReceiptStatus, DecoderError> {
-        rlp.decoder().decode_value(status_of)
+        status_of(rlp.decoder().string()?)
     }
 }
 
@@ -58,10 +55,11 @@ impl StrictRead for ReceiptStatus {
 }
 
 /// Makes a status from a string. Fails as reading a status does.
-#[tactic(auto, using(crate::specs::ReceiptStatus::status_faults))]
+#[tactic(auto, using(crate::specs::ReceiptStatus::statuses))]
 fn status_of(string: &[u8]) -> Result<ReceiptStatus, DecoderError>
-    ensures value { IfOk result (λ s. IsStatus s × (status_bytes s ≡ string.now)) }
-    ensures fault { IfErr result (λ e. IsStatusFault string.now e) }
+    ensures value { IfOk result
+        (λ s. read_kind status_kind string.now ≡ Ok (receipt_status.reading.seen s)) }
+    ensures fault { IfErr result (λ e. read_kind status_kind string.now ≡ Err (fault_of e)) }
 {
     match string {
         [] => Ok(ReceiptStatus::Failure),

@@ -1,17 +1,18 @@
 //! Receipts of transactions of every type.
 
-ghost use Rattle.std.specs.Prelude.{◌≡◌, ◌∷◌, ◌⊎◌, IfErr, IfOk, OnOk};
+ghost use Rattle.std.specs.Prelude.{◌≡◌, ◌⊎◌, IfErr, IfOk, Ok, Err, OnOk, IsTrue};
+ghost use Rattle.std.proofs.Common.{inr};
 ghost use Rattle.rlp.specs.DecoderError.TheVariants.{OutOfMemory};
-ghost use Rattle.rlp.specs.Format.Item.{string};
-ghost use Rattle.rlp_records.specs.Alone.{FaultsAlone, MayLackAlone, PayloadFails, bytes_alone, unknown_type};
-ghost use Rattle.rlp_headers.specs.Receipt.{receipt};
-ghost use Rattle.rlp_headers.specs.TypedReceipt.{typed_receipt, typed_receipts};
+ghost use Rattle.rlp.specs.Views.View.{strict_view_of};
+ghost use Rattle.rlp.specs.Form.{fault_of, map_value};
+ghost use Rattle.rlp_records.specs.Alone.{bytes_alone};
+ghost use Rattle.rlp_headers.specs.TypedReceipt.{receipt_alone, typed_receipt, typed_receipts};
 
 use crate::Receipt;
 use bytes::BytesMut;
 use rlp::{
     Decodable, DecoderError, Encodable, Envelope, Rlp, RlpStream, RoundTrip, StrictRead,
-    write_envelope,
+    decode_strict, write_envelope,
 };
 use rlp_records::{ACCESS_LIST_TYPE, BLOB_TYPE, FEE_MARKET_TYPE, SET_CODE_TYPE, to_envelope};
 use std::alloc::{AllocError, Global};
@@ -56,12 +57,12 @@ impl TypedReceipt {
     /// type, with `RlpIsTooShort` if there are no bytes, and else with the strict fault of the
     /// receipt.
     pub fn from_bytes(alloc: Global, bytes: &[u8]) -> Result<TypedReceipt, DecoderError>
-        ensures value { IfOk result (λ r. typed_receipt.Fits r
+        ensures whole { IfOk result (λ r. typed_receipt.Fits r
             × (bytes.now ≡ bytes_alone (typed_receipt.item r))) }
-        ensures fault { IfErr result (λ e.
-            (FaultsAlone receipt unknown_type typed_receipts bytes.now e)
-            ⊎ ((e ≡ OutOfMemory)
-            × MayLackAlone receipt typed_receipts bytes.now)) }
+        ensures value { IfOk result
+            (λ r. (receipt_alone bytes.now).result ≡ Ok (typed_receipt.reading.seen r)) }
+        ensures fault { IfErr result (λ e. ((receipt_alone bytes.now).result ≡ Err (fault_of e))
+            ⊎ ((e ≡ OutOfMemory) × IsTrue typed_receipt.reading.takes_memory)) }
         ensures memory { (r : TypedReceipt) → typed_receipt.Fits r
             → bytes.now ≡ bytes_alone (typed_receipt.item r) → IfErr result (λ e. e ≡ OutOfMemory) }
     {
@@ -69,52 +70,33 @@ impl TypedReceipt {
     }
 }
 
-// Reads a receipt from its bytes. The clauses of `from_bytes` add that reading what `to_bytes`
-// wrote can't fail.
+// Reads a receipt from its bytes. The clauses of `from_bytes` are about the receipt and its bytes.
 fn read_alone(alloc: Global, bytes: &[u8]) -> Result<TypedReceipt, DecoderError>
-    ensures value { IfOk result (λ r. typed_receipt.Fits r
-        × (bytes.now ≡ bytes_alone (typed_receipt.item r))) }
-    ensures fault { IfErr result (λ e.
-        (FaultsAlone receipt unknown_type typed_receipts bytes.now e)
-        ⊎ ((e ≡ OutOfMemory)
-        × MayLackAlone receipt typed_receipts bytes.now)) }
+    ensures value { IfOk result
+        (λ r. (receipt_alone bytes.now).result ≡ Ok (typed_receipt.reading.seen r)) }
+    ensures fault { IfErr result (λ e. ((receipt_alone bytes.now).result ≡ Err (fault_of e))
+        ⊎ ((e ≡ OutOfMemory) × IsTrue typed_receipt.reading.takes_memory)) }
 {
     if Rlp::new(bytes).is_list() {
-        return match rlp::decode_whole(alloc, bytes) {
-            Ok(receipt) => Ok(TypedReceipt::Legacy(receipt)),
-            Err(fault) => Err(fault),
-        };
+        return Ok(TypedReceipt::Legacy(decode_strict(alloc, bytes)?));
     }
-    match Envelope::split(bytes) {
-        Ok(envelope) => decode_payload(alloc, &envelope),
-        Err(fault) => Err(fault),
-    }
+    decode_payload(alloc, &Envelope::split(bytes)?)
 }
 
 // Reads a receipt of one of the types.
 fn decode_payload(alloc: Global, envelope: &Envelope<'_>) -> Result<TypedReceipt, DecoderError>
-    ensures value { IfOk result (λ r. typed_receipt.Fits r
-        × (typed_receipt.item r ≡ string (envelope.now.tag ∷ envelope.now.payload.now))) }
-    ensures fault { IfErr result (λ e. PayloadFails unknown_type typed_receipts
-        envelope.now.tag envelope.now.payload.now e) }
+    ensures value { IfOk result (λ r. map_value inr
+        (typed_receipts.cases.read envelope.now.tag (strict_view_of envelope.now.payload.now)).result
+        ≡ Ok (typed_receipt.reading.seen r)) }
+    ensures fault { IfErr result (λ e. ((typed_receipts.cases.read envelope.now.tag
+        (strict_view_of envelope.now.payload.now)).result ≡ Err (fault_of e)) ⊎ (e ≡ OutOfMemory)) }
 {
+    let payload = envelope.payload;
     match envelope.tag {
-        ACCESS_LIST_TYPE => match envelope.decode(alloc) {
-            Ok(receipt) => Ok(TypedReceipt::AccessList(receipt)),
-            Err(fault) => Err(fault),
-        },
-        FEE_MARKET_TYPE => match envelope.decode(alloc) {
-            Ok(receipt) => Ok(TypedReceipt::FeeMarket(receipt)),
-            Err(fault) => Err(fault),
-        },
-        BLOB_TYPE => match envelope.decode(alloc) {
-            Ok(receipt) => Ok(TypedReceipt::Blob(receipt)),
-            Err(fault) => Err(fault),
-        },
-        SET_CODE_TYPE => match envelope.decode(alloc) {
-            Ok(receipt) => Ok(TypedReceipt::SetCode(receipt)),
-            Err(fault) => Err(fault),
-        },
+        ACCESS_LIST_TYPE => Ok(TypedReceipt::AccessList(decode_strict(alloc, payload)?)),
+        FEE_MARKET_TYPE => Ok(TypedReceipt::FeeMarket(decode_strict(alloc, payload)?)),
+        BLOB_TYPE => Ok(TypedReceipt::Blob(decode_strict(alloc, payload)?)),
+        SET_CODE_TYPE => Ok(TypedReceipt::SetCode(decode_strict(alloc, payload)?)),
         _ => Err(DecoderError::Custom("unknown transaction type")),
     }
 }
@@ -136,23 +118,13 @@ impl Encodable for TypedReceipt {
 }
 
 impl Decodable for TypedReceipt {
-    ghost gives = { typed_receipt.gives };
-
-    ghost faults = { typed_receipt.faults };
-
-    ghost may_lack_memory = { typed_receipt.may_lack };
+    ghost reading = { typed_receipt.reading };
 
     fn decode(alloc: Global, rlp: &Rlp<'_>) -> Result<TypedReceipt, DecoderError> {
         if rlp.is_list() {
-            return match rlp.as_val(alloc) {
-                Ok(receipt) => Ok(TypedReceipt::Legacy(receipt)),
-                Err(fault) => Err(fault),
-            };
+            return Ok(TypedReceipt::Legacy(rlp.as_val(alloc)?));
         }
-        match Envelope::of(rlp) {
-            Ok(envelope) => decode_payload(alloc, &envelope),
-            Err(fault) => Err(fault),
-        }
+        decode_payload(alloc, &Envelope::of(rlp)?)
     }
 }
 

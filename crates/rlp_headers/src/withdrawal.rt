@@ -36,11 +36,7 @@ impl Encodable for Withdrawal {
 }
 
 impl Decodable for Withdrawal {
-    ghost gives = { withdrawal.gives };
-
-    ghost faults = { withdrawal.faults };
-
-    ghost may_lack_memory = { withdrawal.may_lack };
+    ghost reading = { withdrawal.reading };
 
     fn decode(alloc: Global, rlp: &Rlp<'_>) -> Result<Withdrawal, DecoderError> {
         rlp::decode_fields!(
@@ -79,11 +75,7 @@ impl Encodable for Withdrawals {
 }
 
 impl Decodable for Withdrawals {
-    ghost gives = { withdrawals.gives };
-
-    ghost faults = { withdrawals.faults };
-
-    ghost may_lack_memory = { withdrawals.may_lack };
+    ghost reading = { withdrawals.reading };
 
     fn decode(alloc: Global, rlp: &Rlp<'_>) -> Result<Withdrawals, DecoderError> {
         let withdrawals = rlp.as_list(alloc)?;

@@ -1,7 +1,7 @@
 -- How the messages of eth/68 are written and read.
 use Rattle.std.specs.Prelude.{ℕ, ◌⊎◌, List}
 use Rattle.std.proofs.Common.{inl, inr}
-use Rattle.rlp.specs.Codecs.Sums.{Cases, FitsCase, SameCase, and_case}
+use Rattle.rlp.specs.Codec.{Cases, and_case}
 use Rattle.rlp_eth.specs.declared.receipts.Receipts.{Receipts}
 use Rattle.rlp_eth.specs.declared.status.Status68.{Status68}
 use Rattle.rlp_messages.specs.declared.eth68_message.Eth68Message.{Eth68Message}
@@ -41,12 +41,12 @@ eth68_body (message.GetReceipts m) = inr (inr (inr (inr (inr (inr (inr (inr (inr
 
 -- the body of a message of eth/68 fits
 abbrev pub FitsEth68 : Eth68Message → Type 0
-FitsEth68 m = FitsCase eth68_messages (eth68_body m)
+FitsEth68 m = eth68_messages.cases.Fits (eth68_body m)
 
 -- the bytes of a message of eth/68 after this offset: the id, and the body
 abbrev pub eth68_bytes : ℕ → Eth68Message → List ℕ
-eth68_bytes offset m = message_bytes offset eth68_messages (eth68_body m)
+eth68_bytes offset m = message_bytes offset eth68_messages.cases (eth68_body m)
 
--- both messages of eth/68 have one number, and each field of the bodies is the same
-abbrev pub SameEth68 : Eth68Message → Eth68Message → Type 0
-SameEth68 m n = SameCase eth68_messages (eth68_body m) (eth68_body n)
+-- what contracts see of a message of eth/68
+abbrev pub seen_eth68 : Eth68Message → eth68_messages.cases.M
+seen_eth68 m = eth68_messages.cases.seen (eth68_body m)

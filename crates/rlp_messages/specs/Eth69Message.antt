@@ -1,7 +1,7 @@
 -- How the messages of eth/69 are written and read.
 use Rattle.std.specs.Prelude.{ℕ, ◌⊎◌, List}
 use Rattle.std.proofs.Common.{inl, inr}
-use Rattle.rlp.specs.Codecs.Sums.{Cases, FitsCase, SameCase, and_case}
+use Rattle.rlp.specs.Codec.{Cases, and_case}
 use Rattle.rlp_eth.specs.declared.announcements.BlockRangeUpdate.{BlockRangeUpdate}
 use Rattle.rlp_eth.specs.declared.receipts69.Receipts69.{Receipts69}
 use Rattle.rlp_eth.specs.declared.status.Status69.{Status69}
@@ -45,12 +45,12 @@ eth69_body (message.GetReceipts m) = inr (inr (inr (inr (inr (inr (inr (inr (inr
 
 -- the body of a message of eth/69 fits
 abbrev pub FitsEth69 : Eth69Message → Type 0
-FitsEth69 m = FitsCase eth69_messages (eth69_body m)
+FitsEth69 m = eth69_messages.cases.Fits (eth69_body m)
 
 -- the bytes of a message of eth/69 after this offset: the id, and the body
 abbrev pub eth69_bytes : ℕ → Eth69Message → List ℕ
-eth69_bytes offset m = message_bytes offset eth69_messages (eth69_body m)
+eth69_bytes offset m = message_bytes offset eth69_messages.cases (eth69_body m)
 
--- both messages of eth/69 have one number, and each field of the bodies is the same
-abbrev pub SameEth69 : Eth69Message → Eth69Message → Type 0
-SameEth69 m n = SameCase eth69_messages (eth69_body m) (eth69_body n)
+-- what contracts see of a message of eth/69
+abbrev pub seen_eth69 : Eth69Message → eth69_messages.cases.M
+seen_eth69 m = eth69_messages.cases.seen (eth69_body m)

@@ -1,6 +1,6 @@
 -- The messages that eth/68 and eth/69 have in common.
 use Rattle.std.specs.Prelude.{◌⊎◌}
-use Rattle.rlp.specs.Codecs.Sums.{Cases, and_case, last_case}
+use Rattle.rlp.specs.Codec.{Cases, and_case, last_case}
 use Rattle.rlp_eth.specs.declared.announcements.NewBlock.{NewBlock}
 use Rattle.rlp_eth.specs.declared.announcements.NewBlockHashes.{NewBlockHashes}
 use Rattle.rlp_eth.specs.declared.announcements.NewPooledTransactionHashes.{NewPooledTransactionHashes}
@@ -16,6 +16,7 @@ use Rattle.rlp_eth.specs.declared.with_request_id.WithRequestId.{WithRequestId}
 use Rattle.rlp_eth.specs.Announcements.{new_block, new_block_hashes, new_pooled_transaction_hashes, transactions}
 use Rattle.rlp_eth.specs.Requests.{block_bodies, block_headers, get_block_bodies, get_block_headers, get_pooled_transactions, get_receipts, pooled_transactions}
 use Rattle.rlp_eth.specs.WithRequestId.{with_request_id}
+use Rattle.rlp_p2p.specs.Message.{unknown_message}
 
 -- the bodies of these messages
 abbrev pub EthBody : Type 0
@@ -44,4 +45,4 @@ eth_messages =
     and_case 0x08 new_pooled_transaction_hashes (
     and_case 0x09 (with_request_id get_pooled_transactions) (
     and_case 0x0a (with_request_id pooled_transactions) (
-    last_case 0x0f (with_request_id get_receipts)))))))))))
+    last_case unknown_message 0x0f (with_request_id get_receipts)))))))))))

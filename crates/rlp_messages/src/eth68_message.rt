@@ -1,11 +1,11 @@
 //! Messages of `eth/68`, with their ids.
 
-ghost use Rattle.std.specs.Prelude.{◌≡◌, IfErr, IfOk, OnOk};
+ghost use Rattle.std.specs.Prelude.{◌≡◌, ◌⊎◌, Err, IfErr, IfOk, Ok, OnOk};
 ghost use Rattle.rlp.specs.DecoderError.TheVariants.{OutOfMemory};
-ghost use Rattle.rlp.specs.Format.Encoding.{encoding};
-ghost use Rattle.rlp.specs.Codecs.Sums.{case_item};
-ghost use Rattle.rlp_messages.specs.Eth68Message.{FitsEth68, eth68_body, eth68_bytes, eth68_messages};
-ghost use Rattle.rlp_p2p.specs.Message.{BodyFails, MessageFails};
+ghost use Rattle.rlp.specs.Form.{fault_of};
+ghost use Rattle.rlp.specs.Views.View.{strict_view_of};
+ghost use Rattle.rlp_messages.specs.Eth68Message.{FitsEth68, eth68_body, eth68_bytes, eth68_messages, seen_eth68};
+ghost use Rattle.rlp_p2p.specs.Message.{message_of};
 
 use crate::numbered::decode_numbered;
 use crate::{
@@ -53,7 +53,7 @@ pub enum Eth68Message {
 impl Eth68Message {
     /// Returns the number of the message within the capability.
     pub fn number(&self) -> u8
-        ensures { result ≡ eth68_messages.tag (eth68_body self.now) }
+        ensures { result ≡ eth68_messages.cases.tag (eth68_body self.now) }
     {
         match self {
             Eth68Message::Status(_) => 0x00,
@@ -106,8 +106,12 @@ impl Eth68Message {
         offset: u8,
         bytes: &[u8],
     ) -> Result<Eth68Message, DecoderError>
-        ensures value { IfOk result (λ m. FitsEth68 m × (bytes.now ≡ eth68_bytes offset m)) }
-        ensures fault { IfErr result (λ e. MessageFails offset eth68_messages bytes.now e) }
+        ensures whole { IfOk result (λ m. FitsEth68 m × (bytes.now ≡ eth68_bytes offset m)) }
+        ensures value { IfOk result
+            (λ m. (message_of offset eth68_messages.cases.read bytes.now).result ≡ Ok (seen_eth68 m)) }
+        ensures fault { IfErr result
+            (λ e. ((message_of offset eth68_messages.cases.read bytes.now).result ≡ Err (fault_of e))
+            ⊎ (e ≡ OutOfMemory)) }
         ensures memory { (m : Eth68Message) → FitsEth68 m → bytes.now ≡ eth68_bytes offset m
             → IfErr result (λ e. e ≡ OutOfMemory) }
     {
@@ -120,11 +124,10 @@ impl Eth68Message {
 
 // Reads the body of a message by its number.
 fn decode_body(alloc: Global, message: &Numbered<'_>) -> Result<Eth68Message, DecoderError>
-    ensures value { IfOk result (λ m. FitsEth68 m
-        × ((message.now.number ≡ eth68_messages.tag (eth68_body m))
-        × (message.now.body.now ≡ encoding (case_item eth68_messages (eth68_body m))))) }
-    ensures fault { IfErr result
-        (λ e. BodyFails eth68_messages message.now.number message.now.body.now e) }
+    ensures value { IfOk result (λ m. (eth68_messages.cases.read message.now.number
+        (strict_view_of message.now.body.now)).result ≡ Ok (seen_eth68 m)) }
+    ensures fault { IfErr result (λ e. ((eth68_messages.cases.read message.now.number
+        (strict_view_of message.now.body.now)).result ≡ Err (fault_of e)) ⊎ (e ≡ OutOfMemory)) }
 {
     decode_numbered!(
         alloc,

@@ -1,11 +1,11 @@
 //! Messages of `eth/69`, with their ids.
 
-ghost use Rattle.std.specs.Prelude.{◌≡◌, IfErr, IfOk, OnOk};
+ghost use Rattle.std.specs.Prelude.{◌≡◌, ◌⊎◌, Err, IfErr, IfOk, Ok, OnOk};
 ghost use Rattle.rlp.specs.DecoderError.TheVariants.{OutOfMemory};
-ghost use Rattle.rlp.specs.Format.Encoding.{encoding};
-ghost use Rattle.rlp.specs.Codecs.Sums.{case_item};
-ghost use Rattle.rlp_messages.specs.Eth69Message.{FitsEth69, eth69_body, eth69_bytes, eth69_messages};
-ghost use Rattle.rlp_p2p.specs.Message.{BodyFails, MessageFails};
+ghost use Rattle.rlp.specs.Form.{fault_of};
+ghost use Rattle.rlp.specs.Views.View.{strict_view_of};
+ghost use Rattle.rlp_messages.specs.Eth69Message.{FitsEth69, eth69_body, eth69_bytes, eth69_messages, seen_eth69};
+ghost use Rattle.rlp_p2p.specs.Message.{message_of};
 
 use crate::numbered::decode_numbered;
 use crate::{
@@ -55,7 +55,7 @@ pub enum Eth69Message {
 impl Eth69Message {
     /// Returns the number of the message within the capability.
     pub fn number(&self) -> u8
-        ensures { result ≡ eth69_messages.tag (eth69_body self.now) }
+        ensures { result ≡ eth69_messages.cases.tag (eth69_body self.now) }
     {
         match self {
             Eth69Message::Status(_) => 0x00,
@@ -110,8 +110,12 @@ impl Eth69Message {
         offset: u8,
         bytes: &[u8],
     ) -> Result<Eth69Message, DecoderError>
-        ensures value { IfOk result (λ m. FitsEth69 m × (bytes.now ≡ eth69_bytes offset m)) }
-        ensures fault { IfErr result (λ e. MessageFails offset eth69_messages bytes.now e) }
+        ensures whole { IfOk result (λ m. FitsEth69 m × (bytes.now ≡ eth69_bytes offset m)) }
+        ensures value { IfOk result
+            (λ m. (message_of offset eth69_messages.cases.read bytes.now).result ≡ Ok (seen_eth69 m)) }
+        ensures fault { IfErr result
+            (λ e. ((message_of offset eth69_messages.cases.read bytes.now).result ≡ Err (fault_of e))
+            ⊎ (e ≡ OutOfMemory)) }
         ensures memory { (m : Eth69Message) → FitsEth69 m → bytes.now ≡ eth69_bytes offset m
             → IfErr result (λ e. e ≡ OutOfMemory) }
     {
@@ -124,11 +128,10 @@ impl Eth69Message {
 
 // Reads the body of a message by its number.
 fn decode_body(alloc: Global, message: &Numbered<'_>) -> Result<Eth69Message, DecoderError>
-    ensures value { IfOk result (λ m. FitsEth69 m
-        × ((message.now.number ≡ eth69_messages.tag (eth69_body m))
-        × (message.now.body.now ≡ encoding (case_item eth69_messages (eth69_body m))))) }
-    ensures fault { IfErr result
-        (λ e. BodyFails eth69_messages message.now.number message.now.body.now e) }
+    ensures value { IfOk result (λ m. (eth69_messages.cases.read message.now.number
+        (strict_view_of message.now.body.now)).result ≡ Ok (seen_eth69 m)) }
+    ensures fault { IfErr result (λ e. ((eth69_messages.cases.read message.now.number
+        (strict_view_of message.now.body.now)).result ≡ Err (fault_of e)) ⊎ (e ≡ OutOfMemory)) }
 {
     decode_numbered!(
         alloc,

@@ -9,7 +9,7 @@
 macro_rules! decode_numbered {
     ($alloc:expr, $message:expr, $($number:literal => $variant:path),+ $(,)?) => {
         match $message.number {
-            $($number => match rlp::decode_whole($alloc, $message.body) {
+            $($number => match rlp::decode_strict($alloc, $message.body) {
                 Ok(body) => Ok($variant(body)),
                 Err(fault) => Err(fault),
             },)+

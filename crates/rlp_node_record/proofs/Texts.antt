@@ -1,5 +1,5 @@
 -- The text of a record tells the record.
-use Rattle.std.proofs.Common.{◌≡◌, ◌<◌, ◌^◌, ℕ, zero, suc, List, [], ◌∷◌, ◌++◌, ◌⊎◌, inl, inr, Ok, sym, ap, ◌∙◌, codes, length, refl, arith}
+use Rattle.std.proofs.Common.{◌≡◌, ◌<◌, ◌^◌, ℕ, zero, suc, List, [], ◌∷◌, ◌++◌, ◌⊎◌, inl, inr, Ok, sym, ap, ◌∙◌, codes, length, refl, subst, true, arith}
 use Rattle.base64.specs.Engines.{url_safe_no_pad}
 use Rattle.base64.specs.GeneralPurpose.{IsBytes, decode_of}
 use Rattle.base64.proofs.EngineFacts.{decode_of-encode_of}
@@ -7,12 +7,13 @@ use Rattle.rlp.specs.DecoderError.{DecoderError}
 use Rattle.rlp.specs.DecoderError.TheVariants.{OutOfMemory}
 use Rattle.rlp.specs.Format.Encoding.{encoding}
 use Rattle.rlp.specs.Format.WrittenHeader.{AreBytes}
-use Rattle.rlp.specs.Lemmas.Encodings.{encoding_same}
-use Rattle.rlp.specs.Values.ValueReading.{IsCustom}
+use Rattle.rlp_reading.proofs.Lemmas.Reading.{bytes_held}
 use Rattle.rlp.specs.Views.View.{strict_view_of}
+use Rattle.rlp.specs.Form.{Faults, custom, fault_of}
+use Rattle.rlp_codec.proofs.Corollaries.{not_both}
 use Rattle.rlp_node_record.specs.NodeFields.{node_fields}
 use Rattle.rlp_node_record.specs.NodeRecord.{IsNodeRecord}
-use Rattle.rlp_node_record.specs.NodeLaws.{node_record, record_sound}
+use Rattle.rlp_node_record.specs.NodeLaws.{node_record, records_tell}
 use Rattle.rlp_node_record.specs.NodeText.{HasPrefix, IsNodeTextFault, IsNotBase64, base64_of, faulty_bytes, no_prefix, node_text, not_base64}
 use Rattle.rlp_node_record.specs.declared.node_fields.NodeFields.{NodeFields}
 
@@ -34,39 +35,37 @@ base64_told b c bytes other same =
 
 -- why no bytes are decoded from a text
 pub text_fault : (t digits : List ℕ) (e : DecoderError) → t ≡ codes "enr:" ++ digits
-    → (IsNotBase64 digits × IsCustom (codes "text is not base64") e) ⊎ (e ≡ OutOfMemory) → IsNodeTextFault t e ⊎ ((e ≡ OutOfMemory) × HasPrefix t)
-text_fault t digits e is (inl (not, custom)) = inl (not_base64 digits is not custom)
+    → (IsNotBase64 digits × (fault_of e ≡ custom (codes "text is not base64"))) ⊎ (e ≡ OutOfMemory) → IsNodeTextFault t e ⊎ ((e ≡ OutOfMemory) × HasPrefix t)
+text_fault t digits e is (inl (not, text)) = inl (not_base64 digits is not text)
 text_fault t digits e is (inr lacks) = inr (lacks, (digits, is))
 
 -- why no record is read from the bytes of a text
-pub bytes_fault : (t digits b c : List ℕ) (e : DecoderError) {M : Type 0} → t ≡ codes "enr:" ++ digits → digits ≡ base64_of b → c ≡ b
-    → (AreBytes c × node_record.faults (strict_view_of c) e) ⊎ ((e ≡ OutOfMemory) × M) → IsNodeTextFault t e ⊎ ((e ≡ OutOfMemory) × HasPrefix t)
-bytes_fault t digits b c e is same copy (inl (bytes, bad)) =
-    inl (faulty_bytes c bytes (is ∙ ap (λ d. codes "enr:" ++ d) (same ∙ ap base64_of (sym copy))) bad)
-bytes_fault t digits b c e is same copy (inr lacks) = inr (lacks.0, (digits, is))
+pub bytes_fault : (t digits b c : List ℕ) (e : DecoderError) {M : Type 0} → IsBytes b → t ≡ codes "enr:" ++ digits → digits ≡ base64_of b → c ≡ b
+    → Faults node_record.reading (strict_view_of c) e ⊎ ((e ≡ OutOfMemory) × M) → IsNodeTextFault t e ⊎ ((e ≡ OutOfMemory) × HasPrefix t)
+bytes_fault t digits b c e bytes is same copy (inl bad) =
+    let held : AreBytes b = bytes_held b (λ i. let fits = bytes i in omega arith) in
+    inl (faulty_bytes c (subst AreBytes (sym copy) held) (is ∙ ap (λ d. codes "enr:" ++ d) (same ∙ ap base64_of (sym copy))) bad)
+bytes_fault t digits b c e bytes is same copy (inr lacks) = inr (lacks.0, (digits, is))
 
 -- texts with the same bytes after `enr:`
 after_prefix : (b c : List ℕ) → codes "enr:" ++ b ≡ codes "enr:" ++ c → b ≡ c
 after_prefix b c same = cc same
 
 -- two records with the same text have the same fields
-pub texts_told : (f g : NodeFields) → IsNodeRecord f → IsNodeRecord g → node_text f ≡ node_text g → node_fields.Same f g
-texts_told f g is other same =
-    let written : encoding (node_fields.item f) ≡ encoding (node_fields.item g) =
-    base64_told (encoding (node_fields.item f)) (encoding (node_fields.item g)) is.bytes other.bytes (after_prefix _ _ same) in
-    let small : length (encoding (node_fields.item f)) < 2 ^ 64 = omega (arith, is.short) in
-    let short : length (encoding (node_fields.item g)) < 2 ^ 64 = omega (arith, other.short) in
-    node_fields.told f g is.fits other.fits (encoding_same (node_fields.item f) (node_fields.item g) small short written)
+pub texts_told : (f g : NodeFields) → IsNodeRecord f → IsNodeRecord g → node_text f ≡ node_text g → node_fields.reading.seen f ≡ node_fields.reading.seen g
+texts_told f g is other same = records_tell f g is other
+    (base64_told (encoding (node_fields.item f)) (encoding (node_fields.item g)) is.bytes other.bytes (after_prefix _ _ same))
 
 -- the text of a record has no fault
 pub text_sound : (t : List ℕ) (r : NodeFields) (e : DecoderError) → IsNodeRecord r → t ≡ node_text r → ¬ IsNodeTextFault t e
-text_sound t r e is same (no_prefix none custom) = none (base64_of (encoding (node_fields.item r)), same)
-text_sound t r e is same (not_base64 digits begins none custom) =
+text_sound t r e is same (no_prefix none text) = none (base64_of (encoding (node_fields.item r)), same)
+text_sound t r e is same (not_base64 digits begins none text) =
     none (encoding (node_fields.item r)) is.bytes (after_prefix digits (base64_of (encoding (node_fields.item r))) (sym begins ∙ same))
 text_sound t r e is same (faulty_bytes b bytes begins bad) =
     let whole : b ≡ encoding (node_fields.item r) =
     base64_told b (encoding (node_fields.item r)) bytes is.bytes (after_prefix (base64_of b) (base64_of (encoding (node_fields.item r))) (sym begins ∙ same)) in
-    record_sound (strict_view_of b) r (let few : length b < 2 ^ 64 = omega (arith, is.short, ap length whole) in few) is whole e bad
+    let few : length b < 2 ^ 64 = omega (arith, is.short, ap length whole) in
+    not_both node_record.reading (strict_view_of b) r e ((node_record.reads_strictly.back true).back b r few is whole) bad
 
 -- reading the text of a record fails only for lack of memory
 pub text_fails : (t : List ℕ) (r : NodeFields) (e : DecoderError) {M : Type 0} → IsNodeRecord r → t ≡ node_text r

@@ -2,10 +2,8 @@
 use Rattle.std.specs.Prelude.{◌∷◌, refl}
 use Rattle.std.specs.Vec.{vec_items}
 use Rattle.rlp.specs.Format.Item.{Item, list_of}
-use Rattle.rlp.specs.Values.Value.{number_item}
-use Rattle.rlp.specs.Codec.{Codec, Fields, byte_string, end, field, groups, number, struct_of}
-use Rattle.rlp.specs.Codecs.RawItem.{raw_item}
-use Rattle.rlp.specs.Values.Value.{all_items}
+use Rattle.rlp.specs.Values.Value.{all_items, number_item}
+use Rattle.rlp.specs.Codec.{Codec, Fields, byte_string, end, field, groups, number, raw_item, struct_of}
 use Rattle.rlp_node_record.specs.declared.node_fields.NodeFields.{NodeFields}
 use Rattle.rlp_node_record.specs.declared.node_fields.NodePair.{NodePair}
 
@@ -20,7 +18,7 @@ abbrev pub parts_of_node : Fields NodeFields
 parts_of_node =
     field (λ (f : NodeFields). f.signature) (byte_string vec_items) (
     field (λ (f : NodeFields). f.sequence) (number 8) (
-    groups (λ (f : NodeFields). vec_items f.pairs) pair_fields (λ p. refl) refl))
+    groups (λ (f : NodeFields). vec_items f.pairs) pair_fields refl refl))
 
 -- the list of the fields
 abbrev pub node_fields : Codec NodeFields

@@ -1,13 +1,14 @@
 -- The keys of a node record, and what a key gives.
-use Rattle.std.specs.Prelude.{ℕ, ◌≡◌, ◌≢◌, ⊤, if◌then◌else◌, IsSome, List, [], ◌∷◌, length, codes, Option, Some, None, Result}
+use Rattle.std.specs.Prelude.{ℕ, ◌≡◌, ◌≢◌, ◌⊎◌, ◌||◌, ⊤, if◌then◌else◌, Bool, false, IsSome, IsTrue, List, [], ◌∷◌, length, codes, Option, Some, None, Result, Ok, Err}
 use Rattle.std.specs.Str.{bytes_eq}
 use Rattle.std.specs.Vec.{vec_items}
 use Rattle.rlp.specs.DecoderError.{DecoderError}
+use Rattle.rlp.specs.DecoderError.TheVariants.{OutOfMemory}
 use Rattle.rlp.specs.Format.Item.{Item, string}
 use Rattle.rlp.specs.Format.Encoding.{encoding}
 use Rattle.rlp.specs.Values.Value.{FitsBytes, number_item}
-use Rattle.rlp.specs.Values.ListReading.{ReadsValue}
-use Rattle.rlp.specs.Views.View.{View, strict_view_of}
+use Rattle.rlp.specs.Views.View.{strict_view_of}
+use Rattle.rlp.specs.Form.{Faults, Gives, Reading}
 use Rattle.rlp_node_record.specs.declared.node_fields.NodeFields.{NodeFields}
 use Rattle.rlp_node_record.specs.declared.node_fields.NodePair.{NodePair}
 
@@ -24,13 +25,18 @@ value_of key f = value_among key (vec_items f.pairs)
 unfoldable pub HasId : List NodePair → Type 0
 HasId pairs = IsSome (value_among (codes "id") pairs)
 
+-- whether the key is one of these
+abbrev pub has_key : List ℕ → List (List ℕ) → Bool
+has_key key [] = false
+has_key key (first ∷ keys) = bytes_eq first key || has_key key keys
+
 -- What a key gives as a value of any type: nothing if the record hasn't the key, and else what a strict view of the key's value gives, or its fault.
-abbrev pub ReadsKey : {A : Type 0} → (View → A → Type 0) → (View → DecoderError → Type 0) → (View → Type 0) → Option (List ℕ) → Option (Result A DecoderError)
-    → Type 0
-ReadsKey gives faults may_lack None None = ⊤
-ReadsKey gives faults may_lack None (Some answer) = ⊥
-ReadsKey gives faults may_lack (Some b) None = ⊥
-ReadsKey gives faults may_lack (Some b) (Some answer) = ReadsValue gives faults may_lack (strict_view_of b) answer
+abbrev pub ReadsKey : {A : Type 0} → Reading A → Option (List ℕ) → Option (Result A DecoderError) → Type 0
+ReadsKey r None None = ⊤
+ReadsKey r None (Some answer) = ⊥
+ReadsKey r (Some b) None = ⊥
+ReadsKey r (Some b) (Some (Ok x)) = Gives r (strict_view_of b) x
+ReadsKey r (Some b) (Some (Err e)) = Faults r (strict_view_of b) e ⊎ ((e ≡ OutOfMemory) × IsTrue r.takes_memory)
 
 -- What a known key gives: the value that fits its type and whose encoding is the key's value. It gives nothing if there is no such value: the record hasn't
 -- the key, or the key's value has another shape.

@@ -1,108 +1,92 @@
--- Node records are given exactly by their encodings.
-use Rattle.std.proofs.Common.{◌≡◌, ◌≤◌, ◌<◌, ◌^◌, ◌⊎◌, inl, inr, ℕ, List, [], ◌∷◌, length, refl, sym, ap, ◌∙◌, subst, arith, Ok}
-use Rattle.std.proofs.Common.{IsTrue, Bool, true, false, if◌then◌else◌, codes, Option, Some, is_some}
+-- Node records are read back, and are read from nothing but their encodings.
+use Rattle.std.proofs.Common.{◌≡◌, ◌≤◌, ◌<◌, ◌^◌, ℕ, List, [], ◌∷◌, length, map, refl, sym, ap, ◌∙◌, subst, arith, Result, Ok, Err, ltb, ltb-false, le-ltb}
+use Rattle.std.proofs.Common.{◌||◌, Bool, true, false, if◌then◌else◌, codes, Option, Some, is_some}
+use Rattle.std.proofs.lemmas.Bool.{cond-true, cond-false, lt-ltb}
 use Rattle.std.specs.Str.{bytes_eq}
+use Rattle.std.specs.Bool.{⊤}
 use Rattle.std.specs.Vec.{vec_items}
-use Rattle.rlp.specs.DecoderError.{DecoderError}
-use Rattle.rlp.specs.DecoderError.TheVariants.{OutOfMemory}
-use Rattle.rlp.specs.Format.Item.{string}
 use Rattle.rlp.specs.Format.Encoding.{encoding}
 use Rattle.rlp.specs.Format.WrittenHeader.{AreBytes}
-use Rattle.rlp.specs.Values.Value.{all_items}
-use Rattle.rlp.specs.Views.View.{View, Holds, HoldsItem, strict_view_of}
-use Rattle.rlp.specs.Values.RawItem.{raw_item_of, view_frame}
-use Rattle.rlp.specs.Values.Value.{number_item}
-use Rattle.rlp.specs.Values.ValueReading.{GivesValue}
-use Rattle.rlp.specs.Codec.{Codec}
-use Rattle.rlp.specs.Codecs.Exact.{exact_type}
-use Rattle.rlp.specs.Lemmas.Encodings.{encoding_same}
-use Rattle.rlp.specs.Lemmas.RawItems.{view_frame-held}
-use Rattle.rlp.specs.Lemmas.Structs.{list_same}
-use Rattle.rlp_node_record.specs.NodeFields.{node_fields, pair_fields}
-use Rattle.rlp_node_record.specs.NodeKeys.{HasId, value_among}
-use Rattle.rlp_node_record.specs.NodeRecord.{AreInOrder, AreRecordKeys, FaultsAsNodeRecord, IsKeysFault, IsNodeRecord, IsRecordFault, MayLackAsNodeRecord}
-use Rattle.rlp_node_record.specs.NodeRecord.{faulty_fields, faulty_keys, faulty_record, fields_too_long, keys_of, keys_rise, longest_record, no_id, not_framed}
-use Rattle.rlp_node_record.specs.NodeRecord.{not_rising, too_long, wrong_keys}
+use Rattle.rlp.specs.Views.View.{strict_view_of}
+use Rattle.rlp_codec.specs.FirstItems.{item_type}
+use Rattle.rlp.specs.Form.{Answer, Fault, and_then, custom, is_too_big, map_value}
+use Rattle.rlp_codec.proofs.FirstItemLaws.{ReadsItems, items_lawful}
+use Rattle.rlp_codec.proofs.ListLaws.{goes_on, is_mapped}
+use Rattle.rlp.specs.Codec.{Codec, lawful}
+use Rattle.rlp_node_record.specs.NodeFields.{node_fields}
+use Rattle.rlp_node_record.specs.NodeKeys.{HasId, has_key, value_among}
+use Rattle.rlp_node_record.specs.NodeRecord.{AreInOrder, AreRecordKeys, IsNodeRecord, keys_of, keys_rise, keys_seen, longest_record, read_record, test_fields, test_keys}
 use Rattle.rlp_node_record.specs.declared.node_fields.NodeFields.{NodeFields}
 use Rattle.rlp_node_record.specs.declared.node_fields.NodePair.{NodePair}
 
--- pairs with the same items have the same keys
-same_keys : (gs hs : List NodePair) → all_items pair_fields.items gs ≡ all_items pair_fields.items hs → keys_of gs ≡ keys_of hs
-same_keys [] [] same = refl
-same_keys [] (h ∷ hs) same = absurd (let no : ⊥ = cc in no)
-same_keys (g ∷ gs) [] same = absurd (let no : ⊥ = cc in no)
-same_keys (g ∷ gs) (h ∷ hs) same =
-    let whole : string (vec_items g.key) ∷ raw_item_of g.value ∷ all_items pair_fields.items gs
-    ≡ string (vec_items h.key) ∷ raw_item_of h.value ∷ all_items pair_fields.items hs = same in
-    let first : vec_items g.key ≡ vec_items h.key = cc in
-    let rest : all_items pair_fields.items gs ≡ all_items pair_fields.items hs = cc in
-    let others : keys_of gs ≡ keys_of hs = same_keys gs hs rest in
-    ap (λ key. key ∷ keys_of gs) first ∙ ap (λ keys. vec_items h.key ∷ keys) others
+-- equal answers have equal results
+result_same : {M : Type 0} {a b : Answer M Fault} → a ≡ b → a.result ≡ b.result
+result_same {M} same = ap (λ (a : Answer M Fault). a.result) same
 
--- records with the same item have the same keys
-record_keys : (f g : NodeFields) → node_fields.item f ≡ node_fields.item g → keys_of (vec_items f.pairs) ≡ keys_of (vec_items g.pairs)
-record_keys f g same =
-    let parts : string (vec_items f.signature) ∷ number_item f.sequence ∷ all_items pair_fields.items (vec_items f.pairs)
-    ≡ string (vec_items g.signature) ∷ number_item g.sequence ∷ all_items pair_fields.items (vec_items g.pairs) = list_same _ _ same in
-    let pairs : all_items pair_fields.items (vec_items f.pairs) ≡ all_items pair_fields.items (vec_items g.pairs) = cc in
-    same_keys (vec_items f.pairs) (vec_items g.pairs) pairs
+-- ---- the test of the keys
 
-some_either : (b : Bool) (x y : List ℕ) (o p : Option (List ℕ)) → is_some o ≡ is_some p
-    → is_some (if b then Some x else o) ≡ is_some (if b then Some y else p)
-some_either true x y o p same = refl
-some_either false x y o p same = same
+not_true : (b : Bool) → ¬ (b ≡ true) → b ≡ false
+not_true true not = absurd (not refl)
+not_true false not = refl
 
--- pairs with the same keys have a value of the same keys
-some_value : (key : List ℕ) (gs hs : List NodePair) → keys_of gs ≡ keys_of hs → is_some (value_among key gs) ≡ is_some (value_among key hs)
-some_value key [] [] same = refl
-some_value key [] (h ∷ hs) same = absurd (let no : ⊥ = cc in no)
-some_value key (g ∷ gs) [] same = absurd (let no : ⊥ = cc in no)
-some_value key (g ∷ gs) (h ∷ hs) same =
-    let whole : vec_items g.key ∷ keys_of gs ≡ vec_items h.key ∷ keys_of hs = same in
-    let first : vec_items g.key ≡ vec_items h.key = cc in
-    let rest : keys_of gs ≡ keys_of hs = cc in
-    ap (λ k. is_some (if bytes_eq k key then Some g.value else value_among key gs)) first
-    ∙ some_either (bytes_eq (vec_items h.key) key) g.value h.value (value_among key gs) (value_among key hs) (some_value key gs hs rest)
+some_key : (b : Bool) (x : List ℕ) (o : Option (List ℕ)) → is_some (if b then Some x else o) ≡ (b || is_some o)
+some_key true x o = refl
+some_key false x o = refl
 
--- if the keys have a fault, no valid record has these keys
-no_keys_fault : (gs hs : List NodePair) (e : DecoderError) → keys_of gs ≡ keys_of hs → AreRecordKeys gs → ¬ IsKeysFault hs e
+-- a key has a value among pairs if it is one of their keys
+key_found : (key : List ℕ) (pairs : List NodePair) → is_some (value_among key pairs) ≡ has_key key (keys_of pairs)
+key_found key [] = refl
+key_found key (pair ∷ pairs) =
+    some_key (bytes_eq (vec_items pair.key) key) pair.value (value_among key pairs)
+    ∙ ap (λ found. bytes_eq (vec_items pair.key) key || found) (key_found key pairs)
+
+-- keys that aren't in order
+pub not_rising : (pairs : List NodePair) → ¬ AreInOrder pairs → test_keys (keys_of pairs) ≡ Err (custom (codes "keys are not in order"))
+unfolding AreInOrder
+not_rising pairs not = cond-false (keys_rise (keys_of pairs)) _ _ (not_true (keys_rise (keys_of pairs)) not)
+
+-- keys in order, without `id`
+pub no_id : (pairs : List NodePair) → AreInOrder pairs → ¬ HasId pairs → test_keys (keys_of pairs) ≡ Err (custom (codes "key id is missing"))
 unfolding AreInOrder HasId
-no_keys_fault gs hs e same is (not_rising not custom) = not (subst (λ keys. IsTrue (keys_rise keys)) same is.0)
-no_keys_fault gs hs e same is (no_id rising not custom) = not (sym (some_value (codes "id") gs hs same) ∙ is.1)
+no_id pairs rising not =
+    cond-true (keys_rise (keys_of pairs)) _ _ rising
+    ∙ cond-false (has_key (codes "id") (keys_of pairs)) _ _ (sym (key_found (codes "id") pairs) ∙ not_true (is_some (value_among (codes "id") pairs)) not)
 
--- the encoding of a node record has no fault
-record_told : (b : List ℕ) (r : NodeFields) (e : DecoderError) → length b < 2 ^ 64 → IsNodeRecord r → b ≡ encoding (node_fields.item r) → ¬ IsRecordFault b e
-record_told b r e few is whole (too_long long) = omega (arith, is.short, long, ap length whole)
-record_told b r e few is whole (faulty_fields f bytes short bad) = (node_fields.reads_strictly b r bytes few).sound is.fits whole f bad
-record_told b r e few is whole (faulty_keys f g bytes short given bad) =
-    let (fit, same) = (node_fields.reads_strictly b f bytes few).exact.0 given in
-    let sized : length (encoding (node_fields.item f)) < 2 ^ 64 = omega (arith, few, ap length same) in
-    let sized_too : length (encoding (node_fields.item r)) < 2 ^ 64 = omega (arith, few, ap length whole) in
-    let one : node_fields.item r ≡ node_fields.item f =
-    encoding_same (node_fields.item r) (node_fields.item f) sized_too sized (sym whole ∙ same) in
-    no_keys_fault (vec_items r.pairs) (vec_items f.pairs) g (record_keys r f one) (is.rising, is.identified) bad
+-- the keys of a node record
+pub keys_pass : (pairs : List NodePair) → AreInOrder pairs → HasId pairs → test_keys (keys_of pairs) ≡ Ok tt
+unfolding AreInOrder HasId
+keys_pass pairs rising identified =
+    cond-true (keys_rise (keys_of pairs)) _ _ rising
+    ∙ cond-true (has_key (codes "id") (keys_of pairs)) _ _ (sym (key_found (codes "id") pairs) ∙ identified)
 
--- a view that holds the encoding of a node record has no fault
-pub record_sound : (v : View) (r : NodeFields) → length v.bytes < 2 ^ 64 → IsNodeRecord r → HoldsItem v (node_fields.item r) → (e : DecoderError)
-    → ¬ FaultsAsNodeRecord v e
-record_sound v r fits is holds e (not_framed none) = let framed = view_frame-held v (node_fields.item r) fits holds in cc
-record_sound v r fits is holds e (faulty_record b framed bad) =
-    let whole : view_frame v ≡ Ok (encoding (node_fields.item r)) = view_frame-held v (node_fields.item r) fits holds in
-    let same : b ≡ encoding (node_fields.item r) = cc in
-    record_told b r e (let few : length b < 2 ^ 64 = omega (arith, is.short, ap length same) in few) is same bad
+passed_by : (pairs : List NodePair) (t : ⊤) (rising identified : Bool) → keys_rise (keys_of pairs) ≡ rising → has_key (codes "id") (keys_of pairs) ≡ identified
+    → test_keys (keys_of pairs) ≡ Ok t → AreRecordKeys pairs
+unfolding AreInOrder HasId
+passed_by pairs t false identified rises found is =
+    let r : test_keys (keys_of pairs) ≡ Err (custom (codes "keys are not in order")) = cond-false (keys_rise (keys_of pairs)) _ _ rises in
+    absurd (let no : ⊥ = cc in no)
+passed_by pairs t true false rises found is =
+    let r : test_keys (keys_of pairs) ≡ Err (custom (codes "key id is missing")) =
+    cond-true (keys_rise (keys_of pairs)) _ _ rises ∙ cond-false (has_key (codes "id") (keys_of pairs)) _ _ found in
+    absurd (let no : ⊥ = cc in no)
+passed_by pairs t true true rises found is = (rises, key_found (codes "id") pairs ∙ found)
 
--- node records that are written as one item have the same fields
-pub same_record : (r s : NodeFields) → IsNodeRecord r → IsNodeRecord s → node_fields.item r ≡ node_fields.item s → node_fields.Same r s
-same_record r s is also same = node_fields.told r s is.fits also.fits same
+-- the keys of a record that is seen
+seen_keys : (pairs : List NodePair) → map (λ (p : List ℕ × (List ℕ × ⊤)). p.0) (map (λ (p : NodePair). (vec_items p.key, (p.value, tt))) pairs) ≡ keys_of pairs
+seen_keys [] = refl
+seen_keys (pair ∷ pairs) = ap (λ keys. vec_items pair.key ∷ keys) (seen_keys pairs)
 
--- A node record, seen as its fields: the list of the fields. It is given exactly by its encoding, also by a lenient view. Two records agree if each field does.
-abbrev pub node_record : Codec NodeFields
-node_record = record (exact_type IsNodeRecord node_fields.item FaultsAsNodeRecord MayLackAsNodeRecord record_sound) {
-  Same = λ r s. node_fields.Same r s;
-  told = same_record;
-}
+record_keys : (f : NodeFields) → keys_seen (node_fields.reading.seen f) ≡ keys_of (vec_items f.pairs)
+record_keys f = seen_keys (vec_items f.pairs)
 
--- ---- rules for bodies
+-- fields with the keys of a record and too long an encoding
+pub fields_long : (f : NodeFields) → AreRecordKeys (vec_items f.pairs) → longest_record < length (encoding (node_fields.item f)) → test_fields f ≡ Err is_too_big
+fields_long f keys long =
+    ap (λ r. and_then r (λ t. if ltb longest_record (length (encoding (node_fields.item f))) then Err is_too_big else Ok t))
+    (keys_pass (vec_items f.pairs) keys.0 keys.1)
+    ∙ cond-true (ltb longest_record (length (encoding (node_fields.item f)))) _ _ (lt-ltb _ _ long)
+
+-- ---- what bytes give
 
 -- fields are those of a record, if the keys are a record's and the encoding is of few bytes
 pub record_made : (b : List ℕ) (f : NodeFields) → node_fields.Fits f → b ≡ encoding (node_fields.item f) → AreRecordKeys (vec_items f.pairs) → AreBytes b
@@ -116,36 +100,84 @@ record_made b f fit whole keys bytes short = record {
       size);
 }
 
--- fields that were read strictly are those of a record, if the keys are a record's and the bytes are few
-pub record_read : (b : List ℕ) (f : NodeFields) → AreBytes b → length b ≤ longest_record → node_fields.gives (strict_view_of b) f
-    → AreRecordKeys (vec_items f.pairs) → IsNodeRecord f × (b ≡ encoding (node_fields.item f))
-record_read b f bytes short given keys =
-    let (fit, whole) = (node_fields.reads_strictly b f bytes (let few : length b < 2 ^ 64 = omega (arith, short) in few)).exact.0 given in
-    (record_made b f fit whole keys bytes short, whole)
+-- what fields that were read give, by the test of their keys
+abbrev tested : node_fields.reading.M → Result node_fields.reading.M Fault
+tested m = map_value (λ t. m) (test_keys (keys_seen m))
 
--- the record that is read from the first item
-pub record_given : (v : View) (b : List ℕ) (f : NodeFields) → Holds v.is_strict v.bytes b → IsNodeRecord f → b ≡ encoding (node_fields.item f)
-    → GivesValue IsNodeRecord node_fields.item v f
-record_given v b f holds is whole = record { fits = is; begins = subst (λ c. Holds v.is_strict v.bytes c) whole holds }
+-- bytes that are too many
+pub read_long : (b : List ℕ) → longest_record < length b → (read_record b).result ≡ Err is_too_big
+read_long b long = result_same (cond-true (ltb longest_record (length b)) _ _ (lt-ltb _ _ long))
 
--- why no record is read from the first item
-pub record_fails : (v : View) (b c : List ℕ) (e : DecoderError) → view_frame v ≡ Ok b → c ≡ b
-    → IsRecordFault c e ⊎ ((e ≡ OutOfMemory) × node_fields.may_lack (strict_view_of c))
-    → FaultsAsNodeRecord v e ⊎ ((e ≡ OutOfMemory) × MayLackAsNodeRecord v)
-record_fails v b c e framed same (inl bad) = inl (faulty_record c (framed ∙ ap Ok (sym same)) bad)
-record_fails v b c e framed same (inr (lacks, may)) = inr (lacks, record { bytes = c; framed = framed ∙ ap Ok (sym same); may = may })
+read_short : (b : List ℕ) → length b ≤ longest_record → (read_record b).result ≡ and_then (node_fields.reading.read (strict_view_of b)).result tested
+read_short b short = result_same (cond-false (ltb longest_record (length b)) _ _ (le-ltb _ _ short))
 
--- why no fields are read strictly from few bytes
-pub record_fault : (b : List ℕ) (e : DecoderError) → AreBytes b → length b ≤ longest_record
-    → node_fields.faults (strict_view_of b) e ⊎ ((e ≡ OutOfMemory) × node_fields.may_lack (strict_view_of b))
-    → IsRecordFault b e ⊎ ((e ≡ OutOfMemory) × node_fields.may_lack (strict_view_of b))
-record_fault b e bytes short (inl bad) = inl (faulty_fields e bytes short bad)
-record_fault b e bytes short (inr lacks) = inr lacks
+-- fields that aren't read
+pub read_faulty : (b : List ℕ) (e : Fault) → length b ≤ longest_record → (node_fields.reading.read (strict_view_of b)).result ≡ Err e
+    → (read_record b).result ≡ Err e
+read_faulty b e short bad = read_short b short ∙ ap (λ r. and_then r tested) bad
 
-pub ruleset record_reading = (too_long, faulty_fields, faulty_keys, record_read, record_given, record_fails, not_framed)
+-- fields that are read, and the test of their keys
+pub read_tested : (b : List ℕ) (f : NodeFields) (r : Result ⊤ Fault) → length b ≤ longest_record
+    → (node_fields.reading.read (strict_view_of b)).result ≡ Ok (node_fields.reading.seen f) → test_keys (keys_of (vec_items f.pairs)) ≡ r
+    → (read_record b).result ≡ map_value (λ t. node_fields.reading.seen f) r
+read_tested b f r short given is =
+    read_short b short ∙ ap (λ r. and_then r tested) given
+    ∙ ap (λ r. map_value (λ t. node_fields.reading.seen f) r) (ap test_keys (record_keys f) ∙ is)
 
--- for the test of the keys
-pub ruleset keys_tested = (not_rising, no_id)
+record_back : (f : NodeFields) → IsNodeRecord f → (read_record (encoding (node_fields.item f))).result ≡ Ok (node_fields.reading.seen f)
+record_back f is =
+    let b = encoding (node_fields.item f) in
+    let few : length (encoding (node_fields.item f)) < 2 ^ 64 = omega (arith, is.short) in
+    read_tested b f (Ok tt) is.short ((node_fields.reads_strictly.back true).back b f few is.fits refl) (keys_pass (vec_items f.pairs) is.rising is.identified)
 
--- for a body that tests the keys first
-pub ruleset fields_tested = (fields_too_long, wrong_keys)
+only_by : (b : List ℕ) (f : NodeFields) (long : Bool) → AreBytes b → ltb longest_record (length b) ≡ long → (read_record b).result ≡ Ok (node_fields.reading.seen f)
+    → IsNodeRecord f × (b ≡ encoding (node_fields.item f))
+only_by b f true bytes long is =
+    let r : (read_record b).result ≡ Err is_too_big = result_same (cond-true (ltb longest_record (length b)) _ _ long) in absurd (let no : ⊥ = cc in no)
+only_by b f false bytes long is =
+    let few : length b ≤ longest_record = ltb-false _ _ long in
+    let g = goes_on (node_fields.reading.read (strict_view_of b)).result tested (node_fields.reading.seen f) (sym (read_short b few) ∙ is) in
+    let m = is_mapped (test_keys (keys_seen g.value)) (λ t. g.value) (node_fields.reading.seen f) g.then in
+    let h = node_fields.reads_strictly.exact.only b f bytes (omega (arith, few)) (g.is ∙ ap Ok m.then) in
+    let passed : test_keys (keys_of (vec_items f.pairs)) ≡ Ok m.value =
+    ap test_keys (sym (record_keys f) ∙ ap keys_seen (sym m.then)) ∙ m.is in
+    let keys : AreRecordKeys (vec_items f.pairs) = passed_by (vec_items f.pairs) m.value (keys_rise (keys_of (vec_items f.pairs)))
+    (has_key (codes "id") (keys_of (vec_items f.pairs))) refl refl passed in
+    (record_made b f h.0 h.1 keys bytes few, h.1)
+
+pub record_only : (b : List ℕ) (f : NodeFields) → AreBytes b → (read_record b).result ≡ Ok (node_fields.reading.seen f)
+    → IsNodeRecord f × (b ≡ encoding (node_fields.item f))
+record_only b f bytes is = only_by b f (ltb longest_record (length b)) bytes refl is
+
+record_fits : (f g : NodeFields) → node_fields.reading.seen f ≡ node_fields.reading.seen g → IsNodeRecord f → IsNodeRecord g
+record_fits f g same is = (record_only (encoding (node_fields.item f)) g is.bytes (record_back f is ∙ ap Ok same)).0
+
+-- the bytes of a record are read back, and no other bytes are read
+pub record_items : ReadsItems IsNodeRecord node_fields.item node_fields.reading.seen node_fields.reading.item read_record
+record_items = record {
+  back = λ f is sized. record_back f is;
+  only = λ b f bytes short is. record_only b f bytes is;
+  fits = record_fits;
+  same = node_fields.reads_strictly.told.written;
+}
+
+-- A node record, seen as its fields: the list of the fields. It is read from the bytes of the first item, also from a lenient view.
+abbrev pub node_record : Codec NodeFields
+node_record =
+    lawful (item_type IsNodeRecord node_fields.item node_fields.reading.seen node_fields.reading.item read_record node_fields.reading.takes_memory)
+    (items_lawful _ _ _ _ _ node_fields.reading.takes_memory record_items)
+
+-- two records with the same encoding have the same fields
+pub records_tell : (f g : NodeFields) → IsNodeRecord f → IsNodeRecord g → encoding (node_fields.item f) ≡ encoding (node_fields.item g)
+    → node_fields.reading.seen f ≡ node_fields.reading.seen g
+records_tell f g is other same =
+    let both : (let r : Result node_fields.reading.M Fault = Ok (node_fields.reading.seen f) in r) ≡ Ok (node_fields.reading.seen g) =
+    sym (record_back f is) ∙ ap (λ b. (read_record b).result) same ∙ record_back g other in
+    cc
+
+-- ---- for bodies
+
+pub ruleset keys_tested = (not_rising, no_id, keys_pass)
+
+-- for a body that reads the fields first
+pub ruleset record_reading = (read_long, read_faulty, read_tested)

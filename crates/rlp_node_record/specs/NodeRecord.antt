@@ -1,17 +1,14 @@
 -- Node records whose keys are in order, with `id` among them, and whose size is within the limit.
-use Rattle.std.specs.Prelude.{ℕ, ◌≡◌, ◌≤◌, ◌<◌, ◌&&◌, Bool, true, IsTrue, List, [], ◌∷◌, length, map, codes, Ok, Err}
+use Rattle.std.specs.Prelude.{ℕ, ◌≤◌, ◌&&◌, ⊤, nat_lt, if◌then◌else◌, Bool, true, IsTrue, List, [], ◌∷◌, length, map, codes, Result, Ok, Err}
 use Rattle.std.specs.Cmp.Lexicographic.{slice_cmp}
 use Rattle.std.specs.Ordering.{is_lt, nat_cmp}
 use Rattle.std.specs.Vec.{vec_items}
-use Rattle.rlp.specs.DecoderError.{DecoderError}
-use Rattle.rlp.specs.DecoderError.TheVariants.{RlpIsTooBig}
 use Rattle.rlp.specs.Format.Encoding.{encoding}
 use Rattle.rlp.specs.Format.WrittenHeader.{AreBytes}
-use Rattle.rlp.specs.Values.RawItem.{view_frame}
-use Rattle.rlp.specs.Values.ValueReading.{IsCustom}
-use Rattle.rlp.specs.Views.View.{View, strict_view_of}
+use Rattle.rlp.specs.Views.View.{strict_view_of}
+use Rattle.rlp.specs.Form.{Answer, Fault, and_then, custom, go_on, here, is_too_big, map_value}
 use Rattle.rlp_node_record.specs.NodeFields.{node_fields}
-use Rattle.rlp_node_record.specs.NodeKeys.{HasId}
+use Rattle.rlp_node_record.specs.NodeKeys.{HasId, has_key}
 use Rattle.rlp_node_record.specs.declared.node_fields.NodeFields.{NodeFields}
 use Rattle.rlp_node_record.specs.declared.node_fields.NodePair.{NodePair}
 
@@ -41,34 +38,28 @@ pub record IsNodeRecord (f : NodeFields) : Type 0 where
   pub bytes : AreBytes (encoding (node_fields.item f))
   pub short : length (encoding (node_fields.item f)) ≤ longest_record
 
--- Why the keys of pairs aren't those of a node record: they aren't in order, or they are and `id` isn't one of them.
-pub data IsKeysFault (pairs : List NodePair) (e : DecoderError) : Type 0 where
-  not_rising : ¬ AreInOrder pairs → IsCustom (codes "keys are not in order") e → IsKeysFault pairs e
-  no_id : AreInOrder pairs → ¬ HasId pairs → IsCustom (codes "key id is missing") e → IsKeysFault pairs e
-
 -- the keys are in order, and `id` is one of them
 abbrev pub AreRecordKeys : List NodePair → Type 0
 AreRecordKeys pairs = AreInOrder pairs × HasId pairs
 
--- Why fields aren't those of a node record: the keys aren't, or they are and the encoding is too long.
-pub data IsFieldsFault (f : NodeFields) : DecoderError → Type 0 where
-  fields_too_long : AreRecordKeys (vec_items f.pairs) → longest_record < length (encoding (node_fields.item f)) → IsFieldsFault f RlpIsTooBig
-  wrong_keys : (e : DecoderError) → IsKeysFault (vec_items f.pairs) e → IsFieldsFault f e
+-- the fault of keys that aren't those of a node record: they aren't in order, or they are and `id` isn't one of them
+abbrev pub test_keys : List (List ℕ) → Result ⊤ Fault
+test_keys keys =
+    if keys_rise keys then (if has_key (codes "id") keys then Ok tt else Err (custom (codes "key id is missing")))
+    else Err (custom (codes "keys are not in order"))
 
--- Why bytes aren't a node record, if they are an item: they are too long, the fields have a fault if they are read strictly, or the keys aren't those of a record.
-pub data IsRecordFault (b : List ℕ) : DecoderError → Type 0 where
-  too_long : longest_record < length b → IsRecordFault b RlpIsTooBig
-  faulty_fields : (e : DecoderError) → AreBytes b → length b ≤ longest_record → node_fields.faults (strict_view_of b) e → IsRecordFault b e
-  faulty_keys : (f : NodeFields) (e : DecoderError) → AreBytes b → length b ≤ longest_record → node_fields.gives (strict_view_of b) f
-      → IsKeysFault (vec_items f.pairs) e → IsRecordFault b e
+-- the fault of fields that aren't those of a node record: the keys have a fault, or they don't and the encoding is too long
+abbrev pub test_fields : NodeFields → Result ⊤ Fault
+test_fields f =
+    and_then (test_keys (keys_of (vec_items f.pairs)))
+    (λ t. if nat_lt longest_record (length (encoding (node_fields.item f))) then Err is_too_big else Ok t)
 
--- Why a view gives no node record: it doesn't begin with a framed item, or the bytes of that item aren't a node record.
-pub data FaultsAsNodeRecord (v : View) (e : DecoderError) : Type 0 where
-  not_framed : view_frame v ≡ Err e → FaultsAsNodeRecord v e
-  faulty_record : (b : List ℕ) → view_frame v ≡ Ok b → IsRecordFault b e → FaultsAsNodeRecord v e
+-- the keys of the fields that were read
+abbrev pub keys_seen : node_fields.reading.M → List (List ℕ)
+keys_seen m = map (λ p. p.0) m.1.1
 
--- memory may run out for a node record: it may for its fields, read strictly
-pub record MayLackAsNodeRecord (v : View) : Type 0 where
-  pub bytes : List ℕ
-  pub framed : view_frame v ≡ Ok bytes
-  pub may : node_fields.may_lack (strict_view_of bytes)
+-- What the bytes of an item give: they aren't too long, the fields are read strictly, and then the keys are tested.
+abbrev pub read_record : List ℕ → Answer node_fields.reading.M Fault
+read_record b =
+    if nat_lt longest_record (length b) then here (Err is_too_big)
+    else go_on (node_fields.reading.read (strict_view_of b)) (λ m. here (map_value (λ t. m) (test_keys (keys_seen m))))

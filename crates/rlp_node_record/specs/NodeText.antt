@@ -5,8 +5,8 @@ use Rattle.base64.specs.GeneralPurpose.{encode_of}
 use Rattle.rlp.specs.DecoderError.{DecoderError}
 use Rattle.rlp.specs.Format.Encoding.{encoding}
 use Rattle.rlp.specs.Format.WrittenHeader.{AreBytes}
-use Rattle.rlp.specs.Values.ValueReading.{IsCustom}
 use Rattle.rlp.specs.Views.View.{strict_view_of}
+use Rattle.rlp.specs.Form.{Faults, custom, fault_of}
 use Rattle.rlp_node_record.specs.NodeFields.{node_fields}
 use Rattle.rlp_node_record.specs.NodeLaws.{node_record}
 use Rattle.rlp_node_record.specs.declared.node_fields.NodeFields.{NodeFields}
@@ -33,6 +33,6 @@ IsNotBase64 digits = (b : List ℕ) → AreBytes b → digits ≢ base64_of b
 
 -- Why a text isn't that of a record: it doesn't begin with `enr:`, what follows isn't base64, or the bytes have a fault if they are read strictly.
 pub data IsNodeTextFault (t : List ℕ) (e : DecoderError) : Type 0 where
-  no_prefix : ¬ HasPrefix t → IsCustom (codes "text does not begin with enr:") e → IsNodeTextFault t e
-  not_base64 : (digits : List ℕ) → t ≡ codes "enr:" ++ digits → IsNotBase64 digits → IsCustom (codes "text is not base64") e → IsNodeTextFault t e
-  faulty_bytes : (b : List ℕ) → AreBytes b → t ≡ text_of b → node_record.faults (strict_view_of b) e → IsNodeTextFault t e
+  no_prefix : ¬ HasPrefix t → fault_of e ≡ custom (codes "text does not begin with enr:") → IsNodeTextFault t e
+  not_base64 : (digits : List ℕ) → t ≡ codes "enr:" ++ digits → IsNotBase64 digits → fault_of e ≡ custom (codes "text is not base64") → IsNodeTextFault t e
+  faulty_bytes : (b : List ℕ) → AreBytes b → t ≡ text_of b → Faults node_record.reading (strict_view_of b) e → IsNodeTextFault t e

@@ -16,10 +16,11 @@ use std::alloc::{AllocError, Global};
 /// fails only if memory runs out. `only` says that any other record has another text, so a text
 /// names one record.
 pub fn node_text_round_trips(alloc: Global, node: &NodeRecord) -> Result<NodeRecord, DecoderError>
-    ensures same { IfOk result (λ r. node_fields.Same r node.now) }
+    ensures same { IfOk result (λ r. node_fields.reading.seen r
+        ≡ node_fields.reading.seen node.now) }
     ensures memory { IfErr result (λ e. e ≡ OutOfMemory) }
     ensures only { (other : NodeFields) → IsNodeRecord other → node_text other ≡ node_text node.now
-        → node_fields.Same other node.now }
+        → node_fields.reading.seen other ≡ node_fields.reading.seen node.now }
 {
     let _fields = node.fields();
     match node.to_text(alloc) {

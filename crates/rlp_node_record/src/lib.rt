@@ -5,7 +5,6 @@ pub mod laws;
 mod lookup;
 mod node_fields;
 mod node_record;
-mod record;
 mod text;
 mod values;
 

@@ -1,13 +1,13 @@
 //! The fields of a node record.
 
-ghost use Rattle.std.specs.Prelude.{◌≡◌, OnOk, IfOk, refl};
+ghost use Rattle.std.specs.Prelude.{◌≡◌, OnOk, IfOk};
 ghost use Rattle.rlp.specs.Format.Encoding.{encoding};
 ghost use Rattle.rlp_node_record.specs.NodeFields.{pair_fields, node_fields};
 
 use bytes::BytesMut;
 use rlp::{
-    AppendFields, Decodable, DecodeFields, DecoderError, Encodable, FieldFault, Fields,
-    FixedFields, Flattened, RawItem, Rlp, RlpStream, RoundTrip, StrictRead,
+    AppendFields, Decodable, DecodeFields, DecoderError, Encodable, Fields, FixedFields, Flattened,
+    RawItem, Rlp, RlpStream, RoundTrip, StrictRead,
 };
 use std::alloc::{AllocError, Global};
 
@@ -56,12 +56,8 @@ impl DecodeFields for NodePair {
         len == 2
     }
 
-    fn decode_fields(
-        alloc: Global,
-        fields: &mut Fields<'_>,
-        len: usize,
-    ) -> Result<NodePair, FieldFault> {
-        rlp::decode_fields!(alloc, fields, len, NodePair { key, value })
+    fn decode_fields(alloc: Global, fields: &mut Fields<'_>) -> Result<NodePair, DecoderError> {
+        rlp::decode_fields!(fields alloc, fields, NodePair { key, value })
     }
 }
 
@@ -69,8 +65,6 @@ impl FixedFields for NodePair {
     fn width() -> Option<usize> {
         Some(2)
     }
-
-    ghost none_more = { refl };
 }
 
 impl Encodable for NodeFields {
@@ -89,11 +83,7 @@ impl Encodable for NodeFields {
 }
 
 impl Decodable for NodeFields {
-    ghost gives = { node_fields.gives };
-
-    ghost faults = { node_fields.faults };
-
-    ghost may_lack_memory = { node_fields.may_lack };
+    ghost reading = { node_fields.reading };
 
     fn decode(alloc: Global, rlp: &Rlp<'_>) -> Result<NodeFields, DecoderError> {
         rlp::decode_fields!(

@@ -1,12 +1,12 @@
 //! Node records, whose keys are in order, with `id` among them, and whose size is within the limit.
 
-ghost use Rattle.std.specs.Prelude.{◌≡◌, ◌⊎◌, ◌↔◌, IfOk, IfErr, OnOk, IsTrue, length};
+ghost use Rattle.std.specs.Prelude.{◌≡◌, ◌⊎◌, ◌↔◌, Ok, Err, IfOk, IfErr, OnOk, IsTrue};
 ghost use Rattle.std.specs.Vec.{vec_items};
 ghost use Rattle.rlp.specs.DecoderError.TheVariants.{OutOfMemory};
 ghost use Rattle.rlp.specs.Format.Encoding.{encoding};
-ghost use Rattle.rlp.specs.Views.View.{strict_view_of};
+ghost use Rattle.rlp.specs.Form.{fault_of};
 ghost use Rattle.rlp_node_record.specs.NodeFields.{node_fields, signed_item};
-ghost use Rattle.rlp_node_record.specs.NodeRecord.{AreInOrder, AreRecordKeys, IsFieldsFault, IsKeysFault, IsNodeRecord, IsRecordFault, keys_of, keys_rise};
+ghost use Rattle.rlp_node_record.specs.NodeRecord.{AreInOrder, AreRecordKeys, IsNodeRecord, keys_of, keys_rise, read_record, test_fields, test_keys};
 ghost use Rattle.rlp_node_record.specs.NodeLaws.{node_record};
 
 use crate::lookup::has_id;
@@ -53,16 +53,13 @@ impl NodeRecord {
     /// order of their bytes, or else with `Custom("key id is missing")`. Else it fails with
     /// `RlpIsTooBig` if the encoding has more than [`NodeRecord::MAX_LEN`] bytes, and with
     /// `OutOfMemory` if memory is refused.
-    #[tactic(auto, using(crate::specs::NodeLaws::fields_tested))]
+    #[tactic(auto, using(crate::specs::NodeLaws::keys_tested))]
     pub fn new(alloc: Global, fields: NodeFields) -> Result<NodeRecord, DecoderError>
         ensures value { IfOk result (λ r. (r ≡ fields) × IsNodeRecord fields) }
-        ensures fault { IfErr result (λ e. IsFieldsFault fields e
+        ensures fault { IfErr result (λ e. (test_fields fields ≡ Err (fault_of e))
             ⊎ ((e ≡ OutOfMemory) × AreRecordKeys (vec_items fields.pairs))) }
     {
-        match test_keys(fields.pairs.as_slice()) {
-            Ok(()) => {}
-            Err(fault) => return Err(fault),
-        }
+        test_keys(fields.pairs.as_slice())?;
         let bytes = match rlp::encode(alloc, &fields) {
             Ok(bytes) => bytes,
             Err(_) => return Err(DecoderError::OutOfMemory),
@@ -98,7 +95,7 @@ impl NodeRecord {
 #[tactic(auto, using(crate::specs::NodeLaws::keys_tested))]
 fn test_keys(pairs: &[NodePair]) -> Result<(), DecoderError>
     ensures keys { OnOk result (AreRecordKeys pairs.now) }
-    ensures fault { IfErr result (λ e. IsKeysFault pairs.now e) }
+    ensures fault { IfErr result (λ e. test_keys (keys_of pairs.now) ≡ Err (fault_of e)) }
 {
     if !are_in_order(pairs) {
         return Err(DecoderError::Custom("keys are not in order"));
@@ -136,18 +133,16 @@ fn keys_rise(pairs: &[NodePair]) -> bool
 /// Reads the fields of a record from bytes that are one item.
 #[tactic(auto, using(crate::specs::NodeLaws::record_reading))]
 fn record_fields(alloc: Global, bytes: &[u8]) -> Result<NodeFields, DecoderError>
+    ensures record { IfOk result (λ f. IsNodeRecord f) }
     ensures value { IfOk result
-        (λ f. IsNodeRecord f × (bytes.now ≡ encoding (node_fields.item f))) }
-    ensures fault { IfErr result (λ e. IsRecordFault bytes.now e
-        ⊎ ((e ≡ OutOfMemory) × node_fields.may_lack (strict_view_of bytes.now))) }
+        (λ f. (read_record bytes.now).result ≡ Ok (node_fields.reading.seen f)) }
+    ensures fault { IfErr result (λ e. ((read_record bytes.now).result ≡ Err (fault_of e))
+        ⊎ ((e ≡ OutOfMemory) × IsTrue node_record.reading.takes_memory)) }
 {
     if NodeRecord::MAX_LEN < bytes.len() {
         return Err(DecoderError::RlpIsTooBig);
     }
-    let fields = match rlp::decode_strict::<NodeFields>(alloc, bytes) {
-        Ok(fields) => fields,
-        Err(fault) => return Err(fault),
-    };
+    let fields = rlp::decode_strict::<NodeFields>(alloc, bytes)?;
     match test_keys(fields.pairs.as_slice()) {
         Ok(()) => Ok(fields),
         Err(fault) => Err(fault),
@@ -171,19 +166,12 @@ impl Encodable for NodeRecord {
 /// [`NodeRecord::MAX_LEN`] bytes, with a fault of its fields, and with
 /// `Custom("keys are not in order")` or `Custom("key id is missing")`.
 impl Decodable for NodeRecord {
-    ghost gives = { node_record.gives };
+    ghost reading = { node_record.reading };
 
-    ghost faults = { node_record.faults };
-
-    ghost may_lack_memory = { node_record.may_lack };
-
-    #[tactic(auto, using(crate::specs::NodeLaws::record_reading))]
     fn decode(alloc: Global, rlp: &Rlp<'_>) -> Result<NodeRecord, DecoderError> {
         let (item, _) = rlp.split_first()?;
-        match record_fields(alloc, item.as_raw()) {
-            Ok(fields) => Ok(NodeRecord { fields }),
-            Err(fault) => Err(fault),
-        }
+        let fields = record_fields(alloc, item.as_raw())?;
+        Ok(NodeRecord { fields })
     }
 }
 

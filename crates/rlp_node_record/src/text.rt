@@ -2,9 +2,10 @@
 
 ghost use Rattle.std.specs.Prelude.{◌≡◌, ◌⊎◌, ◌++◌, IfErr, IfOk, MatchOption, codes};
 ghost use Rattle.std.specs.String.{string_bytes};
+ghost use Rattle.base64.specs.GeneralPurpose.{IsBytes};
 ghost use Rattle.rlp.specs.DecoderError.TheVariants.{OutOfMemory};
 ghost use Rattle.rlp_node_record.specs.NodeRecord.{IsNodeRecord};
-ghost use Rattle.rlp.specs.Values.ValueReading.{IsCustom};
+ghost use Rattle.rlp.specs.Form.{custom, fault_of};
 ghost use Rattle.rlp_node_record.specs.NodeText.{HasPrefix, IsNodeTextFault, IsNotBase64, base64_of, node_text, text_of};
 
 use crate::NodeRecord;
@@ -67,8 +68,10 @@ fn digits_of(text: &[u8]) -> Option<&[u8]>
 #[tactic(auto, unfolding(crate::specs::NodeText::base64_of))]
 fn bytes_of(alloc: Global, digits: &[u8]) -> Result<Vec<u8>, DecoderError>
     ensures value { IfOk result (λ b. digits.now ≡ base64_of b.items) }
+    ensures bytes { IfOk result (λ b. IsBytes b.items) }
     ensures fault { IfErr result (λ e.
-        (IsNotBase64 digits.now × IsCustom (codes "text is not base64") e) ⊎ (e ≡ OutOfMemory)) }
+        (IsNotBase64 digits.now × (fault_of e ≡ custom (codes "text is not base64")))
+        ⊎ (e ≡ OutOfMemory)) }
 {
     match URL_SAFE_NO_PAD.decode(alloc, digits) {
         Ok(bytes) => Ok(bytes),

@@ -1,8 +1,7 @@
 //! The values of the keys of a node record.
 
 ghost use Rattle.std.specs.Option.{option_copied};
-ghost use Rattle.std.specs.Prelude.{◌≡◌, codes};
-ghost use Rattle.rlp.specs.Views.View.{View};
+ghost use Rattle.std.specs.Prelude.{◌≡◌, codes, false};
 ghost use Rattle.rlp_node_record.specs.NodeKeys.{GivesArray, GivesKnown, GivesPort, GivesString, ReadsKey, value_of};
 
 use crate::NodeRecord;
@@ -23,7 +22,7 @@ impl NodeRecord {
     /// The value of a key as a value of this type, or `None` if the record hasn't the key. It is
     /// read strictly, and the fault is that of [`rlp::decode_strict`].
     pub fn get<T: Decodable>(&self, alloc: Global, key: &[u8]) -> Option<Result<T, DecoderError>>
-        ensures { ReadsKey T.gives T.faults T.may_lack_memory (value_of key.now self.now) result }
+        ensures { ReadsKey T.reading (value_of key.now self.now) result }
     {
         match self.value(key) {
             Some(value) => Some(rlp::decode_strict(alloc, value.as_bytes())),
@@ -96,7 +95,7 @@ impl NodeRecord {
 /// The value of a key as a value of a type whose reading doesn't allocate, or `None` if the record
 /// hasn't the key or its value isn't one of this type.
 fn known<T: StrictRead>(node: &NodeRecord, key: &[u8]) -> Option<T>
-    requires { (view : View) → ¬ T.may_lack_memory view }
+    requires { T.reading.takes_memory ≡ false }
     ensures { GivesKnown T.fits T.item (value_of key.now node.now) result }
 {
     let alloc = *node.fields().pairs.allocator();

@@ -1,104 +1,120 @@
--- What a body that reads a message has to know, that the bytes of a message have no fault, and that they tell messages apart.
-use Rattle.std.specs.Prelude.{⊤}
-use Rattle.std.proofs.Common.{◌≡◌, ℕ, ◌^◌, ◌<◌, ◌≤◌, ◌+◌, ◌⊎◌, inl, inr, ⊎_elim, List, [], ◌∷◌, ◌++◌, length, sym, ap, ◌∙◌, subst, arith, length-append}
-use Rattle.std.proofs.Common.{Result, Ok, Err, IfErr}
-use Rattle.std.proofs.lemmas.Bool.{cases_lt}
+-- The bytes of a message are read back, and from nothing else, and they tell messages apart.
+use Rattle.std.proofs.Common.{◌≡◌, ℕ, ◌^◌, ◌<◌, ◌+◌, ◌⊎◌, inl, inr, ⊎_elim, true, List, ◌++◌, length, refl, sym, ap, ◌∙◌, subst, arith, length-append}
+use Rattle.std.proofs.Common.{Result, Ok, Err, IfErr, IfOk}
+use Rattle.std.proofs.lemmas.List.Elements.{All-from_recursion, recursion_from_All}
+use Rattle.rlp.specs.Codec.{Cases}
 use Rattle.rlp.specs.DecoderError.{DecoderError}
 use Rattle.rlp.specs.DecoderError.TheVariants.{OutOfMemory}
+use Rattle.rlp.specs.Form.{and_then, fault_of}
 use Rattle.rlp.specs.Format.Encoding.{IsSized, encoding}
 use Rattle.rlp.specs.Format.WrittenHeader.{AreBytes}
-use Rattle.rlp.specs.Codecs.Sums.{Cases, FitsCase, SameCase, case_item}
-use Rattle.rlp.specs.Lemmas.Encodings.{encoding_same}
-use Rattle.rlp.specs.Lemmas.RoundTrips.{number_held_back}
-use Rattle.rlp.specs.Lemmas.Told.{case_told, number_told}
-use Rattle.rlp.specs.Values.RoundTrip.{ReadsBack}
-use Rattle.rlp.specs.Values.Sums.{IsOtherTag}
+use Rattle.rlp_reading.proofs.Lemmas.OneReading.{back_bytes}
+use Rattle.rlp_reading.proofs.Lemmas.Reading.{Bytes}
+use Rattle.rlp.specs.Values.Sums.{sum_tag}
 use Rattle.rlp.specs.Values.Value.{FitsBytes, number_item}
-use Rattle.rlp.specs.Values.ValueReading.{FaultsAsNumber, GivesNumber, IsCustom}
-use Rattle.rlp.specs.Views.View.{strict_view_of, view_of}
-use Rattle.rlp_p2p.specs.Message.{BodyFails, IsMessageFault, MessageFails, faulty_body, message_bytes, no_id, unknown_id, unknown_message}
-use Rattle.rlp_p2p.proofs.Ids.{same_number}
+use Rattle.rlp.specs.Views.View.{strict_view_of}
+use Rattle.rlp_codec.proofs.FieldLaws.{ok_same}
+use Rattle.rlp_codec.proofs.ListLaws.{goes_on}
+use Rattle.rlp_p2p.specs.Message.{message_bytes, message_of, numbered_of}
+use Rattle.rlp_p2p.proofs.Ids.{numbered_back, numbered_only, same_number}
 
--- each number is below 0x100
-abbrev pub AreSmall : List ℕ → Type 0
-AreSmall [] = ⊤
-AreSmall (tag ∷ tags) = (tag < 0x100) × AreSmall tags
+-- the number of each message is below 0x100
+pub record AreSmall {B : Type 0} (tag : B → ℕ) : Type 0 where
+  pub below : (x : B) → tag x < 0x100
 
-large_other : (tags : List ℕ) (k : ℕ) → 0x100 ≤ k → AreSmall tags → IsOtherTag tags k
-large_other [] k large small = tt
-large_other (tag ∷ tags) k large small = (λ same. let below : tag < 0x100 = small.0 in omega (arith, same, large, below), large_other tags k large small.1)
+first_small : {A B : Type 0} (tag : ℕ) (more : B → ℕ) → tag < 0x100 → AreSmall more → (s : A ⊎ B) → sum_tag tag more s < 0x100
+first_small tag more low small (inl x) = low
+first_small tag more low small (inr y) = small.below y
 
--- ---- what bodies know
+-- the numbers of a message and of other messages
+pub and_small : {A B : Type 0} (tag : ℕ) (more : B → ℕ) → tag < 0x100 → AreSmall more → AreSmall (sum_tag {A = A} tag more)
+and_small tag more low small = record { below = first_small tag more low small }
 
-module _ {B : Type 0} (cases : Cases B) (number : ℕ) (body : List ℕ) (e : DecoderError) where
-  abbrev BodyOf : ℕ → Type 0
-  BodyOf n = (AreBytes body × (cases.case n).faults (strict_view_of body) e) ⊎ ((e ≡ OutOfMemory) × (cases.case n).may_lack (strict_view_of body))
+module _ {B : Type 0} (offset : ℕ) (messages : Cases B) where
+  -- ---- the bytes of a message are read back
 
-  -- the body of the message with this number fails
-  pub body_of_fails : (n : ℕ) → number ≡ n → BodyOf n → BodyFails cases number body e
-  body_of_fails n same h = inr (subst BodyOf (sym same) h)
+  module _ (small : AreSmall messages.cases.tag) (low : offset < 0x100) (d : List ℕ) (fits : length d < 2 ^ 64) (x : B) (fit : messages.cases.Fits x)
+      (is : d ≡ message_bytes offset messages.cases x) where
+    id_fits : FitsBytes 8 (offset + messages.cases.tag x)
+    id_fits = omega (arith, small.below x, low)
 
-module _ {B : Type 0} (offset : ℕ) (cases : Cases B) where
-  -- the bytes begin with no id of a message
-  pub id_fails : (d : List ℕ) (e : DecoderError) → FaultsAsNumber 8 (view_of d) e
-      ⊎ ((id : ℕ) × (GivesNumber 8 (view_of d) id × ((id < offset) × IsCustom unknown_message e))) → MessageFails offset cases d e
-  id_fails d e (inl fault) = inl (no_id e fault)
-  id_fails d e (inr (id, (gives, (below, custom)))) = inl (unknown_id id e gives (λ number is. absurd (omega (arith, is, below))) custom)
+    body_sized : IsSized (messages.cases.item x)
+    body_sized =
+        omega (arith, fits, ap length is, length-append (encoding (number_item (offset + messages.cases.tag x))) (encoding (messages.cases.item x)))
 
-  -- what follows the id fails as a body
-  pub message_fails : {R : Type 0} (d : List ℕ) (number : ℕ) (body : List ℕ) (r : Result R DecoderError) → GivesNumber 8 (view_of d) (offset + number)
-      → d ≡ encoding (number_item (offset + number)) ++ body → IfErr r (λ e. BodyFails cases number body e) → IfErr r (λ e. MessageFails offset cases d e)
-  message_fails d number body (Ok x) gives is h = tt
-  message_fails d number body (Err e) gives is (inl (other, custom)) =
-      inl (unknown_id (offset + number) e gives (λ k same. subst (λ k. IsOtherTag cases.tags k) (omega (arith, same)) other) custom)
-  message_fails d number body (Err e) gives is (inr (inl (bytes, fault))) = inl (faulty_body number body e is bytes fault)
-  message_fails d number body (Err e) gives is (inr (inr (out, may))) = inr (out, record { number = number; body = body; is = is; may = may })
+    pub message_back : (message_of offset messages.cases.read d).result ≡ Ok (messages.cases.seen x)
+    message_back =
+        ap (λ r. and_then r (λ (m : ℕ × List ℕ). (messages.cases.read m.0 (strict_view_of m.1)).result))
+        (numbered_back offset d (messages.cases.tag x) (encoding (messages.cases.item x)) fits id_fits is)
+        ∙ messages.laws.back true (encoding (messages.cases.item x)) x body_sized fit refl
 
-  -- ---- the bytes of a message
+    -- reading the bytes of a message fails only if memory runs out
+    pub memory_message : {R : Type 0} (r : Result R DecoderError)
+        → IfErr r (λ e. ((message_of offset messages.cases.read d).result ≡ Err (fault_of e)) ⊎ (e ≡ OutOfMemory)) → IfErr r (λ e. e ≡ OutOfMemory)
+    memory_message (Ok y) h = tt
+    memory_message (Err e) h =
+        ⊎_elim (λ bad. absurd (let both = sym message_back ∙ bad in let no : ⊥ = cc in no)) (λ memory. memory) h
 
-  module _ (small : AreSmall cases.tags) (low : offset < 0x100) where
-    id_fits : (x : B) → FitsBytes 8 (offset + cases.tag x)
-    id_fits x =
-        ⊎_elim
-        (λ below. omega (arith, below, low))
-        (λ large. absurd (cases.known x (large_other cases.tags (cases.tag x) large small)))
-        (cases_lt (cases.tag x) 0x100)
+  -- ---- and from nothing else
 
-    module _ (d : List ℕ) (fits : length d < 2 ^ 64) (x : B) (fit : FitsCase cases x) (is : d ≡ message_bytes offset cases x) where
-      id_back : ReadsBack (FitsBytes 8) number_item (GivesNumber 8) (FaultsAsNumber 8) (view_of d) (offset + cases.tag x)
-      id_back = number_held_back 8 (view_of d) (offset + cases.tag x) fits (id_fits x) (encoding (case_item cases x), is)
+  rest_bytes : (d first rest : List ℕ) → AreBytes d → d ≡ first ++ rest → AreBytes rest
+  rest_bytes d first rest bytes is =
+      All-from_recursion (λ byte. byte < 2 ^ 8) rest
+      (back_bytes first rest (subst Bytes is (recursion_from_All (λ byte. byte < 2 ^ 8) d bytes)))
 
-      body_sound : (number : ℕ) (body : List ℕ) (e : DecoderError) → d ≡ encoding (number_item (offset + number)) ++ body → AreBytes body
-          → ¬ (cases.case number).faults (strict_view_of body) e
-      body_sound number body e other bytes bad =
-          let whole = encoding (case_item cases x) in
-          let both = same_number (offset + cases.tag x) (offset + number) whole body (subst (λ d. length d < 2 ^ 64) is fits) (sym is ∙ other) in
-          let tags : number ≡ cases.tag x = omega (arith, both.0) in
-          let bad : (cases.case (cases.tag x)).faults (strict_view_of body) e = subst (λ k. (cases.case k).faults (strict_view_of body) e) tags bad in
-          let short : length body < 2 ^ 64 =
-          omega (arith, fits, ap length other, length-append (encoding (number_item (offset + number))) body) in
-          ((cases.case (cases.tag x)).reads_strictly body x bytes short).sound fit (sym both.1) e bad
+  pub message_only : (d : List ℕ) (x : B) → AreBytes d → length d < 2 ^ 64 → (message_of offset messages.cases.read d).result ≡ Ok (messages.cases.seen x)
+      → messages.cases.Fits x × (d ≡ message_bytes offset messages.cases x)
+  message_only d x bytes fits is =
+      let g = goes_on (numbered_of offset d) (λ (m : ℕ × List ℕ). (messages.cases.read m.0 (strict_view_of m.1)).result) (messages.cases.seen x) is in
+      let whole = numbered_only offset d g.value bytes fits g.is in
+      let front = encoding (number_item (offset + g.value.0)) in
+      let h = messages.laws.only g.value.0 g.value.1 x (rest_bytes d front g.value.1 bytes whole)
+      (omega (arith, fits, ap length whole, length-append front g.value.1)) g.then in (
+        h.0,
+        whole ∙ ap (λ k. encoding (number_item (offset + k)) ++ g.value.1) h.1
+            ∙ ap (λ rest. encoding (number_item (offset + messages.cases.tag x)) ++ rest) h.2,
+      )
 
-      sound_message : (e : DecoderError) → ¬ IsMessageFault offset cases d e
-      sound_message e (no_id f fault) = id_back.no_fault f fault
-      sound_message e (unknown_id id f gives other custom) =
-          cases.known x (other (cases.tag x) (number_told id (offset + cases.tag x) ((id_back.alike id).0 gives).1))
-      sound_message e (faulty_body number body f other bytes bad) = body_sound number body f other bytes bad
+  -- ---- for bodies that read a message
 
-      -- reading the bytes of a message fails only if memory runs out
-      pub memory_message : {R : Type 0} (r : Result R DecoderError) → IfErr r (λ e. MessageFails offset cases d e) → IfErr r (λ e. e ≡ OutOfMemory)
-      memory_message (Ok y) h = tt
-      memory_message (Err e) (inl fault) = absurd (sound_message e fault)
-      memory_message (Err e) (inr memory) = memory.0
+  -- the fault of an id is the fault of the message
+  pub id_fails : (d : List ℕ) (e : DecoderError) → numbered_of offset d ≡ Err (fault_of e) → (message_of offset messages.cases.read d).result ≡ Err (fault_of e)
+  id_fails d e is = ap (λ r. and_then r (λ (m : ℕ × List ℕ). (messages.cases.read m.0 (strict_view_of m.1)).result)) is
 
-  -- messages with the same bytes have the same number and the same fields
-  pub message_told : (x y : B) → FitsCase cases x → FitsCase cases y → length (message_bytes offset cases x) < 2 ^ 64
-      → message_bytes offset cases x ≡ message_bytes offset cases y → SameCase cases x y
+  module _ {R : Type 0} (body : R → B) (d : List ℕ) (r : Result R DecoderError) where
+    -- what the body of the message gives is what the message gives
+    module _ (m : ℕ × List ℕ) (is : numbered_of offset d ≡ Ok m) where
+      same_read : (message_of offset messages.cases.read d).result ≡ (messages.cases.read m.0 (strict_view_of m.1)).result
+      same_read = ap (λ r. and_then r (λ (m : ℕ × List ℕ). (messages.cases.read m.0 (strict_view_of m.1)).result)) is
+
+      pub body_value : IfOk r (λ x. (messages.cases.read m.0 (strict_view_of m.1)).result ≡ Ok (messages.cases.seen (body x)))
+          → IfOk r (λ x. (message_of offset messages.cases.read d).result ≡ Ok (messages.cases.seen (body x)))
+      body_value value = subst (λ a. IfOk r (λ x. a ≡ Ok (messages.cases.seen (body x)))) (sym same_read) value
+
+      pub body_fault : IfErr r (λ e. ((messages.cases.read m.0 (strict_view_of m.1)).result ≡ Err (fault_of e)) ⊎ (e ≡ OutOfMemory))
+          → IfErr r (λ e. ((message_of offset messages.cases.read d).result ≡ Err (fault_of e)) ⊎ (e ≡ OutOfMemory))
+      body_fault fault = subst (λ a. IfErr r (λ e. (a ≡ Err (fault_of e)) ⊎ (e ≡ OutOfMemory))) (sym same_read) fault
+
+    -- a message is read only from its bytes
+    pub message_whole : AreBytes d → length d < 2 ^ 64 → IfOk r (λ x. (message_of offset messages.cases.read d).result ≡ Ok (messages.cases.seen (body x)))
+        → IfOk r (λ x. messages.cases.Fits (body x) × (d ≡ message_bytes offset messages.cases (body x)))
+    message_whole bytes fits value = whole_by r value
+      where
+        whole_by : (r : Result R DecoderError) → IfOk r (λ x. (message_of offset messages.cases.read d).result ≡ Ok (messages.cases.seen (body x)))
+            → IfOk r (λ x. messages.cases.Fits (body x) × (d ≡ message_bytes offset messages.cases (body x)))
+        whole_by (Ok x) value = message_only d (body x) bytes fits value
+        whole_by (Err e) value = tt
+
+  -- messages with the same bytes are seen alike
+  pub message_told : (x y : B) → messages.cases.Fits x → messages.cases.Fits y → length (message_bytes offset messages.cases x) < 2 ^ 64
+      → message_bytes offset messages.cases x ≡ message_bytes offset messages.cases y → messages.cases.seen x ≡ messages.cases.seen y
   message_told x y fit other short same =
-      let first = encoding (number_item (offset + cases.tag x)) in
-      let whole = encoding (case_item cases x) in
-      let both = same_number (offset + cases.tag x) (offset + cases.tag y) whole (encoding (case_item cases y)) short same in
-      let sized : IsSized (case_item cases x) = omega (arith, short, length-append first whole) in
-      let little : IsSized (case_item cases y) = omega (arith, sized, ap length both.1) in
-      case_told cases.tag (λ k. (cases.case k).Fits) (λ k. (cases.case k).item) (λ k. (cases.case k).Same) (λ k. (cases.case k).told) x y fit other
-      (omega (arith, both.0)) (encoding_same (case_item cases x) (case_item cases y) sized little both.1)
+      let first = encoding (number_item (offset + messages.cases.tag x)) in
+      let b = encoding (messages.cases.item x) in
+      let both = same_number (offset + messages.cases.tag x) (offset + messages.cases.tag y) b (encoding (messages.cases.item y)) short same in
+      let sized : length b < 2 ^ 64 = omega (arith, short, length-append first b) in
+      let tags : messages.cases.tag x ≡ messages.cases.tag y = omega (arith, both.0) in
+      ok_same _ _
+      (sym (messages.laws.back true b x sized fit refl)
+      ∙ ap (λ k. (messages.cases.read k (strict_view_of b)).result) tags
+      ∙ messages.laws.back true b y sized other both.1)

@@ -2,7 +2,7 @@
 use Rattle.std.specs.Prelude.{ℕ, ◌≢◌, ◌<◌, ⊤, ◌⊎◌, refl}
 use Rattle.std.proofs.Common.{inl, inr}
 use Rattle.rlp.specs.Codec.{Codec, Fields, end, field, newtype, number, struct_of}
-use Rattle.rlp.specs.Codecs.Sums.{list_or_string}
+use Rattle.rlp.specs.Codec.{list_or_string}
 use Rattle.rlp_p2p.specs.declared.disconnect.Disconnect.{Disconnect}
 use Rattle.rlp_p2p.specs.declared.disconnect.Disconnect.TheVariants.{Bare, Listed}
 use Rattle.rlp_p2p.specs.declared.disconnect.DisconnectReason.{DisconnectReason}

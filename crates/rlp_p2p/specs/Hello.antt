@@ -2,7 +2,7 @@
 use Rattle.std.specs.Prelude.{refl}
 use Rattle.std.specs.Vec.{vec_items}
 use Rattle.rlp.specs.Codec.{Codec, Fields, byte_array, byte_string, end, field, groups, list_type, newtype, number, struct_of}
-use Rattle.rlp.specs.Codecs.RawItem.{raw_item}
+use Rattle.rlp.specs.Codec.{raw_item}
 use Rattle.rlp_p2p.specs.declared.hello.NodeId.{NodeId}
 use Rattle.rlp_p2p.specs.declared.hello.Capability.{Capability}
 use Rattle.rlp_p2p.specs.declared.hello.FurtherItem.{FurtherItem}
@@ -34,7 +34,7 @@ hello_fields =
     field (λ (h : Hello). h.capabilities) (list_type vec_items capability) (
     field (λ (h : Hello). h.listen_port) (number 8) (
     field (λ (h : Hello). h.node_id) node_id (
-    groups (λ (h : Hello). vec_items h.further) further_fields (λ f. refl) refl)))))
+    groups (λ (h : Hello). vec_items h.further) further_fields refl refl)))))
 
 -- the list of the fields
 abbrev pub hello : Codec Hello

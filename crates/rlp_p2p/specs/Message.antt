@@ -1,50 +1,28 @@
 -- How the messages of a capability are written and read: the id, and then the body. `cases` has the messages, each with its number within the capability, and
 -- `offset` is the id of the message with the number 0.
-use Rattle.std.specs.Prelude.{ℕ, ◌≡◌, ◌+◌, ◌⊎◌, List, ◌++◌, codes}
-use Rattle.rlp.specs.DecoderError.{DecoderError}
-use Rattle.rlp.specs.DecoderError.TheVariants.{OutOfMemory}
+use Rattle.std.specs.Prelude.{ℕ, ◌+◌, ◌-◌, if◌then◌else◌, nat_lt, List, ◌++◌, codes, drop, length, Result, Ok, Err}
 use Rattle.rlp.specs.Format.Encoding.{encoding}
-use Rattle.rlp.specs.Format.WrittenHeader.{AreBytes}
-use Rattle.rlp.specs.Values.Sums.{IsOtherTag}
+use Rattle.rlp.specs.Form.{Answer, Fault, and_then, custom, go_on, here, number}
+use Rattle.rlp.specs.Sums.{CasesForm}
 use Rattle.rlp.specs.Values.Value.{number_item}
-use Rattle.rlp.specs.Values.ValueReading.{FaultsAsNumber, GivesNumber, IsCustom}
-use Rattle.rlp.specs.Views.View.{strict_view_of, view_of}
-use Rattle.rlp.specs.Codecs.Sums.{Cases, case_item}
+use Rattle.rlp.specs.Views.View.{View, strict_view_of, view_of}
 
 -- frame-data = msg-id || msg-data of RLPx: the encoding of the id, and then that of the body
-abbrev pub message_bytes : {B : Type 0} → ℕ → Cases B → B → List ℕ
-message_bytes offset cases x = encoding (number_item (offset + cases.tag x)) ++ encoding (case_item cases x)
+abbrev pub message_bytes : {B : Type 0} → ℕ → CasesForm B → B → List ℕ
+message_bytes offset cases x = encoding (number_item (offset + cases.tag x)) ++ encoding (cases.item x)
 
--- no message has this id: it is below the offset, or its number is none of a message
-abbrev pub IsOtherId : {B : Type 0} → ℕ → Cases B → ℕ → Type 0
-IsOtherId offset cases id = (number : ℕ) → id ≡ offset + number → IsOtherTag cases.tags number
-
--- the text of the fault of such an id
+-- the text of the fault of an id that no message has
 abbrev pub unknown_message : List ℕ
 unknown_message = codes "unknown message"
 
--- Why bytes aren't a message: they begin with no number of at most 8 bytes, or with one that is no message's id, or the bytes after the id, read strictly, have
--- a fault of the body.
-pub data IsMessageFault {B : Type 0} (offset : ℕ) (cases : Cases B) (d : List ℕ) : DecoderError → Type 0 where
-  no_id : (e : DecoderError) → FaultsAsNumber 8 (view_of d) e → IsMessageFault offset cases d e
-  unknown_id : (id : ℕ) (e : DecoderError) → GivesNumber 8 (view_of d) id → IsOtherId offset cases id → IsCustom unknown_message e
-      → IsMessageFault offset cases d e
-  faulty_body : (number : ℕ) (body : List ℕ) (e : DecoderError) → d ≡ encoding (number_item (offset + number)) ++ body → AreBytes body
-      → (cases.case number).faults (strict_view_of body) e → IsMessageFault offset cases d e
+-- What bytes that begin with this id give: the number of the message and the bytes after the id, unless the id is below the offset.
+abbrev pub after_id : ℕ → List ℕ → ℕ → Result (ℕ × List ℕ) Fault
+after_id offset d id = if nat_lt id offset then Err (custom unknown_message) else Ok (id - offset, drop (length (encoding (number_item id))) d)
 
--- memory may run out for the body of such bytes
-pub record MayLackInMessage {B : Type 0} (offset : ℕ) (cases : Cases B) (d : List ℕ) : Type 0 where
-  pub number : ℕ
-  pub body : List ℕ
-  pub is : d ≡ encoding (number_item (offset + number)) ++ body
-  pub may : (cases.case number).may_lack (strict_view_of body)
+-- What the bytes of a message give: the number of the message, and the bytes after the id, which is a number of at most 8 bytes.
+abbrev pub numbered_of : ℕ → List ℕ → Result (ℕ × List ℕ) Fault
+numbered_of offset d = and_then ((number 8).reading.read (view_of d)).result (after_id offset d)
 
--- reading a message fails: the bytes have the fault, or memory runs out for the body
-abbrev pub MessageFails : {B : Type 0} → ℕ → Cases B → List ℕ → DecoderError → Type 0
-MessageFails offset cases d e = IsMessageFault offset cases d e ⊎ ((e ≡ OutOfMemory) × MayLackInMessage offset cases d)
-
--- Reading the body of the message with this number fails: no message has the number, or the body has a strict fault of its type, or memory runs out for it.
-abbrev pub BodyFails : {B : Type 0} → Cases B → ℕ → List ℕ → DecoderError → Type 0
-BodyFails cases number body e =
-    (IsOtherTag cases.tags number × IsCustom unknown_message e)
-    ⊎ ((AreBytes body × (cases.case number).faults (strict_view_of body) e) ⊎ ((e ≡ OutOfMemory) × (cases.case number).may_lack (strict_view_of body)))
+-- What the bytes of a message give: the body, read strictly as the body of the message with this number.
+abbrev pub message_of : {M : Type 0} → ℕ → (ℕ → View → Answer M Fault) → List ℕ → Answer M Fault
+message_of offset read d = go_on (here (numbered_of offset d)) (λ m. read m.0 (strict_view_of m.1))

@@ -1,7 +1,7 @@
 -- How the messages of `p2p` are written and read.
 use Rattle.std.specs.Prelude.{ℕ, ◌⊎◌, List}
 use Rattle.std.proofs.Common.{inl, inr}
-use Rattle.rlp.specs.Codecs.Sums.{Cases, FitsCase, SameCase, and_case, last_case}
+use Rattle.rlp.specs.Codec.{Cases, and_case, last_case}
 use Rattle.rlp_p2p.specs.declared.disconnect.Disconnect.{Disconnect}
 use Rattle.rlp_p2p.specs.declared.hello.Hello.{Hello}
 use Rattle.rlp_p2p.specs.declared.p2p_message.P2pMessage.{P2pMessage}
@@ -10,7 +10,7 @@ use Rattle.rlp_p2p.specs.declared.session.Ping.{Ping}
 use Rattle.rlp_p2p.specs.declared.session.Pong.{Pong}
 use Rattle.rlp_p2p.specs.Disconnect.{disconnect}
 use Rattle.rlp_p2p.specs.Hello.{hello}
-use Rattle.rlp_p2p.specs.Message.{message_bytes}
+use Rattle.rlp_p2p.specs.Message.{message_bytes, unknown_message}
 use Rattle.rlp_p2p.specs.Session.{ping, pong}
 
 -- the bodies of the messages
@@ -23,7 +23,7 @@ p2p_messages =
     and_case 0x00 hello (
     and_case 0x01 disconnect (
     and_case 0x02 ping (
-    last_case 0x03 pong)))
+    last_case unknown_message 0x03 pong)))
 
 -- the body of a message of p2p
 abbrev pub p2p_body : P2pMessage → P2pBody
@@ -34,12 +34,12 @@ p2p_body (message.Pong m) = inr (inr (inr m))
 
 -- the body of a message of p2p fits
 abbrev pub FitsP2p : P2pMessage → Type 0
-FitsP2p m = FitsCase p2p_messages (p2p_body m)
+FitsP2p m = p2p_messages.cases.Fits (p2p_body m)
 
 -- the bytes of a message of p2p after this offset: the id, and the body
 abbrev pub p2p_bytes : ℕ → P2pMessage → List ℕ
-p2p_bytes offset m = message_bytes offset p2p_messages (p2p_body m)
+p2p_bytes offset m = message_bytes offset p2p_messages.cases (p2p_body m)
 
--- both messages of p2p have one number, and each field of the bodies is the same
-abbrev pub SameP2p : P2pMessage → P2pMessage → Type 0
-SameP2p m n = SameCase p2p_messages (p2p_body m) (p2p_body n)
+-- what contracts see of a message of p2p
+abbrev pub seen_p2p : P2pMessage → p2p_messages.cases.M
+seen_p2p m = p2p_messages.cases.seen (p2p_body m)

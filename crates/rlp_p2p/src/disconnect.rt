@@ -3,7 +3,7 @@
 ghost use Rattle.std.specs.Prelude.{◌≡◌};
 ghost use Rattle.rlp_p2p.specs.Disconnect.{NamedIfPossible, disconnect, reason, reason_number, told_reason};
 
-use rlp::{Decodable, DecoderError, Encodable, Field, Rlp, RlpStream, RoundTrip, StrictRead};
+use rlp::{Decodable, DecoderError, Encodable, Rlp, RlpStream, RoundTrip, StrictRead};
 use std::alloc::{AllocError, Global};
 
 /// Why a client ends a connection: a number of one byte, by its name in RLPx.
@@ -99,11 +99,7 @@ impl Encodable for DisconnectReason {
 
 /// Read as its number is. It doesn't allocate.
 impl Decodable for DisconnectReason {
-    ghost gives = { reason.gives };
-
-    ghost faults = { reason.faults };
-
-    ghost may_lack_memory = { reason.may_lack };
+    ghost reading = { reason.reading };
 
     fn decode(alloc: Global, rlp: &Rlp<'_>) -> Result<DisconnectReason, DecoderError> {
         let number = rlp.as_val(alloc)?;
@@ -157,17 +153,13 @@ impl Encodable for Disconnect {
 
 /// Reading a list fails as reading a struct of one field does, and else as reading a number does.
 impl Decodable for Disconnect {
-    ghost gives = { disconnect.gives };
-
-    ghost faults = { disconnect.faults };
-
-    ghost may_lack_memory = { disconnect.may_lack };
+    ghost reading = { disconnect.reading };
 
     fn decode(alloc: Global, rlp: &Rlp<'_>) -> Result<Disconnect, DecoderError> {
         if rlp.is_list() {
             return match rlp::decode_struct(alloc, rlp) {
                 Ok(fields) => {
-                    let (Field(reason), no_more) = fields;
+                    let (reason, no_more) = fields;
                     let () = no_more;
                     Ok(Disconnect::Listed(reason))
                 }

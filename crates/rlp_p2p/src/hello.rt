@@ -1,11 +1,10 @@
 //! Greetings of the capability `p2p` of RLPx.
 
-ghost use Rattle.std.specs.Prelude.{refl};
 ghost use Rattle.rlp_p2p.specs.Hello.{node_id, capability, further_fields, hello};
 
 use rlp::{
-    AppendFields, Decodable, DecodeFields, DecoderError, Encodable, FieldFault, Fields,
-    FixedFields, Flattened, ListOf, RawItem, Rlp, RlpStream, RoundTrip, StrictRead,
+    AppendFields, Decodable, DecodeFields, DecoderError, Encodable, Fields, FixedFields, Flattened,
+    ListOf, RawItem, Rlp, RlpStream, RoundTrip, StrictRead,
 };
 use std::alloc::{AllocError, Global};
 
@@ -27,11 +26,7 @@ impl Encodable for NodeId {
 /// Read as the array of the bytes is. Fails with `RlpIsTooShort` if the string is shorter, and with
 /// `RlpIsTooBig` if it is longer. It doesn't allocate.
 impl Decodable for NodeId {
-    ghost gives = { node_id.gives };
-
-    ghost faults = { node_id.faults };
-
-    ghost may_lack_memory = { node_id.may_lack };
+    ghost reading = { node_id.reading };
 
     fn decode(alloc: Global, rlp: &Rlp<'_>) -> Result<NodeId, DecoderError> {
         let bytes = rlp.as_val(alloc)?;
@@ -68,11 +63,7 @@ impl Encodable for Capability {
 }
 
 impl Decodable for Capability {
-    ghost gives = { capability.gives };
-
-    ghost faults = { capability.faults };
-
-    ghost may_lack_memory = { capability.may_lack };
+    ghost reading = { capability.reading };
 
     fn decode(alloc: Global, rlp: &Rlp<'_>) -> Result<Capability, DecoderError> {
         rlp::decode_fields!(alloc, rlp, Capability { name, version })
@@ -115,12 +106,8 @@ impl DecodeFields for FurtherItem {
         len == 1
     }
 
-    fn decode_fields(
-        alloc: Global,
-        fields: &mut Fields<'_>,
-        len: usize,
-    ) -> Result<FurtherItem, FieldFault> {
-        rlp::decode_fields!(alloc, fields, len, FurtherItem { item })
+    fn decode_fields(alloc: Global, fields: &mut Fields<'_>) -> Result<FurtherItem, DecoderError> {
+        rlp::decode_fields!(fields alloc, fields, FurtherItem { item })
     }
 }
 
@@ -128,8 +115,6 @@ impl FixedFields for FurtherItem {
     fn width() -> Option<usize> {
         Some(1)
     }
-
-    ghost none_more = { refl };
 }
 
 /// The first message of a connection, 0x00 of `p2p`: the list of its five fields, and of further
@@ -173,11 +158,7 @@ impl Encodable for Hello {
 }
 
 impl Decodable for Hello {
-    ghost gives = { hello.gives };
-
-    ghost faults = { hello.faults };
-
-    ghost may_lack_memory = { hello.may_lack };
+    ghost reading = { hello.reading };
 
     fn decode(alloc: Global, rlp: &Rlp<'_>) -> Result<Hello, DecoderError> {
         rlp::decode_fields!(

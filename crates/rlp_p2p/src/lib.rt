@@ -7,7 +7,6 @@ mod disconnect;
 mod hello;
 pub mod message;
 mod p2p_message;
-mod record;
 mod session;
 
 pub use disconnect::{Disconnect, DisconnectReason};

@@ -1,11 +1,11 @@
 //! Messages with their ids: the encoding of the id, and then the encoding of the body.
 
-ghost use Rattle.std.specs.Prelude.{◌≡◌, ◌+◌, ◌++◌, ◌⊎◌, ◌<◌, ℕ, IfErr, IfOk, OnOk};
+ghost use Rattle.std.specs.Prelude.{◌≡◌, ◌+◌, ◌++◌, Err, IfErr, IfOk, Ok, OnOk};
 ghost use Rattle.rlp.specs.Format.Encoding.{encoding};
 ghost use Rattle.rlp.specs.Values.Value.{number_item};
-ghost use Rattle.rlp.specs.Values.ValueReading.{FaultsAsNumber, GivesNumber, IsCustom};
+ghost use Rattle.rlp.specs.Form.{Gives, fault_of, number};
 ghost use Rattle.rlp.specs.Views.View.{view_of};
-ghost use Rattle.rlp_p2p.specs.Message.{unknown_message};
+ghost use Rattle.rlp_p2p.specs.Message.{numbered_of};
 
 use bytes::BytesMut;
 use rlp::{DecoderError, Encodable, Rlp, RlpStream};
@@ -45,12 +45,11 @@ impl<'a> Numbered<'a> {
     /// offset.
     pub fn of(alloc: Global, offset: u8, bytes: &'a [u8]) -> Result<Numbered<'a>, DecoderError>
         ensures id { IfOk result
-            (λ m. GivesNumber 8 (view_of bytes.now) (offset + m.number)) }
-        ensures value { IfOk result (λ m. bytes.now
+            (λ m. Gives (number 8).reading (view_of bytes.now) (offset + m.number)) }
+        ensures whole { IfOk result (λ m. bytes.now
             ≡ encoding (number_item (offset + m.number)) ++ m.body.now) }
-        ensures fault { IfErr result (λ e. FaultsAsNumber 8 (view_of bytes.now) e
-            ⊎ ((id : ℕ) × (GivesNumber 8 (view_of bytes.now) id
-            × ((id < offset) × IsCustom unknown_message e)))) }
+        ensures value { IfOk result (λ m. numbered_of offset bytes.now ≡ Ok (m.number, m.body.now)) }
+        ensures fault { IfErr result (λ e. numbered_of offset bytes.now ≡ Err (fault_of e)) }
     {
         let view = Rlp::new(bytes);
         let id: u64 = view.as_val(alloc)?;
@@ -77,7 +76,7 @@ impl<'a> Numbered<'a> {
 macro_rules! decode_numbered {
     ($alloc:expr, $message:expr, $($number:literal => $variant:path),+ $(,)?) => {
         match $message.number {
-            $($number => match rlp::decode_whole($alloc, $message.body) {
+            $($number => match rlp::decode_strict($alloc, $message.body) {
                 Ok(body) => Ok($variant(body)),
                 Err(fault) => Err(fault),
             },)+

@@ -1,11 +1,11 @@
 //! Messages of the capability `p2p` of RLPx, with their ids.
 
-ghost use Rattle.std.specs.Prelude.{◌≡◌, IfErr, IfOk, OnOk};
+ghost use Rattle.std.specs.Prelude.{◌≡◌, ◌⊎◌, Err, IfErr, IfOk, Ok, OnOk};
 ghost use Rattle.rlp.specs.DecoderError.TheVariants.{OutOfMemory};
-ghost use Rattle.rlp.specs.Format.Encoding.{encoding};
-ghost use Rattle.rlp.specs.Codecs.Sums.{case_item};
-ghost use Rattle.rlp_p2p.specs.Message.{BodyFails, MessageFails};
-ghost use Rattle.rlp_p2p.specs.P2pMessage.{FitsP2p, p2p_body, p2p_bytes, p2p_messages};
+ghost use Rattle.rlp.specs.Form.{fault_of};
+ghost use Rattle.rlp.specs.Views.View.{strict_view_of};
+ghost use Rattle.rlp_p2p.specs.Message.{message_of};
+ghost use Rattle.rlp_p2p.specs.P2pMessage.{FitsP2p, p2p_body, p2p_bytes, p2p_messages, seen_p2p};
 
 use crate::message::{Numbered, write};
 use crate::{Disconnect, Hello, Ping, Pong};
@@ -29,7 +29,7 @@ pub enum P2pMessage {
 impl P2pMessage {
     /// Returns the number of the message within the capability.
     pub fn number(&self) -> u8
-        ensures { result ≡ p2p_messages.tag (p2p_body self.now) }
+        ensures { result ≡ p2p_messages.cases.tag (p2p_body self.now) }
     {
         match self {
             P2pMessage::Hello(_) => 0x00,
@@ -60,8 +60,12 @@ impl P2pMessage {
     /// Fails as reading a `u64` does if the bytes begin with no id, with `Custom("unknown message")`
     /// for an id below the offset or without a message, and else with the strict fault of the body.
     pub fn from_message(alloc: Global, offset: u8, bytes: &[u8]) -> Result<P2pMessage, DecoderError>
-        ensures value { IfOk result (λ m. FitsP2p m × (bytes.now ≡ p2p_bytes offset m)) }
-        ensures fault { IfErr result (λ e. MessageFails offset p2p_messages bytes.now e) }
+        ensures whole { IfOk result (λ m. FitsP2p m × (bytes.now ≡ p2p_bytes offset m)) }
+        ensures value { IfOk result
+            (λ m. (message_of offset p2p_messages.cases.read bytes.now).result ≡ Ok (seen_p2p m)) }
+        ensures fault { IfErr result
+            (λ e. ((message_of offset p2p_messages.cases.read bytes.now).result ≡ Err (fault_of e))
+            ⊎ (e ≡ OutOfMemory)) }
         ensures memory { (m : P2pMessage) → FitsP2p m → bytes.now ≡ p2p_bytes offset m
             → IfErr result (λ e. e ≡ OutOfMemory) }
     {
@@ -74,11 +78,10 @@ impl P2pMessage {
 
 // Reads the body of a message by its number.
 fn decode_body(alloc: Global, message: &Numbered<'_>) -> Result<P2pMessage, DecoderError>
-    ensures value { IfOk result (λ m. FitsP2p m
-        × ((message.now.number ≡ p2p_messages.tag (p2p_body m))
-        × (message.now.body.now ≡ encoding (case_item p2p_messages (p2p_body m))))) }
-    ensures fault { IfErr result
-        (λ e. BodyFails p2p_messages message.now.number message.now.body.now e) }
+    ensures value { IfOk result (λ m. (p2p_messages.cases.read message.now.number
+        (strict_view_of message.now.body.now)).result ≡ Ok (seen_p2p m)) }
+    ensures fault { IfErr result (λ e. ((p2p_messages.cases.read message.now.number
+        (strict_view_of message.now.body.now)).result ≡ Err (fault_of e)) ⊎ (e ≡ OutOfMemory)) }
 {
     crate::decode_numbered!(
         alloc,

@@ -22,11 +22,7 @@ impl Encodable for Ping {
 }
 
 impl Decodable for Ping {
-    ghost gives = { ping.gives };
-
-    ghost faults = { ping.faults };
-
-    ghost may_lack_memory = { ping.may_lack };
+    ghost reading = { ping.reading };
 
     fn decode(alloc: Global, rlp: &Rlp<'_>) -> Result<Ping, DecoderError> {
         match rlp::decode_struct(alloc, rlp) {
@@ -61,11 +57,7 @@ impl Encodable for Pong {
 }
 
 impl Decodable for Pong {
-    ghost gives = { pong.gives };
-
-    ghost faults = { pong.faults };
-
-    ghost may_lack_memory = { pong.may_lack };
+    ghost reading = { pong.reading };
 
     fn decode(alloc: Global, rlp: &Rlp<'_>) -> Result<Pong, DecoderError> {
         match rlp::decode_struct(alloc, rlp) {

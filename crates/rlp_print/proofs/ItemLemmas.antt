@@ -1,22 +1,21 @@
 -- Lists are taken item by item, and items by what their bytes begin with.
 use Rattle.std.specs.Prelude.{if◌then◌else◌, not}
 use Rattle.std.proofs.Common.{◌≡◌, ◌≢◌, ◌<◌, ◌-◌, ◌==◌, ◌++◌, ℕ, zero, suc, Bool, true, false, Option, Some, None, List, [], ◌∷◌, length, map, refl, sym, ap, ◌∙◌, arith, Result, Ok, Err}
-use Rattle.std.proofs.lemmas.Bool.{cond-false, cond-true}
-use Rattle.std.proofs.lemmas.Bool.Decides.{nat_tests}
-use Rattle.rlp.specs.{DecoderError.DecoderError, Format.Split.items, Format.StringReading.read_string}
+use Rattle.std.proofs.{lemmas.Bool.Decides.nat_tests, lemmas.Bool.cond-false, lemmas.Bool.cond-true}
 use Rattle.rlp.specs.Format.Item.{Item, items_from, list, listed, string}
 use Rattle.rlp.specs.Values.RawItem.{item_by, item_within, raw_item_of, string_or_none}
 use Rattle.rlp.specs.Views.View.{View, item_views, view_of}
+use Rattle.rlp.specs.{DecoderError.DecoderError, Format.Split.items, Format.StringReading.read_string}
 use Rattle.rlp_trie.specs.HexPrefix.{ends_in_leaf}
 use Rattle.rlp_print.specs.Items.{branch_entries, front_values, item_value, items_values, kept_value, last_item, pair_entries, pair_value, string_of, value_by, view_items}
+use Rattle.rlp_print.specs.Value.{Steps, after, after_items, Value, array, bytes, content, object, values_of}
+use Rattle.rlp_print.specs.declared.sink.Bracket.TheVariants.{Square}
 use Rattle.rlp_print.specs.NodeRecords.{key_value, string_content}
-use Rattle.rlp_print.specs.Steps.{Steps, after, after_items, squares}
-use Rattle.rlp_print.specs.Value.{Value, array, bytes, content, object, values_of}
 
 -- ---- lists
 
 pub items_taken : {A S : Type 0} (shown : A → Value) (st : Steps S) (name : List ℕ) (xs : List A) (s : S) → 0 < length xs
-    → after st name (array (values_of shown xs)) s ≡ st.finish squares (after_items st name 0 (values_of shown xs) (st.begin squares s))
+    → after st name (array (values_of shown xs)) s ≡ st.finish Square (after_items st name 0 (values_of shown xs) (st.begin Square s))
 items_taken shown st name [] s some = absurd (omega (arith, some))
 items_taken shown st name (x ∷ xs) s some = refl
 

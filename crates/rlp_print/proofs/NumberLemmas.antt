@@ -1,19 +1,11 @@
--- Numbers: of one digit, and what `v` says.
-use Rattle.std.proofs.Common.{◌≡◌, ◌≢◌, ◌==◌, ◌||◌, ◌∙◌, ℕ, zero, suc, ◌+◌, ◌-◌, ◌*◌, ◌/◌, ◌%◌, ◌^◌, ◌<◌, ◌≤◌, ◌⊎◌, inl, inr, Bool, true, false, nat_lt, Option, Some, None, [], ◌∷◌, refl, ap, arith, ⊎_elim}
+-- What `v` says.
+use Rattle.std.proofs.Common.{◌≡◌, ◌≢◌, ◌==◌, ◌||◌, ◌∙◌, ℕ, zero, suc, ◌+◌, ◌-◌, ◌*◌, ◌/◌, ◌%◌, ◌^◌, ◌<◌, ◌≤◌, ◌⊎◌, inl, inr, Bool, true, false, nat_lt, Option, Some, None, refl, ap, arith, ⊎_elim}
 use Rattle.std.proofs.lemmas.Bool.{cases_lt, cond-true, cond-false}
-use Rattle.std.proofs.lemmas.Bool.Decides.{nat_tests}
-use Rattle.std.proofs.lemmas.Nat.{div-mul-add, mod-mul-add}
-use Rattle.std.specs.Int.Digits.{number_from_digits}
+use Rattle.std.proofs.{lemmas.Bool.Decides.nat_tests, lemmas.Nat.div-mul-add, lemmas.Nat.mod-mul-add}
 use Rattle.rlp.specs.Values.Value.{bit}
 use Rattle.rlp_transactions.specs.Eip155.{FitsChain, even_v, v_of}
 use Rattle.rlp_transactions.specs.declared.eip155.Eip155.{Eip155}
-use Rattle.rlp_print.specs.{DisplayLemmas.bit_back, Texts.said_by}
-
--- the number of one digit
-pub one_digit : (d : ℕ) → number_from_digits 256 (d ∷ []) ≡ d
-one_digit d = let same : 0 * 256 + d ≡ d = omega arith in same
-
--- ---- what `v` says
+use Rattle.rlp_print.specs.{Display.bit_back, Lines.said_by}
 
 low_bit : (p : Bool) → bit p ≤ 1
 low_bit true = omega arith

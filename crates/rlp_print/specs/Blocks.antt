@@ -3,15 +3,15 @@ use Rattle.std.specs.Prelude.{codes, List, length, map}
 use Rattle.std.specs.Vec.{vec_items}
 use Rattle.keccak.specs.Keccak.{keccak256}
 use Rattle.rlp.specs.Format.Encoding.{encoding}
+use Rattle.rlp_records.specs.declared.hash.Hash.{Hash}
 use Rattle.rlp_headers.specs.Header.{header}
 use Rattle.rlp_headers.specs.declared.{header.Header.Header, header.forks.Cancun.Cancun, header.forks.London.London, header.forks.Shanghai.Shanghai}
 use Rattle.rlp_ethereum.specs.Block.{block}
 use Rattle.rlp_ethereum.specs.declared.{block.Block.Block, body.Body.Body}
-use Rattle.rlp_records.specs.declared.hash.Hash.{Hash}
 use Rattle.rlp_print.specs.Display.{Display, Fields, a_number, an_object, derived, end, field, field_if, fields_if, the_bytes, wide_number, a_list, by_lines, fields_of}
 use Rattle.rlp_print.specs.Records.{address_display, bloom_display, hash_display, hash_entries, withdrawals_display}
-use Rattle.rlp_print.specs.Value.{Entries, content, field as put, both, by_form, nothing, number}
-use Rattle.rlp_print.specs.Sums.{any_transaction_display}
+use Rattle.rlp_print.specs.Value.{Entries, content, entry, both, by_form, nothing, number}
+use Rattle.rlp_print.specs.Transactions.{any_transaction_display}
 
 -- ---- headers
 
@@ -75,8 +75,8 @@ header_hash h = record { 0 = keccak256 (encoding (header.item h)) }
 -- what JSON has besides, as in the execution API: the hashes of the ommers, and the number of bytes of the block
 abbrev pub more_of_block : Block → Entries
 more_of_block b =
-    both (put (codes "uncles") (codes "uncles") ((a_list (λ (hs : List Hash). hs) hash_display).value (map header_hash (vec_items b.ommers)))) (
-    both (put (codes "size") (codes "size") (content (number (length (encoding (block.item b)))))) nothing)
+    both (entry (codes "uncles") (codes "uncles") ((a_list (λ (hs : List Hash). hs) hash_display).value (map header_hash (vec_items b.ommers)))) (
+    both (entry (codes "size") (codes "size") (content (number (length (encoding (block.item b)))))) nothing)
 
 -- In JSON the fields of the header stand in the block itself.
 abbrev pub block_display : Display Block

@@ -1,9 +1,93 @@
 -- How the values of a type are shown, by the parts of the type. Each way to show values comes with what two values have in common that are shown alike.
-use Rattle.std.specs.Prelude.{ℕ, ◌≡◌, ◌==◌, ⊤, refl, Bool, List, Option}
-use Rattle.std.specs.{List.AllZip, Int.Digits.number_from_digits}
-use Rattle.rlp.specs.{Uint.Uint, Values.Same.SameOption, Values.Value.bit}
-use Rattle.rlp_print.specs.Value.{Content, Value, Entries, content, object, array, number, quantity, bytes, sparse, text, word, nothing, both, field as put, by_form, entries_if, values_of}
-use Rattle.rlp_print.specs.DisplayLemmas.{bit_back, content_bytes, content_number, content_told, entries_same, field_same, first_same, if_told, lines_same, rest_same, values_told}
+use Rattle.std.specs.Prelude.{ℕ, ◌==◌, ◌⊎◌, Bool, true, false, List, [], ◌∷◌, Option, Some, None, ⊤}
+use Rattle.std.specs.{Int.Digits.number_from_digits, List.AllZip}
+use Rattle.std.proofs.Common.{◌≡◌, ◌∙◌, refl, sym, ap, inl, inr}
+use Rattle.rlp.specs.{Uint.Uint, Values.Value.bit}
+use Rattle.rlp_print.specs.Value.{Content, number, place, quantity, legacy_v, bytes, bytes_or_null, sparse, path, word, text, Value, Entries, content, object, array, both, entry, by_form, entries_if, values_of, nothing, ip, type_byte, payload, empty_list}
+use Rattle.rlp_print.specs.declared.sink.Shown.TheVariants.{Number, Place, Wide, Quantity, LegacyV, Bytes, BytesOrNull, Sparse, Path, Word, Ip, TypeByte, Payload, Text, EmptyList}
+use Rattle.rlp_print.specs.declared.sink.Shown.{Shown}
+
+-- ---- when two values agree, by when their parts do
+
+-- neither is present, or both are and they agree
+abbrev pub SameOption : {A : Type 0} → (A → A → Type 0) → Option A → Option A → Type 0
+SameOption Same None None = ⊤
+SameOption Same None (Some y) = ⊥
+SameOption Same (Some x) None = ⊥
+SameOption Same (Some x) (Some y) = Same x y
+
+-- both are on the left or both on the right, and they agree there
+abbrev pub SameSum : {A B : Type 0} → (A → A → Type 0) → (B → B → Type 0) → A ⊎ B → A ⊎ B → Type 0
+SameSum Same Other (inl x) (inl y) = Same x y
+SameSum Same Other (inl x) (inr y) = ⊥
+SameSum Same Other (inr x) (inl y) = ⊥
+SameSum Same Other (inr x) (inr y) = Other x y
+
+-- ---- contents
+
+-- the number in a content
+abbrev pub content_number : Content → ℕ
+content_number (number n) = n
+content_number (place n) = n
+content_number (quantity n) = n
+content_number (legacy_v n) = n
+content_number _ = 0
+
+-- the bytes in a content
+abbrev pub content_bytes : Content → List ℕ
+content_bytes (bytes b) = b
+content_bytes (bytes_or_null b) = b
+content_bytes (sparse b) = b
+content_bytes (path b) = b
+content_bytes (word b) = b
+content_bytes (text b) = b
+content_bytes _ = []
+
+pub content_same : (c d : Content) → content c ≡ content d → c ≡ d
+content_same c d is = cc
+
+pub content_told : {A B : Type 0} (make : B → Content) (back : Content → A) (get : B → A) → ((x : B) → back (make x) ≡ get x)
+    → (x y : B) → content (make x) ≡ content (make y) → get x ≡ get y
+content_told make back get is x y same = sym (is x) ∙ ap back (content_same (make x) (make y) same) ∙ is y
+
+pub bit_back : (b : Bool) → (bit b == 1) ≡ b
+bit_back true = refl
+bit_back false = refl
+
+-- ---- fields
+
+pub entries_same : {a b : Entries} → object a ≡ object b → a ≡ b
+entries_same is = cc
+
+pub field_same : {name other json key : List ℕ} {v w : Value} → entry name json v ≡ entry other key w → v ≡ w
+field_same is = cc
+
+pub lines_same : {a b c d : Entries} → by_form a c ≡ by_form b d → a ≡ b
+lines_same is = cc
+
+pub first_same : {a b c d : Entries} → both a c ≡ both b d → a ≡ b
+first_same is = cc
+
+pub rest_same : {a b c d : Entries} → both a c ≡ both b d → c ≡ d
+rest_same is = cc
+
+-- fields that may be missing
+pub if_told : {A : Type 0} (shown other : A → Entries) (Same : A → A → Type 0) → ((x y : A) → shown x ≡ other y → Same x y)
+    → (o u : Option A) → entries_if shown o ≡ entries_if other u → SameOption Same o u
+if_told shown other Same told None None is = tt
+if_told shown other Same told (Some x) (Some y) is = told x y (first_same is)
+if_told shown other Same told _ _ is = absurd cc
+
+-- ---- lists
+
+module _ {A : Type 0} (shown : A → Value) (Same : A → A → Type 0) (told : (x y : A) → shown x ≡ shown y → Same x y) where
+  all_told : (xs ys : List A) → values_of shown xs ≡ values_of shown ys → AllZip Same xs ys
+  all_told [] [] is = tt
+  all_told (x ∷ xs) (y ∷ ys) is = (told x y cc, all_told xs ys cc)
+  all_told _ _ is = absurd cc
+
+  pub values_told : (xs ys : List A) → array (values_of shown xs) ≡ array (values_of shown ys) → AllZip Same xs ys
+  values_told xs ys is = all_told xs ys cc
 
 -- What is shown of a value. Values that are shown alike are the same, as far as `Same` says.
 pub record Display (A : Type 0) : Type 1 where
@@ -89,7 +173,7 @@ end = record { entries = λ x. nothing; Same = λ x y. ⊤; told = λ x y is. tt
 -- a field, by its name in lines, its name in JSON and what it has of the value
 abbrev pub named : {A B : Type 0} → (A → List ℕ) → (A → List ℕ) → (A → B) → Display B → Fields A
 named name json get d = record {
-  entries = λ x. put (name x) (json x) (d.value (get x));
+  entries = λ x. entry (name x) (json x) (d.value (get x));
   Same = λ x y. d.Same (get x) (get y);
   told = λ x y is. d.told (get x) (get y) (field_same is);
 }
@@ -109,9 +193,9 @@ part_if get f = record {
 -- a field that may be missing
 abbrev pub named_if : {A B : Type 0} → (A → List ℕ) → (A → List ℕ) → (A → Option B) → Display B → Fields A
 named_if name json get d = record {
-  entries = λ x. entries_if (λ b. put (name x) (json x) (d.value b)) (get x);
+  entries = λ x. entries_if (λ b. entry (name x) (json x) (d.value b)) (get x);
   Same = λ x y. SameOption d.Same (get x) (get y);
-  told = λ x y is. if_told (λ b. put (name x) (json x) (d.value b)) (λ b. put (name y) (json y) (d.value b)) d.Same
+  told = λ x y is. if_told (λ b. entry (name x) (json x) (d.value b)) (λ b. entry (name y) (json y) (d.value b)) d.Same
       (λ b c same. d.told b c (field_same same)) (get x) (get y) is;
 }
 
@@ -159,3 +243,24 @@ fields_of get f more = then_fields (part get f) more
 
 abbrev pub fields_if : {A B : Type 0} → (A → Option B) → Fields B → Fields A → Fields A
 fields_if get f more = then_fields (part_if get f) more
+
+-- a content
+abbrev pub content_of : Shown → Content
+content_of (Number n) = number n
+content_of (Place n) = place n
+content_of (Wide n) = number (number_from_digits 256 n.now.bytes)
+content_of (Quantity n) = quantity (number_from_digits 256 n.now.bytes)
+content_of (LegacyV n) = legacy_v (number_from_digits 256 n.now.bytes)
+content_of (Bytes b) = bytes b.now
+content_of (BytesOrNull b) = bytes_or_null b.now
+content_of (Sparse b) = sparse b.now
+content_of (Path b) = path b.now
+content_of (Word b) = word b.now
+content_of (Ip b) = ip b.now
+content_of (TypeByte n) = type_byte n
+content_of (Payload b) = payload b.now
+content_of (Text t) = text t.now
+content_of EmptyList = empty_list
+
+abbrev pub shown_display : Display Shown
+shown_display = a_content content_of (λ c. c) content_of (λ s. refl)

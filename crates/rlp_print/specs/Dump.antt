@@ -2,17 +2,10 @@
 use Rattle.std.specs.Prelude.{ℕ, zero, suc, ◌-◌, ◌==◌, ◌&&◌, nat_lt, nat_eq, if◌then◌else◌, Bool, false, List, [], ◌∷◌, ◌++◌, codes, decimal, length, take, drop, Result, Ok, Err}
 use Rattle.std.specs.List.{starts_with}
 use Rattle.hex.specs.Hex.{encode_lower}
-use Rattle.rlp.specs.DecoderError.{DecoderError}
-use Rattle.rlp.specs.Format.Encoding.{encoding}
-use Rattle.rlp.specs.Format.Framing.{framing}
-use Rattle.rlp.specs.Format.Item.{string}
-use Rattle.rlp.specs.Format.Split.{begins_as_list}
-use Rattle.rlp.specs.PayloadInfo.{PayloadInfo}
-use Rattle.rlp.specs.Values.Value.{number_item}
-use Rattle.rlp.specs.Views.View.{begins_as_data}
+use Rattle.rlp.specs.{DecoderError.DecoderError, Format.Encoding.encoding, Format.Split.begins_as_list, PayloadInfo.PayloadInfo, Values.Value.number_item, Views.View.begins_as_data}
+use Rattle.rlp.specs.{Format.Framing.framing, Format.Item.string}
+use Rattle.rlp_print.specs.Value.{Steps, after, Content, Value, number, place, quantity, legacy_v, bytes, bytes_or_null, sparse, path, word, ip, type_byte, payload, text, empty_list}
 use Rattle.rlp_print.specs.Lines.{line}
-use Rattle.rlp_print.specs.Steps.{Steps, after}
-use Rattle.rlp_print.specs.Value.{Content, Value, number, place, quantity, legacy_v, bytes, bytes_or_null, sparse, path, word, ip, type_byte, payload, text, empty_list}
 
 -- The rows so far, the number of bytes of the encoding, and the bytes that have no row yet.
 pub record Dump : Type 0 where
@@ -113,8 +106,8 @@ dump_steps = record {
   is_json = false;
   key = λ json s. s;
   put = λ name c s. content_row (line name c) c (encoded_bytes c) (enter c s);
-  begin = λ brackets s. s;
-  finish = λ brackets s. s;
+  begin = λ bracket s. s;
+  finish = λ bracket s. s;
 }
 
 -- the rows of a value of this name, whose encoding is b

@@ -1,13 +1,16 @@
--- What is shown of items: of items of any kind, and of nodes of the trie that are kept in their parents.
-use Rattle.std.specs.Prelude.{ℕ, ◌==◌, if◌then◌else◌, Bool, true, false, List, [], codes, length, map, Option, Some, None}
+-- What is shown of items of any kind, and of nodes of the trie.
+use Rattle.std.specs.Prelude.{ℕ, ◌==◌, if◌then◌else◌, Bool, true, false, List, [], codes, length, map, Option, Some, None, ⊤}
+use Rattle.std.specs.Vec.{vec_items}
 use Rattle.std.proofs.Common.{◌≡◌, ◌<◌, ◌∙◌, refl, sym, ap, arith}
 use Rattle.std.proofs.lemmas.Bool.Decides.{nat_tests}
 use Rattle.rlp.specs.Format.Item.{Item, Items, string, list, no_items, item_and, items_from, listed}
-use Rattle.rlp.specs.{Values.RawItem.item_within, Values.RawItem.raw_item_of, Views.View.View}
-use Rattle.rlp_trie.specs.HexPrefix.{ends_in_leaf, path_nibbles}
-use Rattle.rlp_print.specs.Display.{Display, Fields, a_content, derived, end, field, through}
-use Rattle.rlp_print.specs.Value.{Value, Entries, Values, content, object, array, bytes, path, text, nothing, both, field as put, by_form, no_values, value_and}
-use Rattle.rlp_print.specs.{DisplayLemmas.content_bytes, Texts.digits_text}
+use Rattle.rlp.specs.{Format.Encoding.encoding, Values.RawItem.item_within, Values.RawItem.raw_item_of, Views.View.View}
+use Rattle.rlp_trie.specs.{BranchChild.place_item, Child.child_item, HexPrefix.ends_in_leaf, HexPrefix.path_nibbles, TrieNode.node_item}
+use Rattle.rlp_trie.specs.declared.{branch.Branch.Branch, branch_child.BranchChild.BranchChild, child.Child.Child, extension.Extension.Extension, leaf.Leaf.Leaf, trie_node.TrieNode.TrieNode}
+use Rattle.rlp_print.specs.Display.{Display, Fields, a_content, derived, end, field, through, content_bytes, a_list, an_object, fields_of, the_bytes}
+use Rattle.rlp_print.specs.Value.{Value, Entries, Values, content, object, array, bytes, path, text, nothing, both, entry, by_form, no_values, value_and}
+use Rattle.rlp_print.specs.{Lines.digits_text, Records.hash_entries}
+use Rattle.rlp_trie.specs.declared.trie_node.TrieNode.TheVariants as node
 
 -- ---- items of any kind
 
@@ -27,11 +30,11 @@ abbrev mutual
 abbrev pub path_fields : Fields (List ℕ)
 path_fields =
     field (codes "path") (codes "path") (λ d. d) (a_content path content_bytes (λ d. d) (λ d. refl)) (
-    derived (λ d. by_form nothing (put (codes "nibbles") (codes "nibbles") (content (text (digits_text (path_nibbles d)))))) end)
+    derived (λ d. by_form nothing (entry (codes "nibbles") (codes "nibbles") (content (text (digits_text (path_nibbles d)))))) end)
 
 -- the kind of a node
 abbrev pub kind_entries : List ℕ → Entries
-kind_entries kind = put (codes "node") (codes "node") (content (text kind))
+kind_entries kind = entry (codes "node") (codes "node") (content (text kind))
 
 -- the name of the kind of a leaf or an extension, and the name of its value or its child
 abbrev pub kind_of : Bool → List ℕ
@@ -44,13 +47,13 @@ key_of false = codes "child"
 
 -- a leaf with this path and this value, or an extension with this path and this child
 abbrev pub pair_entries : Bool → List ℕ → Value → Entries
-pair_entries leaf d v = both (kind_entries (kind_of leaf)) (both (path_fields.entries d) (both (put (key_of leaf) (key_of leaf) v) nothing))
+pair_entries leaf d v = both (kind_entries (kind_of leaf)) (both (path_fields.entries d) (both (entry (key_of leaf) (key_of leaf) v) nothing))
 
 -- a branch with these children and this value
 abbrev pub branch_entries : Values → Value → Entries
 branch_entries children v =
     both (kind_entries (codes "branch")) (
-    both (put (codes "children") (codes "children") (array children)) (both (put (codes "value") (codes "value") v) nothing))
+    both (entry (codes "children") (codes "children") (array children)) (both (entry (codes "value") (codes "value") v) nothing))
 
 -- the bytes of a string; a list has none
 abbrev pub string_of : Item → List ℕ
@@ -93,12 +96,12 @@ abbrev mutual
   shown_item : Value → Item
   shown_item (content c) = string (content_bytes c)
   shown_item (array vs) = list (shown_items vs)
-  shown_item (object (both kind (both first (both (put name json v) nothing)))) = list (shown_first first (item_and (shown_item v) no_items))
+  shown_item (object (both kind (both first (both (entry name json v) nothing)))) = list (shown_first first (item_and (shown_item v) no_items))
   shown_item (object es) = list no_items
 
   shown_first : Entries → Items → Items
-  shown_first (both (put name json v) more) xs = item_and (shown_item v) xs
-  shown_first (put name json (array vs)) xs = joined (shown_items vs) xs
+  shown_first (both (entry name json v) more) xs = item_and (shown_item v) xs
+  shown_first (entry name json (array vs)) xs = joined (shown_items vs) xs
   shown_first es xs = xs
 
   shown_items : Values → Items
@@ -164,3 +167,64 @@ value_by false x = item_value x
 -- the items that views begin with, through at most this number of nested lists
 abbrev pub view_items : ℕ → List View → Items
 view_items most vs = items_from (map (λ (v : View). item_within most v.bytes) vs)
+
+-- children of nodes, as items
+abbrev pub kept_display : Display Item
+kept_display = record { value = kept_value; Same = λ x y. x ≡ y; told = kept_told }
+
+-- the hash of a node, or a node that is kept in its parent
+abbrev pub child_display : Display Child
+child_display = through child_item kept_display
+
+-- places of a branch, which show no bytes if there is no child
+abbrev pub branch_child_display : Display BranchChild
+branch_child_display = through (λ (c : BranchChild). place_item c.0) kept_display
+
+abbrev pub leaf_display : Fields Leaf
+leaf_display =
+    derived (λ (l : Leaf). kind_entries (codes "leaf")) (
+    fields_of (λ (l : Leaf). vec_items l.path.bytes) path_fields (
+    field (codes "value") (codes "value") (λ (l : Leaf). l.value) (the_bytes vec_items) end))
+
+abbrev pub extension_display : Fields Extension
+extension_display =
+    derived (λ (e : Extension). kind_entries (codes "extension")) (
+    fields_of (λ (e : Extension). vec_items e.path.bytes) path_fields (
+    field (codes "child") (codes "child") (λ (e : Extension). e.child) child_display end))
+
+abbrev pub branch_display : Fields Branch
+branch_display =
+    derived (λ (b : Branch). kind_entries (codes "branch")) (
+    field (codes "children") (codes "children") (λ (b : Branch). b.children) (a_list (λ children. children) branch_child_display) (
+    field (codes "value") (codes "value") (λ (b : Branch). b.value) (the_bytes vec_items) end))
+
+-- ---- nodes of every kind
+
+abbrev pub node_entries : TrieNode → Entries
+node_entries node.Empty = kind_entries (codes "empty")
+node_entries (node.Leaf l) = leaf_display.entries l
+node_entries (node.Extension e) = extension_display.entries e
+node_entries (node.Branch b) = branch_display.entries b
+
+-- Both are the empty trie, or both are leaves, extensions or branches that agree.
+abbrev pub SameNode : TrieNode → TrieNode → Type 0
+SameNode node.Empty node.Empty = ⊤
+SameNode (node.Leaf l) (node.Leaf m) = leaf_display.Same l m
+SameNode (node.Extension e) (node.Extension f) = extension_display.Same e f
+SameNode (node.Branch b) (node.Branch c) = branch_display.Same b c
+SameNode _ _ = ⊥
+
+pub node_told : (n m : TrieNode) → node_entries n ≡ node_entries m → SameNode n m
+node_told node.Empty node.Empty is = tt
+node_told (node.Leaf l) (node.Leaf m) is = leaf_display.told l m is
+node_told (node.Extension e) (node.Extension f) is = extension_display.told e f is
+node_told (node.Branch b) (node.Branch c) is = branch_display.told b c is
+node_told _ _ is = absurd cc
+
+-- the fields of a node
+abbrev pub node_fields_display : Fields TrieNode
+node_fields_display = record { entries = node_entries; Same = λ n m. SameNode n m; told = node_told }
+
+-- nodes with their hashes
+abbrev pub node_display : Display TrieNode
+node_display = an_object (derived (λ n. hash_entries (encoding (node_item n))) node_fields_display)

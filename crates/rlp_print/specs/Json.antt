@@ -1,8 +1,8 @@
 -- The JSON of a value, with the names of Ethereum's execution API and without spaces.
 use Rattle.std.specs.Prelude.{ℕ, Bool, true, false, List, [], ◌∷◌, ◌++◌, codes, decimal}
-use Rattle.rlp_print.specs.Steps.{Brackets, braces, squares, Steps, after}
-use Rattle.rlp_print.specs.Texts.{bytes_text, hex_text, ip_text, word_text}
-use Rattle.rlp_print.specs.Value.{Content, Value, number, place, quantity, legacy_v, bytes, bytes_or_null, sparse, path, word, ip, type_byte, payload, text, empty_list}
+use Rattle.rlp_print.specs.Value.{Steps, after, Content, Value, number, place, quantity, legacy_v, bytes, bytes_or_null, sparse, path, word, ip, type_byte, payload, text, empty_list}
+use Rattle.rlp_print.specs.Lines.{bytes_text, hex_text, ip_text, word_text}
+use Rattle.rlp_print.specs.declared.{sink.Bracket.Bracket, sink.Bracket.TheVariants.Brace, sink.Bracket.TheVariants.Square}
 
 -- the text so far, and whether a value may come next without a comma before it
 pub record Json : Type 0 where
@@ -41,13 +41,13 @@ content_json (text t) = quoted t
 content_json empty_list = codes "[]"
 
 -- the bracket that opens an object or a list, and the bracket that closes it
-abbrev pub begin_text : Brackets → List ℕ
-begin_text braces = codes "{"
-begin_text squares = codes "["
+abbrev pub begin_text : Bracket → List ℕ
+begin_text Brace = codes "{"
+begin_text Square = codes "["
 
-abbrev pub finish_text : Brackets → List ℕ
-finish_text braces = codes "}"
-finish_text squares = codes "]"
+abbrev pub finish_text : Bracket → List ℕ
+finish_text Brace = codes "}"
+finish_text Square = codes "]"
 
 -- a text after a comma, if one is needed
 abbrev pub put_text : List ℕ → Bool → Json → Json
@@ -59,8 +59,8 @@ json_steps = record {
   is_json = true;
   key = λ json s. put_text (quoted json ++ codes ":") true s;
   put = λ name c s. put_text (content_json c) false s;
-  begin = λ brackets s. put_text (begin_text brackets) true s;
-  finish = λ brackets s. record { text = s.text ++ finish_text brackets; is_fresh = false };
+  begin = λ bracket s. put_text (begin_text bracket) true s;
+  finish = λ bracket s. record { text = s.text ++ finish_text bracket; is_fresh = false };
 }
 
 -- the JSON of a value

@@ -1,13 +1,94 @@
 -- The lines of a value: for each content its name, a colon and its text.
-use Rattle.std.specs.Prelude.{ℕ, false, List, [], ◌++◌, codes, decimal}
-use Rattle.rlp_print.specs.Steps.{Steps, after}
-use Rattle.rlp_print.specs.Texts.{bytes_text, hex_text, ip_text, number_text, path_text, sparse_text, v_text, word_text}
-use Rattle.rlp_print.specs.Value.{Content, Value, number, place as a_place, quantity, legacy_v, bytes, bytes_or_null, sparse, path, word, ip, type_byte, payload, text, empty_list}
+use Rattle.std.specs.Prelude.{ℕ, ◌-◌, ◌+◌, ◌/◌, ◌%◌, ◌^◌, ◌==◌, ◌&&◌, ◌||◌, nat_lt, if◌then◌else◌, Bool, false, List, ◌++◌, [], ◌∷◌, codes, decimal, length, map, Option, Some, None}
+use Rattle.std.specs.{Char.is_ascii_digit, Char.is_ascii_lowercase, Fmt.digit_glyph, List.list_all, Net.Addr.segments_of, Net.Text.ipv4_text, Net.Text.ipv6_text}
+use Rattle.hex.specs.Hex.{encode_lower}
+use Rattle.rlp.specs.{NumberText.number_text as text_in_base, Values.Value.bit}
+use Rattle.rlp_transactions.specs.declared.eip155.Eip155.{Eip155}
+use Rattle.rlp_trie.specs.HexPrefix.{path_nibbles}
+use Rattle.rlp_print.specs.Value.{Steps, after, Content, Value, number, place, quantity, legacy_v, bytes, bytes_or_null, sparse, path, word, ip, type_byte, payload, text, empty_list}
+
+-- a number in decimal
+abbrev pub number_text : ℕ → List ℕ
+number_text n = text_in_base 10 n
+
+-- a number in hexadecimal: `0x`, and lower-case digits without leading zeros
+abbrev pub hex_text : ℕ → List ℕ
+hex_text n = codes "0x" ++ text_in_base 16 n
+
+-- bytes in hexadecimal: `0x`, and two lower-case digits for each byte
+abbrev pub bytes_text : List ℕ → List ℕ
+bytes_text b = codes "0x" ++ encode_lower b
+
+-- bytes, or in short that all are zero
+abbrev pub sparse_text : List ℕ → List ℕ
+sparse_text b = if list_all (λ byte. byte == 0) b then decimal (length b) ++ codes " zero bytes" else bytes_text b
+
+-- ---- what `v` says in the signature of a transaction without a type, as in EIP-155
+
+-- 27 and 28 say the parity, and the numbers from 35 on the chain and the parity, if the number of the chain has at most 64 bits
+abbrev pub said_by : ℕ → Option Eip155
+said_by v =
+    if (v == 27) || (v == 28) then Some (record { chain_id = None; y_parity = v == 28 })
+    else if nat_lt v 35 || nat_lt (2 ^ 65 + 34) v then None
+    else Some (record { chain_id = Some ((v - 35) / 2); y_parity = (v - 35) % 2 == 1 })
+
+-- the chain, if there is one, and the parity
+abbrev pub said_text : Option ℕ → Bool → List ℕ
+said_text (Some chain) parity = codes " (chain " ++ decimal chain ++ codes ", parity " ++ decimal (bit parity) ++ codes ")"
+said_text None parity = codes " (parity " ++ decimal (bit parity) ++ codes ")"
+
+-- what a number says, if it says something
+abbrev pub meaning_text : Option Eip155 → List ℕ
+meaning_text (Some x) = said_text x.chain_id x.y_parity
+meaning_text None = []
+
+-- `v` in decimal, and what it says
+abbrev pub v_text : ℕ → List ℕ
+v_text v = number_text v ++ meaning_text (said_by v)
+
+-- ---- paths of the trie
+
+-- nibbles as hexadecimal digits
+abbrev pub digits_text : List ℕ → List ℕ
+digits_text nibbles = map (digit_glyph false) nibbles
+
+-- nibbles in brackets
+abbrev pub nibbles_text : List ℕ → List ℕ
+nibbles_text nibbles = codes " (nibbles [" ++ digits_text nibbles ++ codes "])"
+
+-- a hex-prefix encoded path: its bytes and its nibbles
+abbrev pub path_text : List ℕ → List ℕ
+path_text d = bytes_text d ++ nibbles_text (path_nibbles d)
+
+-- ---- addresses
+
+-- an IPv4 address has 4 bytes, and an IPv6 address 16; other bytes are in hexadecimal
+abbrev pub ip_text : List ℕ → List ℕ
+ip_text d = if length d == 4 then ipv4_text d else if length d == 16 then ipv6_text (segments_of d) else bytes_text d
+
+-- ---- words
+
+-- whether a byte is a lower-case letter or a digit
+abbrev pub is_word_byte : ℕ → Bool
+is_word_byte c = is_ascii_lowercase c || is_ascii_digit c
+
+-- whether bytes begin with a lower-case letter
+abbrev pub begins_with_letter : List ℕ → Bool
+begins_with_letter [] = false
+begins_with_letter (c ∷ cs) = is_ascii_lowercase c
+
+-- whether bytes are a word: lower-case letters and digits, of which the first is a letter
+abbrev pub is_word : List ℕ → Bool
+is_word d = begins_with_letter d && list_all is_word_byte d
+
+-- a word as it is, and other bytes in hexadecimal
+abbrev pub word_text : List ℕ → List ℕ
+word_text d = if is_word d then d else bytes_text d
 
 -- the text of a content
 abbrev pub content_text : Content → List ℕ
 content_text (number n) = number_text n
-content_text (a_place n) = decimal n
+content_text (place n) = decimal n
 content_text (quantity n) = hex_text n
 content_text (legacy_v n) = v_text n
 content_text (bytes b) = bytes_text b
@@ -31,8 +112,8 @@ line_steps = record {
   is_json = false;
   key = λ json s. s;
   put = λ name c s. s ++ line name c;
-  begin = λ brackets s. s;
-  finish = λ brackets s. s;
+  begin = λ bracket s. s;
+  finish = λ bracket s. s;
 }
 
 -- the lines of a value with a name

@@ -4,9 +4,9 @@ use Rattle.std.specs.{Int.Digits.number_from_digits, Str.bytes_eq, Vec.vec_items
 use Rattle.rlp.specs.Format.Item.{Item, string, list}
 use Rattle.rlp.specs.Values.RawItem.{raw_item_of}
 use Rattle.rlp_node_record.specs.declared.{node_fields.NodeFields.NodeFields, node_fields.NodePair.NodePair}
-use Rattle.rlp_print.specs.Display.{Display, a_list, a_number, a_word, an_object, end, field, the_bytes}
+use Rattle.rlp_print.specs.Display.{Display, a_list, a_number, a_word, an_object, end, field, the_bytes, content_same}
 use Rattle.rlp_print.specs.Value.{Content, Value, content, bytes, ip, number, word}
-use Rattle.rlp_print.specs.{DisplayLemmas.content_same, Items.item_told, Items.item_value}
+use Rattle.rlp_print.specs.Items.{item_told, item_value}
 
 -- ---- values of the keys that EIP-778 defines
 

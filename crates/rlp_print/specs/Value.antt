@@ -1,5 +1,6 @@
--- What is shown of a value: contents by the names of fields, and in lists by their places.
-use Rattle.std.specs.Prelude.{ℕ, List, [], ◌∷◌, Option, Some, None}
+-- What is shown of a value, and how a sink takes it.
+use Rattle.std.specs.Prelude.{ℕ, List, [], ◌∷◌, Option, Some, None, ◌+◌, Bool, if◌then◌else◌, ◌++◌, codes, decimal}
+use Rattle.rlp_print.specs.declared.{sink.Bracket.Bracket, sink.Bracket.TheVariants.Brace, sink.Bracket.TheVariants.Square}
 
 -- what is shown as one text
 pub data Content : Type 0 where
@@ -40,7 +41,7 @@ mutual
   pub data Entries : Type 0 where
     nothing : Entries
     both : Entries → Entries → Entries
-    field : List ℕ → List ℕ → Value → Entries
+    entry : List ℕ → List ℕ → Value → Entries
     by_form : Entries → Entries → Entries
 
   pub data Values : Type 0 where
@@ -56,3 +57,38 @@ values_of shown (x ∷ xs) = value_and (shown x) (values_of shown xs)
 abbrev pub entries_if : {A : Type 0} → (A → Entries) → Option A → Entries
 entries_if shown None = nothing
 entries_if shown (Some x) = both (shown x) nothing
+
+-- the name of a field in the value of a name; a whole value has no name
+abbrev pub inside : List ℕ → List ℕ → List ℕ
+inside [] own = own
+inside (c ∷ name) own = (c ∷ name) ++ codes "." ++ own
+
+-- the name of item i of a list
+abbrev pub item_name : List ℕ → ℕ → List ℕ
+item_name name i = name ++ codes "[" ++ decimal i ++ codes "]"
+
+-- What a sink does, by what it holds. A key is the JSON name of the field whose value comes next. A content comes with its whole name.
+pub record Steps (S : Type 0) : Type 0 where
+  pub is_json : Bool
+  pub key : List ℕ → S → S
+  pub put : List ℕ → Content → S → S
+  pub begin : Bracket → S → S
+  pub finish : Bracket → S → S
+
+-- what a sink holds after it took a value with this name, fields of a value with this name, or the items from place i on of a list with this name
+abbrev mutual
+  pub after : {S : Type 0} → Steps S → List ℕ → Value → S → S
+  after st name (content c) s = st.put name c s
+  after st name (object es) s = st.finish Brace (after_fields st name es (st.begin Brace s))
+  after st name (array no_values) s = st.put name empty_list s
+  after st name (array (value_and v vs)) s = st.finish Square (after_items st name 0 (value_and v vs) (st.begin Square s))
+
+  pub after_fields : {S : Type 0} → Steps S → List ℕ → Entries → S → S
+  after_fields st name nothing s = s
+  after_fields st name (both a b) s = after_fields st name b (after_fields st name a s)
+  after_fields st name (entry own json v) s = after st (inside name own) v (st.key json s)
+  after_fields st name (by_form a b) s = if st.is_json then after_fields st name b s else after_fields st name a s
+
+  pub after_items : {S : Type 0} → Steps S → List ℕ → ℕ → Values → S → S
+  after_items st name i no_values s = s
+  after_items st name i (value_and v vs) s = after_items st name (i + 1) vs (after st (item_name name i) v s)

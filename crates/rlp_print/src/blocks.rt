@@ -4,9 +4,7 @@ ghost use Rattle.std.specs.Prelude.{◌≡◌, IfOk, map};
 ghost use Rattle.rlp_print.specs.Blocks.{block_display, body_display, cancun_display, hashed_header_display, header_display, header_fields_display, header_hash, london_display, more_of_block, shanghai_display};
 ghost use Rattle.rlp_print.specs.Display.{as_shown, part};
 
-use crate::fields::{ByForm, Object, ShowFields, field, give_fields, show_fields};
-use crate::lists::Items;
-use crate::show::Show;
+use crate::show::{ByForm, Items, Object, Show, ShowFields, field, give_fields, show_fields};
 use crate::sink::{Shown, Sink};
 use rlp_ethereum::{Block, Body};
 use rlp_headers::{Cancun, Header, London, Shanghai};

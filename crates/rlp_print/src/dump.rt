@@ -2,7 +2,7 @@
 
 ghost use Rattle.std.specs.Prelude.{◌≡◌, ◌+◌, ◌≤◌, ◌++◌, [], length, string_bytes, IfOk, OnOk};
 ghost use Rattle.rlp_print.specs.Dump.{Dump as DumpSeen, content_header, dump_of, dump_steps, encoded_bytes, enter, enter_envelope, enter_lists, list_header, part_text, row, string_header};
-ghost use Rattle.rlp_print.specs.Seen.{content_of};
+ghost use Rattle.rlp_print.specs.Display.{content_of};
 
 use crate::lines::put_line;
 use crate::show::Show;
@@ -168,10 +168,14 @@ impl<'a> Dump<'a> {
     fn enter_lists(&mut self) -> Result<(), AllocError>
         ensures { OnOk result (self.new ≡ enter_lists (length self.old.rest) self.old) }
     {
-        let mut header_len = list_header(self.rest);
-        while header_len > 0 {
+        let mut most = self.rest.len();
+        while most > 0 {
+            let header_len = list_header(self.rest);
+            if header_len == 0 {
+                return Ok(());
+            }
             self.put_header(header_len, "list\n")?;
-            header_len = list_header(self.rest);
+            most -= 1;
         }
         Ok(())
     }

@@ -1,24 +1,21 @@
-//! Items of any kind, and nodes of the trie that are kept in their parents.
+//! Items of any kind, and nodes of the trie.
 
 ghost use Rattle.std.specs.Prelude.{◌≡◌, ◌≢◌, ◌∷◌, [], IfOk, length, MatchOption, not, OnOk};
 ghost use Rattle.rlp.specs.Format.Item.{list};
 ghost use Rattle.rlp.specs.Format.StringReading.{read_string};
 ghost use Rattle.rlp.specs.Values.RawItem.{item_within, string_or_none};
 ghost use Rattle.rlp.specs.Views.View.{item_views, view_of};
-ghost use Rattle.rlp_trie.specs.HexPrefix.{path_nibbles};
-ghost use Rattle.rlp_print.specs.Display.{a_text, part, through};
-ghost use Rattle.rlp_print.specs.Items.{branch_entries, item_value, kept_value, key_of, kind_of, pair_entries, path_fields, raw_item_display, value_by, view_items};
-ghost use Rattle.rlp_print.specs.Steps.{after};
-ghost use Rattle.rlp_print.specs.Texts.{digits_text};
-ghost use Rattle.rlp_print.specs.Value.{array, object, values_of};
+ghost use Rattle.rlp_print.specs.Display.{part};
+ghost use Rattle.rlp_print.specs.Items.{branch_entries, item_value, kept_value, key_of, kind_of, pair_entries, path_fields, raw_item_display, value_by, view_items, branch_child_display, branch_display, child_display, extension_display, leaf_display, node_display, node_fields_display};
+ghost use Rattle.rlp_print.specs.Value.{after, array, object, values_of};
 
-use crate::fields::{ByForm, ShowFields, field, give_fields};
-use crate::names::{inside, place_in};
-use crate::paths::put_digits;
-use crate::show::Show;
+use crate::show::{
+    ByForm, Show, ShowFields, Slice, field, give_fields, inside, place_in, show_fields,
+};
 use crate::sink::{Bracket, Shown, Sink};
+use crate::texts::put_digits;
 use rlp::{RawItem, Rlp};
-use rlp_trie::ends_in_leaf;
+use rlp_trie::{Branch, BranchChild, Child, Extension, Leaf, TrieNode, ends_in_leaf};
 use std::alloc::{AllocError, Global};
 
 impl Show for RawItem {
@@ -30,20 +27,6 @@ impl Show for RawItem {
     }
 }
 
-/// The nibbles of an encoded path.
-#[derive(Clone, Copy)]
-struct Nibbles<'a>(&'a [u8]);
-
-impl Show for Nibbles<'_> {
-    ghost display = { through (λ n. digits_text (path_nibbles n.0.now)) a_text };
-
-    fn show<S: Sink>(&self, alloc: Global, name: &str, sink: &mut S) -> Result<(), AllocError> {
-        let mut digits = String::new(alloc);
-        put_digits(self.0, &mut digits)?;
-        sink.put(name, Shown::Text(digits.as_str()))
-    }
-}
-
 /// An encoded path, and in JSON its nibbles too.
 #[derive(Clone, Copy)]
 pub(crate) struct PathFields<'a>(pub(crate) &'a [u8]);
@@ -52,7 +35,9 @@ impl ShowFields for PathFields<'_> {
     ghost fields = { part (λ p. p.0.now) path_fields };
 
     fn give<S: Sink>(&self, alloc: Global, name: &str, sink: &mut S) -> Result<(), AllocError> {
-        let nibbles = field!("nibbles" "nibbles" Nibbles(self.0));
+        let mut digits = String::new(alloc);
+        put_digits(self.0, &mut digits)?;
+        let nibbles = field!("nibbles" "nibbles" Shown::Text(digits.as_str()));
         give_fields!(alloc, name, sink; "path" "path" Shown::Path(self.0); ByForm((), nibbles);)
     }
 }
@@ -235,4 +220,91 @@ fn show_branch<S: Sink>(
     sink.key("value")?;
     show_item(alloc, value_name.as_str(), bytes, most, false, sink)?;
     sink.finish(Bracket::Brace)
+}
+
+impl ShowFields for Leaf {
+    ghost fields = { leaf_display };
+
+    fn give<S: Sink>(&self, alloc: Global, name: &str, sink: &mut S) -> Result<(), AllocError> {
+        give_fields!(alloc, name, sink;
+            "node" "node" Shown::Text("leaf");
+            PathFields(self.path.bytes.as_slice());
+            "value" "value" &self.value;
+        )
+    }
+}
+
+/// The hash in hexadecimal, or the fields of a node that is kept in its parent.
+impl Show for Child {
+    ghost display = { child_display };
+
+    fn show<S: Sink>(&self, alloc: Global, name: &str, sink: &mut S) -> Result<(), AllocError> {
+        match self {
+            Child::Node(hash) => sink.put(name, Shown::Bytes(&hash.0)),
+            Child::Inline(node) => {
+                let bytes = node.item.as_bytes();
+                show_item(alloc, name, bytes, RawItem::MAX_DEPTH, true, sink)
+            }
+        }
+    }
+}
+
+/// The child, or no bytes if there is none.
+impl Show for BranchChild {
+    ghost display = { branch_child_display };
+
+    fn show<S: Sink>(&self, alloc: Global, name: &str, sink: &mut S) -> Result<(), AllocError> {
+        match &self.0 {
+            Some(child) => child.show(alloc, name, sink),
+            None => sink.put(name, Shown::Bytes(&[])),
+        }
+    }
+}
+
+impl ShowFields for Extension {
+    ghost fields = { extension_display };
+
+    fn give<S: Sink>(&self, alloc: Global, name: &str, sink: &mut S) -> Result<(), AllocError> {
+        give_fields!(alloc, name, sink;
+            "node" "node" Shown::Text("extension");
+            PathFields(self.path.bytes.as_slice());
+            "child" "child" &self.child;
+        )
+    }
+}
+
+impl ShowFields for Branch {
+    ghost fields = { branch_display };
+
+    fn give<S: Sink>(&self, alloc: Global, name: &str, sink: &mut S) -> Result<(), AllocError> {
+        give_fields!(alloc, name, sink;
+            "node" "node" Shown::Text("branch");
+            "children" "children" Slice(self.children.as_slice());
+            "value" "value" &self.value;
+        )
+    }
+}
+
+/// The kind of the node, and its fields without the hash.
+impl ShowFields for TrieNode {
+    ghost fields = { node_fields_display };
+
+    fn give<S: Sink>(&self, alloc: Global, name: &str, sink: &mut S) -> Result<(), AllocError> {
+        match self {
+            TrieNode::Empty => give_fields!(alloc, name, sink; "node" "node" Shown::Text("empty");),
+            TrieNode::Leaf(leaf) => leaf.give(alloc, name, sink),
+            TrieNode::Extension(extension) => extension.give(alloc, name, sink),
+            TrieNode::Branch(branch) => branch.give(alloc, name, sink),
+        }
+    }
+}
+
+/// The hash of the node, and its fields.
+impl Show for TrieNode {
+    ghost display = { node_display };
+
+    fn show<S: Sink>(&self, alloc: Global, name: &str, sink: &mut S) -> Result<(), AllocError> {
+        let hash = self.hash(alloc)?;
+        show_fields!(alloc, name, sink; "hash" "hash" &hash; self;)
+    }
 }

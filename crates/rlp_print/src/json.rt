@@ -1,12 +1,12 @@
 //! JSON with the names of Ethereum's execution API.
 
-ghost use Rattle.std.specs.Prelude.{◌≡◌, ◌++◌, [], true, string_bytes, OnOk};
-ghost use Rattle.rlp_print.specs.Json.{Json as JsonSeen, comma, content_json, json_steps};
-ghost use Rattle.rlp_print.specs.Seen.{content_of};
+ghost use Rattle.std.specs.Prelude.{◌≡◌, ◌++◌, [], true, string_bytes, OnOk, IfOk};
+ghost use Rattle.rlp_print.specs.Json.{Json as JsonSeen, comma, content_json, json_steps, json_of};
+ghost use Rattle.rlp_print.specs.Display.{content_of};
 
-use crate::numbers::{put_bytes, put_hex, put_ip};
+use crate::show::Show;
 use crate::sink::{Bracket, Shown, Sink};
-use crate::words::put_word_or_bytes;
+use crate::texts::{put_bytes, put_hex, put_ip, put_word_or_bytes};
 use rlp::Uint;
 use std::alloc::{AllocError, Global};
 use std::fmt::Write;
@@ -18,6 +18,15 @@ pub struct Json {
     pub text: String,
     /// Whether a value may come next without a comma before it.
     pub is_fresh: bool,
+}
+
+/// Returns the JSON of a value, without spaces.
+pub fn json_of<T: Show>(alloc: Global, value: &T) -> Result<String, AllocError>
+    ensures { IfOk result (λ text. string_bytes text ≡ json_of (T.display.value value.now)) }
+{
+    let mut json = Json::new(alloc);
+    value.show(alloc, "", &mut json)?;
+    Ok(json.text)
 }
 
 /// Appends in quotes what an expression appends.

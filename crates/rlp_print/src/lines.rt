@@ -1,13 +1,14 @@
 //! A line for each content.
 
-ghost use Rattle.std.specs.Prelude.{◌≡◌, ◌++◌, [], List, ℕ, string_bytes, OnOk};
-ghost use Rattle.rlp_print.specs.Lines.{content_text, line, line_steps};
-ghost use Rattle.rlp_print.specs.Seen.{content_of};
+ghost use Rattle.std.specs.Prelude.{◌≡◌, ◌++◌, [], List, ℕ, string_bytes, OnOk, IfOk};
+ghost use Rattle.rlp_print.specs.Lines.{content_text, line, line_steps, lines};
+ghost use Rattle.rlp_print.specs.Display.{content_of};
 
-use crate::numbers::{put_bytes, put_decimal, put_hex, put_ip, put_sparse, put_v};
-use crate::paths::put_path;
+use crate::show::Show;
 use crate::sink::{Bracket, Shown, Sink};
-use crate::words::put_word_or_bytes;
+use crate::texts::{
+    put_bytes, put_decimal, put_hex, put_ip, put_path, put_sparse, put_v, put_word_or_bytes,
+};
 use std::alloc::{AllocError, Global};
 use std::fmt::Write;
 
@@ -27,6 +28,16 @@ impl Lines {
             text: String::new(alloc),
         }
     }
+}
+
+/// Returns the lines of a value of this name. A whole record has no name, and the lines of its
+/// fields have the names of the fields alone.
+pub fn lines_of<T: Show>(alloc: Global, name: &str, value: &T) -> Result<String, AllocError>
+    ensures { IfOk result (λ text. string_bytes text ≡ lines name.now (T.display.value value.now)) }
+{
+    let mut lines = Lines::new(alloc);
+    value.show(alloc, name, &mut lines)?;
+    Ok(lines.text)
 }
 
 /// Appends the line of a content of this name.

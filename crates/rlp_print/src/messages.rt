@@ -4,15 +4,12 @@ ghost use Rattle.std.specs.Vec.{vec_items};
 ghost use Rattle.rlp_p2p.specs.Disconnect.{reason_number};
 ghost use Rattle.rlp_print.specs.Blocks.{body_display, header_display};
 ghost use Rattle.rlp_print.specs.Display.{a_list, a_number, an_object, end, part, the_bytes, through};
-ghost use Rattle.rlp_print.specs.Eth.{block_range_update_display, block_receipts69_display, block_receipts_display, fork_id_display, get_block_headers_display, hash_or_number_display, new_block_display, new_block_hash_display, new_pooled_transaction_hashes_display, receipt69_display, status68_display, status69_display, with_request_id_display};
+ghost use Rattle.rlp_print.specs.Messages.{block_range_update_display, block_receipts69_display, block_receipts_display, fork_id_display, get_block_headers_display, hash_or_number_display, new_block_display, new_block_hash_display, new_pooled_transaction_hashes_display, receipt69_display, status68_display, status69_display, with_request_id_display, capability_display, disconnect_display, further_display, hello_display};
 ghost use Rattle.rlp_print.specs.Items.{raw_item_display};
-ghost use Rattle.rlp_print.specs.P2p.{capability_display, disconnect_display, further_display, hello_display};
 ghost use Rattle.rlp_print.specs.Records.{hash_display};
-ghost use Rattle.rlp_print.specs.Sums.{any_transaction_display};
+ghost use Rattle.rlp_print.specs.Transactions.{any_transaction_display};
 
-use crate::fields::{Object, ShowFields, give_fields, show_fields};
-use crate::lists::Items;
-use crate::show::Show;
+use crate::show::{Items, Object, Show, ShowFields, give_fields, show_fields};
 use crate::sink::{Shown, Sink};
 use rlp_eth::{
     BlockBodies, BlockHeaders, BlockRangeUpdate, BlockReceipts, BlockReceipts69, ForkHash, ForkId,

@@ -2,13 +2,10 @@
 
 ghost use Rattle.std.specs.Prelude.{◌≡◌, bytes_eq};
 ghost use Rattle.rlp.specs.Values.RawItem.{raw_item_of};
-ghost use Rattle.rlp_print.specs.Display.{through};
+ghost use Rattle.rlp_print.specs.Display.{through, content_of};
 ghost use Rattle.rlp_print.specs.NodeRecords.{is_ip, is_port_key, key_value_display, node_fields_display, node_pair_display, port_content, string_content};
-ghost use Rattle.rlp_print.specs.Seen.{content_of};
 
-use crate::fields::show_fields;
-use crate::lists::Items;
-use crate::show::Show;
+use crate::show::{Items, Show, show_fields};
 use crate::sink::{Shown, Sink};
 use rlp::{RawItem, Rlp};
 use rlp_node_record::{NodeFields, NodePair, NodeRecord};

@@ -1,14 +1,90 @@
-//! Withdrawals, accounts, logs and receipts.
+//! Numbers and strings, withdrawals, accounts, logs, receipts, and faults of records.
 
-ghost use Rattle.rlp_print.specs.Receipts.{receipt_display, status_display, typed_receipt_display};
-ghost use Rattle.rlp_print.specs.Records.{account_display, log_display, withdrawal_display, withdrawals_display};
+ghost use Rattle.std.specs.Vec.{vec_items};
+ghost use Rattle.rlp_print.specs.Display.{a_bit, a_number, a_string, the_bytes, wide_number};
+ghost use Rattle.rlp_print.specs.Records.{address_display, bloom_display, hash_display, receipt_display, status_display, typed_receipt_display, account_display, log_display, withdrawal_display, withdrawals_display, fault_display, fault_fields, place_display};
 
-use crate::fields::{ByForm, ShowFields, field, give_fields, show_fields};
-use crate::lists::Items;
-use crate::show::Show;
+use crate::show::{ByForm, Items, Object, Show, ShowFields, field, give_fields, show_fields};
 use crate::sink::{Shown, Sink};
-use rlp_headers::{Account, Log, Receipt, ReceiptStatus, TypedReceipt, Withdrawal, Withdrawals};
+use rlp::Uint;
+use rlp_headers::{
+    Account, Bloom, Log, Receipt, ReceiptStatus, TypedReceipt, Withdrawal, Withdrawals,
+};
+use rlp_records::{Address, Hash};
 use std::alloc::{AllocError, Global};
+
+impl Show for u8 {
+    ghost display = { a_number };
+
+    fn show<S: Sink>(&self, _alloc: Global, name: &str, sink: &mut S) -> Result<(), AllocError> {
+        sink.put(name, Shown::Number(u64::from(*self)))
+    }
+}
+
+impl Show for u64 {
+    ghost display = { a_number };
+
+    fn show<S: Sink>(&self, _alloc: Global, name: &str, sink: &mut S) -> Result<(), AllocError> {
+        sink.put(name, Shown::Number(*self))
+    }
+}
+
+/// 0 or 1.
+impl Show for bool {
+    ghost display = { a_bit };
+
+    fn show<S: Sink>(&self, _alloc: Global, name: &str, sink: &mut S) -> Result<(), AllocError> {
+        sink.put(name, Shown::Number(*self as u64))
+    }
+}
+
+impl Show for Uint<32> {
+    ghost display = { wide_number };
+
+    fn show<S: Sink>(&self, _alloc: Global, name: &str, sink: &mut S) -> Result<(), AllocError> {
+        sink.put(name, Shown::Wide(self))
+    }
+}
+
+impl Show for Vec<u8> {
+    ghost display = { the_bytes vec_items };
+
+    fn show<S: Sink>(&self, _alloc: Global, name: &str, sink: &mut S) -> Result<(), AllocError> {
+        sink.put(name, Shown::Bytes(self.as_slice()))
+    }
+}
+
+impl<const N: usize> Show for [u8; N] {
+    ghost display = { a_string };
+
+    fn show<S: Sink>(&self, _alloc: Global, name: &str, sink: &mut S) -> Result<(), AllocError> {
+        sink.put(name, Shown::Bytes(self))
+    }
+}
+
+impl Show for Hash {
+    ghost display = { hash_display };
+
+    fn show<S: Sink>(&self, _alloc: Global, name: &str, sink: &mut S) -> Result<(), AllocError> {
+        sink.put(name, Shown::Bytes(&self.0))
+    }
+}
+
+impl Show for Address {
+    ghost display = { address_display };
+
+    fn show<S: Sink>(&self, _alloc: Global, name: &str, sink: &mut S) -> Result<(), AllocError> {
+        sink.put(name, Shown::Bytes(&self.0))
+    }
+}
+
+impl Show for Bloom {
+    ghost display = { bloom_display };
+
+    fn show<S: Sink>(&self, _alloc: Global, name: &str, sink: &mut S) -> Result<(), AllocError> {
+        sink.put(name, Shown::Sparse(&self.0))
+    }
+}
 
 impl Show for Withdrawal {
     ghost display = { withdrawal_display };
@@ -101,5 +177,51 @@ impl Show for TypedReceipt {
             TypedReceipt::SetCode(receipt) => (4, receipt),
         };
         show_fields!(alloc, name, sink; "type" "type" Shown::TypeByte(kind); receipt;)
+    }
+}
+
+/// A place, counted from 0.
+#[derive(Debug, Clone, Copy, PartialEq, Eq)]
+pub struct Place(pub u64);
+
+impl Show for Place {
+    ghost display = { place_display };
+
+    fn show<S: Sink>(&self, _alloc: Global, name: &str, sink: &mut S) -> Result<(), AllocError> {
+        sink.put(name, Shown::Place(self.0))
+    }
+}
+
+/// What is wrong with a record. Its JSON is an object as
+/// `{"error":{"field":9,"name":"gasLimit","fault":"RlpIsTooBig"}}`.
+#[derive(Clone, Copy)]
+pub struct Fault<'a> {
+    /// The place of the field at fault, counted from 0 in the outermost record, or `None` if the
+    /// record is at fault as a whole.
+    pub field: Option<Place>,
+    /// The name of the item at fault.
+    pub name: &'a str,
+    /// The name of the fault, such as `RlpIsTooBig`, or its text. It has no quotes, backslashes and
+    /// control characters.
+    pub fault: &'a str,
+}
+
+impl ShowFields for Fault<'_> {
+    ghost fields = { fault_fields };
+
+    fn give<S: Sink>(&self, alloc: Global, name: &str, sink: &mut S) -> Result<(), AllocError> {
+        give_fields!(alloc, name, sink;
+            "field" "field" ? &self.field;
+            "name" "name" Shown::Text(self.name);
+            "fault" "fault" Shown::Text(self.fault);
+        )
+    }
+}
+
+impl Show for Fault<'_> {
+    ghost display = { fault_display };
+
+    fn show<S: Sink>(&self, alloc: Global, name: &str, sink: &mut S) -> Result<(), AllocError> {
+        show_fields!(alloc, name, sink; "error" "error" Object(self);)
     }
 }

@@ -1,8 +1,8 @@
 //! Where values are shown.
 
 ghost use Rattle.std.specs.Prelude.{◌≡◌, OnOk};
-ghost use Rattle.rlp_print.specs.Seen.{brackets_of, content_of};
-ghost use Rattle.rlp_print.specs.Steps.{Steps};
+ghost use Rattle.rlp_print.specs.Display.{content_of};
+ghost use Rattle.rlp_print.specs.Value.{Steps};
 
 use rlp::Uint;
 use std::alloc::AllocError;
@@ -78,9 +78,9 @@ pub trait Sink {
 
     /// Takes the beginning of an object or of a list that has items.
     fn begin(&mut self, bracket: Bracket) -> Result<(), AllocError>
-        ensures { OnOk result (seen self.new ≡ steps.begin (brackets_of bracket) (seen self.old)) };
+        ensures { OnOk result (seen self.new ≡ steps.begin bracket (seen self.old)) };
 
     /// Takes the end of it.
     fn finish(&mut self, bracket: Bracket) -> Result<(), AllocError>
-        ensures { OnOk result (seen self.new ≡ steps.finish (brackets_of bracket) (seen self.old)) };
+        ensures { OnOk result (seen self.new ≡ steps.finish bracket (seen self.old)) };
 }

@@ -1,37 +1,54 @@
 -- For bodies that read a value after a byte that says what it is.
-use Rattle.std.proofs.Common.{◌≡◌, ◌≢◌, ◌≤◌, ◌-◌, ℕ, List, [], ◌∷◌, ◌⊎◌, inl, inr, length, take, drop, take_all, get_or, sym, ap, ◌∙◌, arith}
-use Rattle.std.proofs.Common.{Result, Ok, Err, IfOk, IfErr, IsOkAnd}
+use Rattle.std.proofs.Common.{◌≡◌, ◌≢◌, ◌≤◌, ◌-◌, ◌^◌, ◌<◌, ℕ, Bool, true, false, List, [], ◌∷◌, ◌==◌, length, take, drop, take_all, get_or, refl, sym, ap, ◌∙◌}
+use Rattle.std.proofs.Common.{◌⊎◌, inl, inr, arith, eq-eqb, Result, Ok, Err, IfOk, IfErr, IsOkAnd}
+use Rattle.std.proofs.lemmas.Bool.{cond-true, cond-false, eqb-true}
 use Rattle.rlp.specs.DecoderError.{DecoderError}
-use Rattle.rlp.specs.DecoderError.TheVariants.{OutOfMemory}
-use Rattle.rlp.specs.Format.WrittenHeader.{AreBytes}
-use Rattle.rlp.specs.Views.View.{View, strict_view_of}
-use Rattle.rlp.specs.Values.ValueReading.{IsCustom}
 use Rattle.rlp.specs.Format.Item.{Item}
 use Rattle.rlp.specs.Format.Encoding.{encoding}
+use Rattle.rlp.specs.Format.WrittenHeader.{AreBytes}
 use Rattle.rlp.specs.Values.Value.{AreAlike}
-use Rattle.rlp_records.specs.Envelope.{FaultsAfter, MayLackAfter, faulty_rest, other_first}
+use Rattle.rlp.specs.Views.View.{View, strict_view_of}
+use Rattle.rlp_codec.specs.Form.{Answer, Fault, Form, custom, fault_of}
+use Rattle.rlp_codec.specs.Laws.{IsLawful}
+use Rattle.rlp_codec.specs.Sums.{last_case}
+use Rattle.rlp_codec.proofs.StringLaws.{ReadsStrings}
+use Rattle.rlp_codec.proofs.SumLaws.{envelope_strings, last_case_lawful}
+use Rattle.rlp_records.specs.Envelope.{read_after}
 
-module _ (kind : ℕ) (other : List ℕ) (faults : View → DecoderError → Type 0) (may_lack : View → Type 0) (d : List ℕ) where
-  -- the fault is one of the bytes, or memory may run out
-  abbrev pub FailsAfter : DecoderError → Type 0
-  FailsAfter e = FaultsAfter kind other faults d e ⊎ ((e ≡ OutOfMemory) × MayLackAfter kind may_lack d)
+module _ {M : Type 0} (kind : ℕ) (other : List ℕ) (read : View → Answer M Fault) where
+  -- bytes whose first is the byte give what the rest gives
+  pub after_kind : (d payload : List ℕ) → d ≡ kind ∷ payload → (read_after kind other read d).result ≡ (read (strict_view_of payload)).result
+  after_kind d payload is =
+      ap (λ d. (read_after kind other read d).result) is ∙ ap (λ (a : Answer M Fault). a.result) (cond-true (kind == kind) _ _ (eq-eqb kind kind refl))
 
-  -- the bytes are empty or begin with another byte
-  pub other_first_fails : (e : DecoderError) → ((payload : List ℕ) → d ≢ kind ∷ payload) → IsCustom other e → FailsAfter e
-  other_first_fails e differ custom = inl (other_first differ custom)
+  after_other_by : (first : ℕ) (payload : List ℕ) (same : Bool) → (first == kind) ≡ same → ((rest : List ℕ) → first ∷ payload ≢ kind ∷ rest)
+      → (read_after kind other read (first ∷ payload)).result ≡ Err (custom other)
+  after_other_by first payload true same differ = absurd (differ payload (ap (λ k. k ∷ payload) (eqb-true first kind same)))
+  after_other_by first payload false same differ = ap (λ (a : Answer M Fault). a.result) (cond-false (first == kind) _ _ same)
 
-  -- reading what follows the byte fails
-  pub rest_fails : {R : Type 0} (payload : List ℕ) (r : Result R DecoderError) → d ≡ kind ∷ payload
-      → IfErr r (λ e. (AreBytes payload × faults (strict_view_of payload) e) ⊎ ((e ≡ OutOfMemory) × may_lack (strict_view_of payload)))
-      → IfErr r FailsAfter
-  rest_fails payload (Ok x) is h = tt
-  rest_fails payload (Err e) is (inl fault) = inl (faulty_rest payload is fault.0 fault.1)
-  rest_fails payload (Err e) is (inr memory) = inr (memory.0, record { payload = payload; is = is; may = memory.1 })
+  -- bytes that are empty or begin with another byte give a custom fault
+  pub after_other : (d : List ℕ) → ((payload : List ℕ) → d ≢ kind ∷ payload) → (read_after kind other read d).result ≡ Err (custom other)
+  after_other [] differ = refl
+  after_other (first ∷ payload) differ = after_other_by first payload (first == kind) refl differ
 
 -- bytes whose first is the byte, and the rest of them
 pub with_first : (kind : ℕ) (d : List ℕ) → 1 ≤ length d → get_or d 0 0 ≡ kind → d ≡ kind ∷ take (length d - 1) (drop 1 d)
 with_first kind [] some first = absurd (omega arith)
 with_first kind (b ∷ d) some first = ap (λ k. k ∷ d) first ∙ ap (λ p. kind ∷ p) (sym (take_all (length (b ∷ d) - 1) d (omega arith)))
+
+module _ {A : Type 0} (kind : ℕ) (other : List ℕ) (c : Form A) (law : IsLawful c) where
+  after_only : (d : List ℕ) (x : A) → AreBytes d → length d < 2 ^ 64 → (read_after kind other c.reading.read d).result ≡ Ok (c.reading.seen x)
+      → c.Fits x × (d ≡ kind ∷ encoding (c.item x))
+  after_only [] x held short is = absurd (let no : ⊥ = cc in no)
+  after_only (first ∷ payload) x held short is =
+      (envelope_strings (last_case other kind c) (last_case_lawful other kind c law)).only (first ∷ payload) x held short is
+
+  -- the bytes of a value after the byte are read back, and no other bytes are read
+  pub after_strings : ReadsStrings c.Fits (λ x. kind ∷ encoding (c.item x)) c.reading.seen (λ m. kind ∷ encoding (c.reading.item m))
+      (λ d. (read_after kind other c.reading.read d).result)
+  after_strings =
+      let strings = envelope_strings (last_case other kind c) (last_case_lawful other kind c law) in
+      record { back = strings.back; only = after_only; fits = strings.fits; same = strings.same }
 
 module _ (kind : ℕ) (d payload : List ℕ) (is : d ≡ kind ∷ payload) where
   -- what follows the byte is the rest
@@ -49,3 +66,19 @@ module _ (kind : ℕ) (d payload : List ℕ) (is : d ≡ kind ∷ payload) where
       → IfOk r (λ w. AreAlike item w v → d ≡ kind ∷ encoding (item v))
   rest_only (Ok w) item v only = λ alike. is ∙ ap (λ s. kind ∷ s) (only alike)
   rest_only (Err e) item v only = tt
+
+  module _ {A : Type 0} (other : List ℕ) (c : Form A) where
+    -- the bytes give the value that the rest is the encoding of
+    pub rest_given : IsLawful c → length d < 2 ^ 64 → (r : Result A DecoderError) → IfOk r (λ w. c.Fits w × (payload ≡ encoding (c.item w)))
+        → IfOk r (λ w. (read_after kind other c.reading.read d).result ≡ Ok (c.reading.seen w))
+    rest_given law short (Ok w) (fit, whole) =
+        after_kind kind other c.reading.read d payload is ∙ (law.back true).back payload w (omega (arith, short, ap length is)) fit whole
+    rest_given law short (Err e) whole = tt
+
+    -- the bytes have the fault of the rest
+    pub rest_fails : {R : Type 0} (T : DecoderError → Type 0) (r : Result R DecoderError)
+        → IfErr r (λ e. ((c.reading.read (strict_view_of payload)).result ≡ Err (fault_of e)) ⊎ T e)
+        → IfErr r (λ e. ((read_after kind other c.reading.read d).result ≡ Err (fault_of e)) ⊎ T e)
+    rest_fails T (Ok w) fault = tt
+    rest_fails T (Err e) (inl bad) = inl (after_kind kind other c.reading.read d payload is ∙ bad)
+    rest_fails T (Err e) (inr memory) = inr memory

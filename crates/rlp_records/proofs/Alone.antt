@@ -1,184 +1,99 @@
--- Values of several types by themselves, as in EIP-2718: what a body that reads one has to know, and that the bytes of a value have no fault.
-use Rattle.std.specs.Prelude.{⊤}
-use Rattle.std.proofs.Common.{◌≡◌, ℕ, ◌^◌, ◌<◌, ◌≤◌, ◌⊎◌, inl, inr, ⊎_elim, true, false, List, [], ◌∷◌, length, refl, sym, ap, ◌∙◌, subst, arith, append-nil}
-use Rattle.std.proofs.Common.{Result, Ok, Err, IfOk, IfErr}
-use Rattle.std.proofs.lemmas.Bool.{cases_lt, lt-leb}
-use Rattle.rlp.specs.DecoderError.{DecoderError}
-use Rattle.rlp.specs.DecoderError.TheVariants.{OutOfMemory}
-use Rattle.rlp.specs.Format.Item.{Item, list, string}
-use Rattle.rlp.specs.Format.Encoding.{IsSized, encoding}
+-- Values of several types by themselves, as in EIP-2718: the bytes of a value are read back, and no other bytes are read.
+use Rattle.std.proofs.Common.{◌≡◌, ℕ, ◌^◌, ◌<◌, ◌⊎◌, inl, inr, Bool, true, false, List, [], length, refl, sym, ap, ◌∙◌, append-nil, Result, Ok, Err}
+use Rattle.std.proofs.lemmas.Bool.{cond-true, cond-false, lt-leb}
+use Rattle.rlp.specs.Format.Item.{Item, is_list, list, string}
+use Rattle.rlp.specs.Format.Encoding.{encoding}
 use Rattle.rlp.specs.Format.Split.{begins_as_list}
 use Rattle.rlp.specs.Format.WrittenHeader.{AreBytes}
-use Rattle.rlp.specs.Format.Item.{is_list}
-use Rattle.rlp.specs.Views.View.{View, HoldsString, strict_view_of}
-use Rattle.rlp.specs.Codec.{Codec}
-use Rattle.rlp.specs.Codecs.Sums.{Cases, FitsCase, SameCase, case_item, envelope}
-use Rattle.rlp.specs.Lemmas.Encodings.{encoding_same}
-use Rattle.rlp.specs.Lemmas.Lists.{head_same, tail_same}
-use Rattle.rlp.specs.Lemmas.Sums.{envelope_sound, list_first}
-use Rattle.rlp.specs.Lemmas.Told.{case_told}
-use Rattle.rlp.specs.Values.Same.{SameSum}
-use Rattle.rlp.specs.Values.Sums.{ByFirstByte, IsEnvelopeFault, IsOtherTag, MayLackInEnvelope, OnSum, faulty_payload, other_tag, sum_item}
-use Rattle.rlp.specs.Values.ValueReading.{FaultsAs, IsCustom, no_value}
-use Rattle.rlp_records.specs.Alone.{FaultsAlone, MayLackAlone, PayloadFails, bytes_alone}
+use Rattle.rlp.specs.Values.Sums.{OnSum, sum_item}
+use Rattle.rlp_reading.proofs.Lemmas.Sums.{list_first}
+use Rattle.rlp_codec.specs.Form.{Answer, Fault, Form, map_value}
+use Rattle.rlp_codec.specs.Laws.{CasesAreLawful, IsLawful}
+use Rattle.rlp_codec.specs.Sums.{CasesForm, envelope, seen_envelope, sum_map}
+use Rattle.rlp_codec.proofs.StringLaws.{ReadsStrings}
+use Rattle.rlp_codec.proofs.SumLaws.{envelope_strings, sums_fit, sums_written}
+use Rattle.rlp_records.specs.Alone.{bytes_alone, read_alone}
 
 -- a list by itself is its encoding
 list_alone : (x : Item) → is_list x ≡ true → bytes_alone x ≡ encoding x
 list_alone (string d) kind = cc
 list_alone (list xs) kind = refl
 
--- each number is below the first byte of every list
-abbrev pub AreBelowLists : List ℕ → Type 0
-AreBelowLists [] = ⊤
-AreBelowLists (tag ∷ tags) = (tag < 0xc0) × AreBelowLists tags
+-- a list by itself begins as a list
+pub list_alone_begins : (x : Item) → is_list x ≡ true → length (bytes_alone x) < 2 ^ 64 → begins_as_list (bytes_alone x) ≡ true
+list_alone_begins x kind short =
+    list_first x (bytes_alone x) short ([], list_alone x kind ∙ sym (append-nil (encoding x))) kind
 
-above_other : (tags : List ℕ) (k : ℕ) → 0xc0 ≤ k → AreBelowLists tags → IsOtherTag tags k
-above_other [] k above low = tt
-above_other (tag ∷ tags) k above low = (λ same. let small : tag < 0xc0 = low.0 in omega (arith, same, above, small), above_other tags k above low.1)
+-- equal answers have equal results
+result_same : {M : Type 0} {a b : Answer M Fault} → a ≡ b → a.result ≡ b.result
+result_same {M} same = ap (λ (a : Answer M Fault). a.result) same
 
--- bytes that begin with one of these numbers don't begin as a list
-not_as_list : (tags : List ℕ) (k : ℕ) (rest : List ℕ) → AreBelowLists tags → ¬ IsOtherTag tags k → begins_as_list (k ∷ rest) ≡ false
-not_as_list tags k rest low known =
-    ⊎_elim (λ small. lt-leb 0xc0 k small) (λ above. absurd (known (above_other tags k above low))) (cases_lt k 0xc0)
+-- ---- a value that was put on one side
 
--- ---- what is read after a number
+left_only : {M N : Type 0} (r : Result M Fault) (x : M) → map_value {B = M ⊎ N} inl r ≡ Ok (inl x) → r ≡ Ok x
+left_only (Ok y) x is = cc
+left_only (Err e) x is = absurd (let no : ⊥ = cc in no)
 
-module _ {B : Type 0} (unknown : List ℕ) (cases : Cases B) (tag : ℕ) (payload : List ℕ) (e : DecoderError) where
-  -- the payload of the type with this number fails
-  pub payload_of_fails : (n : ℕ) → tag ≡ n
-      → (AreBytes payload × (cases.case n).faults (strict_view_of payload) e) ⊎ ((e ≡ OutOfMemory) × (cases.case n).may_lack (strict_view_of payload))
-      → PayloadFails unknown cases tag payload e
-  payload_of_fails n same h =
-      ⊎_elim
-      (λ fault. inl (faulty_payload tag payload e refl fault.0 (subst (λ n. (cases.case n).faults (strict_view_of payload) e) (sym same) fault.1)))
-      (λ memory. inr (memory.0, subst (λ n. (cases.case n).may_lack (strict_view_of payload)) (sym same) memory.1))
-      h
+right_only : {M N : Type 0} (r : Result N Fault) (y : N) → map_value {B = M ⊎ N} inr r ≡ Ok (inr y) → r ≡ Ok y
+right_only (Ok x) y is = cc
+right_only (Err e) y is = absurd (let no : ⊥ = cc in no)
 
-  -- the number is none of the types'
-  pub unknown_type_fails : IsOtherTag cases.tags tag → IsCustom unknown e → PayloadFails unknown cases tag payload e
-  unknown_type_fails other custom = inl (other_tag tag payload e refl other custom)
+not_left : {M N : Type 0} (r : Result M Fault) (y : N) → map_value {B = M ⊎ N} inl r ≡ Ok (inr y) → ⊥
+not_left (Ok x) y is = cc
+not_left (Err e) y is = cc
 
--- a payload that is read makes a string with its number
-pub payload_given : {F : Type 0} (tag n : ℕ) (payload code : List ℕ) → tag ≡ n → F × (payload ≡ code) → F × (string (n ∷ code) ≡ string (tag ∷ payload))
-payload_given tag n payload code same h = (h.0, sym (ap (λ k. string (k ∷ payload)) same ∙ ap (λ d. string (n ∷ d)) h.1))
-
--- bytes that hold a number and a payload give what the payload gives
-pub bytes_given : {T : Type 0} (Fits : T → Type 0) (item : T → Item) (r : Result T DecoderError) (d : List ℕ) (tag : ℕ) (payload : List ℕ)
-    → d ≡ tag ∷ payload → IfOk r (λ t. Fits t × (item t ≡ string (tag ∷ payload))) → IfOk r (λ t. Fits t × (d ≡ bytes_alone (item t)))
-bytes_given Fits item (Ok t) d tag payload is h = (h.0, is ∙ sym (ap bytes_alone h.1))
-bytes_given Fits item (Err e) d tag payload is h = tt
-
--- they fail as the payload does
-pub bytes_fail : {A B T : Type 0} (bare : Codec A) (unknown : List ℕ) (cases : Cases B) (r : Result T DecoderError) (d : List ℕ) (tag : ℕ) (payload : List ℕ)
-    → begins_as_list d ≡ false → d ≡ tag ∷ payload → IfErr r (λ e. PayloadFails unknown cases tag payload e)
-    → IfErr r (λ e. FaultsAlone bare unknown cases d e ⊎ ((e ≡ OutOfMemory) × MayLackAlone bare cases d))
-bytes_fail bare unknown cases (Ok t) d tag payload kind is h = tt
-bytes_fail bare unknown cases (Err e) d tag payload kind is h =
-    ⊎_elim
-    (λ fault. inl (inr (kind, subst (λ d. IsEnvelopeFault cases.tags unknown (λ k. (cases.case k).faults) d e) (sym is) fault)))
-    (λ memory. inr (memory.0, inr (kind, record { tag = tag; payload = payload; is = is; may = memory.1 })))
-    h
+not_right : {M N : Type 0} (r : Result N Fault) (x : M) → map_value {B = M ⊎ N} inr r ≡ Ok (inl x) → ⊥
+not_right (Ok y) x is = cc
+not_right (Err e) x is = cc
 
 -- ---- values of the sum
 
-module _ {A B : Type 0} (bare : Codec A) (unknown : List ℕ) (cases : Cases B) (lists : (x : A) → is_list (bare.item x) ≡ true) where
-  abbrev SumFits : A ⊎ B → Type 0
-  SumFits s = OnSum bare.Fits (FitsCase cases) s
-
-  abbrev item_of_sum : A ⊎ B → Item
-  item_of_sum s = sum_item bare.item (λ y. string (envelope cases y)) s
-
-  -- a view that holds a number and a payload as a string fails as the payload does
-  pub typed_view_fails : {R : Type 0} (v : View) (tag : ℕ) (payload : List ℕ) (r : Result R DecoderError) → begins_as_list v.bytes ≡ false
-      → HoldsString v (tag ∷ payload) → IfErr r (λ e. PayloadFails unknown cases tag payload e)
-      → IfErr r (λ e. ByFirstByte v (bare.faults v e) (FaultsAs (IsEnvelopeFault cases.tags unknown (λ k. (cases.case k).faults)) v e)
-      ⊎ ((e ≡ OutOfMemory) × ByFirstByte v (bare.may_lack v) (MayLackInEnvelope (λ k. (cases.case k).may_lack) v)))
-  typed_view_fails v tag payload (Ok x) kind holds h = tt
-  typed_view_fails v tag payload (Err e) kind holds h =
-      ⊎_elim
-      (λ fault. inl (inr (kind, no_value (tag ∷ payload) e holds fault)))
-      (λ memory. inr (memory.0, inr (kind, record { tag = tag; payload = payload; holds = holds; may = memory.1 })))
-      h
-
-  module _ (low : AreBelowLists cases.tags) (d : List ℕ) (bytes : AreBytes d) (fits : length d < 2 ^ 64) where
-    sound_alone : (s : A ⊎ B) → SumFits s → d ≡ bytes_alone (item_of_sum s) → (e : DecoderError) → ¬ FaultsAlone bare unknown cases d e
-    sound_alone (inl x) fit is e bad =
-        let whole : d ≡ encoding (bare.item x) = is ∙ list_alone (bare.item x) (lists x) in
-        let kind : begins_as_list d ≡ true = list_first (bare.item x) d fits ([], whole ∙ sym (append-nil (encoding (bare.item x)))) (lists x) in
-        ⊎_elim (λ h. (bare.reads_strictly d x bytes fits).sound fit whole e h.1.1) (λ h. let other = h.0 in let no : ⊥ = cc in no) bad
-    sound_alone (inr y) fit is e bad =
-        let kind : begins_as_list d ≡ false =
-        ap begins_as_list is ∙ not_as_list cases.tags (cases.tag y) (encoding ((cases.case (cases.tag y)).item y)) low (cases.known y) in
-        ⊎_elim
-        (λ h. let other = h.0 in let no : ⊥ = cc in no)
-        (λ h. envelope_sound unknown cases.tags cases.tag cases.case cases.known y fit (omega (arith, ap length is)) e
-        (subst (λ d. IsEnvelopeFault cases.tags unknown (λ k. (cases.case k).faults) d e) is h.1))
-        bad
-
-    -- reading the bytes of a value fails only if memory runs out
-    pub memory_alone : {R : Type 0} (s : A ⊎ B) → SumFits s → d ≡ bytes_alone (item_of_sum s) → (r : Result R DecoderError) (M : Type 0)
-        → IfErr r (λ e. FaultsAlone bare unknown cases d e ⊎ ((e ≡ OutOfMemory) × M)) → IfErr r (λ e. e ≡ OutOfMemory)
-    memory_alone s fit is (Ok x) M h = tt
-    memory_alone s fit is (Err e) M (inl fault) = absurd (sound_alone s fit is e fault)
-    memory_alone s fit is (Err e) M (inr memory) = memory.0
-
--- ---- values with the same bytes
-
-module _ {A B : Type 0} (bare : Codec A) (cases : Cases B) (lists : (x : A) → is_list (bare.item x) ≡ true) (low : AreBelowLists cases.tags) where
+module _ {A B : Type 0} (c : Form A) (cases : CasesForm B) where
   abbrev FitsAlone : A ⊎ B → Type 0
-  FitsAlone s = OnSum bare.Fits (FitsCase cases) s
+  FitsAlone s = OnSum c.Fits cases.Fits s
 
   abbrev sum_alone : A ⊎ B → List ℕ
-  sum_alone s = bytes_alone (sum_item bare.item (λ y. string (envelope cases y)) s)
+  sum_alone s = bytes_alone (sum_item c.item (λ y. string (envelope cases y)) s)
 
-  -- lists have the same fields
-  lists_told : (x y : A) → bare.Fits x → bare.Fits y → length (bytes_alone (bare.item x)) < 2 ^ 64 → bytes_alone (bare.item x) ≡ bytes_alone (bare.item y)
-      → bare.Same x y
-  lists_told x y fit other short same =
-      let one : bytes_alone (bare.item x) ≡ encoding (bare.item x) = list_alone (bare.item x) (lists x) in
-      let two : bytes_alone (bare.item y) ≡ encoding (bare.item y) = list_alone (bare.item y) (lists y) in
-      let small : IsSized (bare.item x) = omega (arith, short, ap length one) in
-      let little : IsSized (bare.item y) = omega (arith, short, ap length same, ap length two) in
-      bare.told x y fit other (encoding_same (bare.item x) (bare.item y) small little (sym one ∙ same ∙ two))
+  abbrev seen_alone : A ⊎ B → c.reading.M ⊎ cases.M
+  seen_alone s = sum_map c.reading.seen cases.seen s
 
-  -- payloads after the same byte have the same fields
-  payloads_told : (x y : B) → FitsCase cases x → FitsCase cases y → length (envelope cases x) < 2 ^ 64 → envelope cases x ≡ envelope cases y
-      → SameCase cases x y
-  payloads_told x y fit other short same =
-      let rest = tail_same (cases.tag x) (cases.tag y) (encoding (case_item cases x)) (encoding (case_item cases y)) same in
-      let small : IsSized (case_item cases x) = omega (arith, short) in
-      let little : IsSized (case_item cases y) = omega (arith, short, ap length rest) in
-      case_told cases.tag (λ k. (cases.case k).Fits) (λ k. (cases.case k).item) (λ k. (cases.case k).Same) (λ k. (cases.case k).told) x y fit other
-      (head_same (cases.tag x) (cases.tag y) (encoding (case_item cases x)) (encoding (case_item cases y)) same)
-      (encoding_same (case_item cases x) (case_item cases y) small little rest)
+  -- the bytes of a value, by what contracts see of the value
+  abbrev written_alone : c.reading.M ⊎ cases.M → List ℕ
+  written_alone m = bytes_alone (sum_item c.reading.item (λ n. string (seen_envelope cases n)) m)
 
-  -- no list has the bytes of a payload after its byte
-  lists_apart : (x : A) (y : B) → length (bytes_alone (bare.item x)) < 2 ^ 64 → ¬ (bytes_alone (bare.item x) ≡ envelope cases y)
-  lists_apart x y short same =
-      let d = bytes_alone (bare.item x) in
-      let whole : d ≡ encoding (bare.item x) = list_alone (bare.item x) (lists x) in
-      let kind : begins_as_list d ≡ true = list_first (bare.item x) d short ([], whole ∙ sym (append-nil (encoding (bare.item x)))) (lists x) in
-      let other : begins_as_list d ≡ false =
-      ap begins_as_list same ∙ not_as_list cases.tags (cases.tag y) (encoding (case_item cases y)) low (cases.known y) in
-      let no : ⊥ = cc in no
+  -- the result of bytes by themselves
+  abbrev pub alone : List ℕ → Result (c.reading.M ⊎ cases.M) Fault
+  alone d = (read_alone c.reading.read cases.read d).result
 
-  -- values with the same bytes have the same type and the same fields
-  pub alone_told : (s t : A ⊎ B) → FitsAlone s → FitsAlone t → length (sum_alone s) < 2 ^ 64 → sum_alone s ≡ sum_alone t
-      → SameSum bare.Same (SameCase cases) s t
-  alone_told (inl x) (inl y) fit other short same = lists_told x y fit other short same
-  alone_told (inl x) (inr y) fit other short same = absurd (lists_apart x y short same)
-  alone_told (inr x) (inl y) fit other short same = absurd (lists_apart y x (omega (arith, short, ap length same)) (sym same))
-  alone_told (inr x) (inr y) fit other short same = payloads_told x y fit other short same
+  module _ (lists : (x : A) → is_list (c.item x) ≡ true) (low : (y : B) → cases.tag y < 0xc0) (law : IsLawful c) (others : CasesAreLawful cases) where
+    alone_back : (s : A ⊎ B) → FitsAlone s → length (sum_alone s) < 2 ^ 64 → alone (sum_alone s) ≡ Ok (seen_alone s)
+    alone_back (inl x) fit short =
+        let d = bytes_alone (c.item x) in
+        let whole : d ≡ encoding (c.item x) = list_alone (c.item x) (lists x) in
+        let kind : begins_as_list d ≡ true = list_alone_begins (c.item x) (lists x) short in
+        result_same (cond-true (begins_as_list d) _ _ kind) ∙ ap (map_value inl) ((law.back true).back d x short fit whole)
+    alone_back (inr y) fit short =
+        result_same (cond-false (begins_as_list (envelope cases y)) _ _ (lt-leb 0xc0 (cases.tag y) (low y)))
+        ∙ ap (map_value inr) ((envelope_strings cases others).back y fit short)
 
-  -- no value has bytes that begin with this byte, which is none of the types' and below the first byte of every list
-  pub other_byte_apart : (k : ℕ) → k < 0xc0 → IsOtherTag cases.tags k → (s : A ⊎ B) → length (sum_alone s) < 2 ^ 64 → (rest : List ℕ)
-      → ¬ (sum_alone s ≡ k ∷ rest)
-  other_byte_apart k small none (inl x) short rest same =
-      let d = bytes_alone (bare.item x) in
-      let whole : d ≡ encoding (bare.item x) = list_alone (bare.item x) (lists x) in
-      let kind : begins_as_list d ≡ true = list_first (bare.item x) d short ([], whole ∙ sym (append-nil (encoding (bare.item x)))) (lists x) in
-      let other : begins_as_list d ≡ false = ap begins_as_list same ∙ lt-leb 0xc0 k small in
-      let no : ⊥ = cc in no
-  other_byte_apart k small none (inr y) short rest same =
-      let tags = head_same (cases.tag y) k (encoding (case_item cases y)) rest same in
-      cases.known y (subst (λ n. IsOtherTag cases.tags n) (sym tags) none)
+    alone_only : (d : List ℕ) (s : A ⊎ B) (kind : Bool) → AreBytes d → length d < 2 ^ 64 → begins_as_list d ≡ kind → alone d ≡ Ok (seen_alone s)
+        → FitsAlone s × (d ≡ sum_alone s)
+    alone_only d (inl x) true held short kind is =
+        let h = law.exact.only d x held short (left_only _ _ (sym (result_same (cond-true (begins_as_list d) _ _ kind)) ∙ is)) in
+        (h.0, h.1 ∙ sym (list_alone (c.item x) (lists x)))
+    alone_only d (inl x) false held short kind is = absurd (not_right _ _ (sym (result_same (cond-false (begins_as_list d) _ _ kind)) ∙ is))
+    alone_only d (inr y) true held short kind is = absurd (not_left _ _ (sym (result_same (cond-true (begins_as_list d) _ _ kind)) ∙ is))
+    alone_only d (inr y) false held short kind is =
+        (envelope_strings cases others).only d y held short (right_only _ _ (sym (result_same (cond-false (begins_as_list d) _ _ kind)) ∙ is))
+
+    -- the bytes of a value are read back, and no other bytes are read
+    pub alone_strings : ReadsStrings FitsAlone sum_alone seen_alone written_alone alone
+    alone_strings = record {
+      back = alone_back;
+      only = λ d s held short is. alone_only d s (begins_as_list d) held short refl is;
+      fits = sums_fit c.reading.seen cases.seen c.Fits cases.Fits law.told.fits others.fits;
+      same = λ s. ap bytes_alone
+          (sums_written c.reading.seen cases.seen c.item (λ y. string (envelope cases y)) c.reading.item (λ m. string (seen_envelope cases m)) law.told.written
+          (λ y. ap string ((envelope_strings cases others).same y)) s);
+    }

@@ -1,15 +1,26 @@
 -- What the walk over bytes, and the count of what is in their envelopes, say of the items in them.
-use Rattle.std.proofs.Common.{◌≡◌, ℕ, ◌+◌, ◌-◌, ◌^◌, ◌<◌, ◌≤◌, List, length, sym, subst, ◌∙◌, arith, Result, Ok, Err, IfOk}
+use Rattle.std.specs.Prelude.{codes}
+use Rattle.std.proofs.Common.{◌≡◌, ℕ, ◌+◌, ◌-◌, ◌^◌, ◌<◌, ◌≤◌, ◌⊎◌, inl, inr, Bool, true, false, ltb, Option, None, Some, List, length, refl, sym, ap, subst, ◌∙◌}
+use Rattle.std.proofs.Common.{arith, le-ltb, lt-ltb, Result, Ok, Err, IfOk, IfErr}
+use Rattle.std.proofs.lemmas.Bool.{cond-false, cond-true}
+use Rattle.std.proofs.lemmas.Slice.Eq.{bytes_eq-Decides}
 use Rattle.rlp.specs.DecoderError.{DecoderError}
+use Rattle.rlp.specs.DecoderError.TheVariants.{OutOfMemory}
 use Rattle.rlp.specs.Format.Item.{Item}
 use Rattle.rlp.specs.Format.Encoding.{encoding}
 use Rattle.rlp.specs.Format.Strict.{IsCanonicalWithin}
-use Rattle.rlp.specs.Lemmas.Encodings.{encoding_same}
-use Rattle.rlp.specs.Values.ValueReading.{IsCustom}
-use Rattle.rlp_values.specs.Format.Walk.{IsWalked}
-use Rattle.rlp_values.specs.declared.flat.FlatItem.{FlatItem}
-use Rattle.rlp_records.specs.Bounded.{IsBoundFault, IsBounded, IsWithinBounds, items_in, items_in_envelopes, no_item, too_deep, too_many}
-use Rattle.std.specs.Prelude.{codes}
+use Rattle.rlp.specs.Format.TreeFaults.{tree_fault}
+use Rattle.rlp_format.proofs.Lemmas.Encodings.{encoding_same}
+use Rattle.rlp_reading.proofs.Lemmas.RawItems.{raw_item_of-encoding, shallow_within}
+use Rattle.rlp.specs.Values.RawItem.{raw_item_of}
+use Rattle.rlp.specs.Views.View.{View, strict_view_of}
+use Rattle.rlp_reading.specs.Format.Walk.{IsWalked}
+use Rattle.rlp_reading.specs.declared.flat.FlatItem.{FlatItem}
+use Rattle.rlp_reading.specs.declared.flat.TreeFault.{TreeFault}
+use Rattle.rlp_reading.specs.declared.flat.TreeFault.TheVariants.{Decoding, TooDeep}
+use Rattle.rlp_codec.specs.Form.{Answer, Fault, Form, custom, fault_of}
+use Rattle.rlp_codec.specs.Laws.{IsLawful}
+use Rattle.rlp_records.specs.Bounded.{IsBounded, IsWithinBounds, bound_fault, count_fault, depth_fault, is_encoding, items_in, items_in_envelopes, read_bounded, unless_fault}
 
 -- bytes are the encoding of one item
 pub one_item : (b : List ℕ) → length b < 2 ^ 64 → (x y : Item) → b ≡ encoding x → b ≡ encoding y → x ≡ y
@@ -26,10 +37,47 @@ pub read_within : {A E : Type 0} (item : A → Item) (fits : A → Type 0) (most
 read_within item fits most b (Ok w) short within read = subst (IsBounded most) (one_item b short within.x (item w) within.is read.1) within.bounded
 read_within item fits most b (Err e) short within read = tt
 
+-- ---- why bytes are refused
+
+-- bytes that are the encoding of an item within the depth are told to be one
+pub told_encoding : (b : List ℕ) → length b < 2 ^ 64 → IsCanonicalWithin 256 b → is_encoding b ≡ true
+told_encoding b short (x, is, deep) =
+    (bytes_eq-Decides (encoding (raw_item_of b)) b).1 (ap encoding (raw_item_of-encoding b x short is deep) ∙ sym is)
+
+told_by : (b : List ℕ) (t : Bool) → is_encoding b ≡ t → ¬ IsCanonicalWithin 256 b → t ≡ false
+told_by b false is none = refl
+told_by b true is none = absurd (none (raw_item_of b, sym ((bytes_eq-Decides (encoding (raw_item_of b)) b).0 is), shallow_within 256 b))
+
+-- and other bytes are told not to be one
+pub told_no_encoding : (b : List ℕ) → ¬ IsCanonicalWithin 256 b → is_encoding b ≡ false
+told_no_encoding b none = told_by b (is_encoding b) refl none
+
+-- bytes that aren't the encoding of an item within the depth have this fault as a tree
+walked_fault : (most : ℕ) (b : List ℕ) (t : TreeFault) → ¬ IsCanonicalWithin 256 b → tree_fault 256 b ≡ Some t → bound_fault most b ≡ depth_fault (Some t)
+walked_fault most b t none is = cond-false (is_encoding b) _ _ (told_no_encoding b none) ∙ ap depth_fault is
+
+pub too_deep : (most : ℕ) (b : List ℕ) → ¬ IsCanonicalWithin 256 b → tree_fault 256 b ≡ Some TooDeep → bound_fault most b ≡ Some (custom (codes "nested too deep"))
+too_deep most b none is = walked_fault most b TooDeep none is
+
+pub no_item : (most : ℕ) (b : List ℕ) (e : DecoderError) → ¬ IsCanonicalWithin 256 b → tree_fault 256 b ≡ Some (Decoding e) → bound_fault most b ≡ Some (fault_of e)
+no_item most b e none is = walked_fault most b (Decoding e) none is
+
 module _ (most n : ℕ) (b : List ℕ) (old new : List FlatItem) (walked : IsWalked (λ item. item) b 0 0 256 old 0 new n) (short : length b < 2 ^ 64) where
+  -- the fault is by the number of items
+  by_count : (r : Option Fault) → count_fault most walked.x ≡ r → bound_fault most b ≡ r
+  by_count r is =
+      cond-true (is_encoding b) _ _ (told_encoding b short (walked.x, walked.is, walked.deep))
+      ∙ ap (count_fault most) (raw_item_of-encoding b walked.x short walked.is walked.deep) ∙ is
+
+  many : most < items_in walked.x + items_in_envelopes walked.x → bound_fault most b ≡ Some (custom (codes "too many items"))
+  many more = by_count (Some (custom (codes "too many items"))) (cond-true (ltb most (items_in walked.x + items_in_envelopes walked.x)) _ _ (lt-ltb _ _ more))
+
+  few : items_in walked.x + items_in_envelopes walked.x ≤ most → bound_fault most b ≡ None
+  few less = by_count None (cond-false (ltb most (items_in walked.x + items_in_envelopes walked.x)) _ _ (le-ltb _ _ less))
+
   -- more rows were counted than an item may have
-  pub more_items : most < n → (e : DecoderError) → IsCustom (codes "too many items") e → IsBoundFault most b e
-  more_items more e custom = too_many walked.x walked.is (let total = walked.total in omega (arith, total, more)) custom
+  pub more_items : most < n → bound_fault most b ≡ Some (custom (codes "too many items"))
+  more_items more = many (let total = walked.total in omega (arith, total, more))
 
   pub not_more : most < n → ¬ IsWithinBounds most b
   not_more more within =
@@ -39,18 +87,19 @@ module _ (most n : ℕ) (b : List ℕ) (old new : List FlatItem) (walked : IsWal
       omega (arith, total, more, small)
 
   module _ (k : ℕ) (inside : (x : Item) → b ≡ encoding x → k ≡ items_in_envelopes x) where
+    few_counted : n ≤ most → k ≤ most - n → items_in walked.x + items_in_envelopes walked.x ≤ most
+    few_counted less rest = let total = walked.total in omega (arith, total, less, rest, inside walked.x walked.is)
+
     -- with those in envelopes there are few
     pub few_inside : n ≤ most → k ≤ most - n → IsWithinBounds most b
-    few_inside few rest = record {
-      x = walked.x;
-      is = walked.is;
-      bounded = (let total = walked.total in omega (arith, total, few, rest, inside walked.x walked.is), walked.deep);
-    }
+    few_inside less rest = record { x = walked.x; is = walked.is; bounded = (few_counted less rest, walked.deep) }
+
+    pub no_fault : n ≤ most → k ≤ most - n → bound_fault most b ≡ None
+    no_fault less rest = few (few_counted less rest)
 
     -- with those in envelopes there are more
-    pub more_inside : n ≤ most → most - n < k → (e : DecoderError) → IsCustom (codes "too many items") e → IsBoundFault most b e
-    more_inside few more e custom =
-        too_many walked.x walked.is (let total = walked.total in omega (arith, total, few, more, inside walked.x walked.is)) custom
+    pub more_inside : n ≤ most → most - n < k → bound_fault most b ≡ Some (custom (codes "too many items"))
+    more_inside less more = many (let total = walked.total in omega (arith, total, less, more, inside walked.x walked.is))
 
     pub not_more_inside : n ≤ most → most - n < k → ¬ IsWithinBounds most b
     not_more_inside few more within =
@@ -62,3 +111,26 @@ module _ (most n : ℕ) (b : List ℕ) (old new : List FlatItem) (walked : IsWal
 
 -- for the test of the bounds
 pub ruleset bounding = (no_item, too_deep, none_within, more_items, not_more, few_inside, more_inside, not_more_inside)
+
+-- ---- what bytes within the bounds give
+
+module _ {M : Type 0} (most : ℕ) (b : List ℕ) (read : View → Answer M Fault) where
+  -- bytes that aren't refused give what they give as a strict view
+  within_read : bound_fault most b ≡ None → (read_bounded most read b).result ≡ (read (strict_view_of b)).result
+  within_read none = ap (λ f. (unless_fault f (read (strict_view_of b))).result) none
+
+  pub refused_read : (e : Fault) → bound_fault most b ≡ Some e → (read_bounded most read b).result ≡ Err e
+  refused_read e is = ap (λ f. (unless_fault f (read (strict_view_of b))).result) is
+
+  pub bounded_fails : {R : Type 0} (W T : Type 0) (r : Result R DecoderError) → bound_fault most b ≡ None → W
+      → IfErr r (λ e. ((read (strict_view_of b)).result ≡ Err (fault_of e)) ⊎ ((e ≡ OutOfMemory) × T))
+      → IfErr r (λ e. ((read_bounded most read b).result ≡ Err (fault_of e)) ⊎ (W × ((e ≡ OutOfMemory) × T)))
+  bounded_fails W T (Ok w) none within fault = tt
+  bounded_fails W T (Err e) none within (inl bad) = inl (within_read none ∙ bad)
+  bounded_fails W T (Err e) none within (inr memory) = inr (within, memory)
+
+-- a value whose encoding the bytes are is what they give
+pub bounded_given : {A : Type 0} (most : ℕ) (b : List ℕ) (c : Form A) → IsLawful c → length b < 2 ^ 64 → bound_fault most b ≡ None → (r : Result A DecoderError)
+    → IfOk r (λ w. c.Fits w × (b ≡ encoding (c.item w))) → IfOk r (λ w. (read_bounded most c.reading.read b).result ≡ Ok (c.reading.seen w))
+bounded_given most b c law short none (Ok w) (fit, whole) = within_read most b c.reading.read none ∙ (law.back true).back b w short fit whole
+bounded_given most b c law short none (Err e) whole = tt

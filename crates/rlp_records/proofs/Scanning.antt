@@ -1,8 +1,7 @@
 -- The scan of the encoding of an item for envelopes, header by header.
-use Rattle.std.proofs.Common.{◌≡◌, ℕ, ◌+◌, ◌-◌, ◌^◌, ◌<◌, ◌≤◌, ⊎_elim, Bool, true, false, if◌then◌else◌, List, [], ◌∷◌, ◌++◌, length, take, drop, get_or}
+use Rattle.std.proofs.Common.{◌≡◌, ℕ, ◌+◌, ◌-◌, ◌^◌, ◌<◌, ◌≤◌, ⊎_elim, true, false, if◌then◌else◌, List, [], ◌∷◌, ◌++◌, length, take, drop, get_or}
 use Rattle.std.proofs.Common.{refl, sym, ap, ◌∙◌, subst, arith, length-append, append_assoc, append-nil, take_at, drop_at, zero-add, Some, None, Ok, Err}
 use Rattle.std.proofs.lemmas.Bool.{cond-false, cond-true}
-use Rattle.std.proofs.lemmas.Slice.Eq.{bytes_eq-Decides}
 use Rattle.rlp.specs.DecoderError.{DecoderError}
 use Rattle.rlp.specs.FlatItem.{FlatItem}
 use Rattle.rlp.specs.PayloadInfo.{PayloadInfo}
@@ -14,32 +13,15 @@ use Rattle.rlp.specs.Format.Header.{HasHeader, lone, payload_info, written}
 use Rattle.rlp.specs.Format.Split.{begins_as_list}
 use Rattle.rlp.specs.Format.Strict.{IsCanonical, IsCanonicalWithin, strict_fault}
 use Rattle.rlp.specs.Format.Walk.{IsWalked}
-use Rattle.rlp.specs.Lemmas.Encodings.{first_of_header, list_written, string_cases}
-use Rattle.rlp.specs.Lemmas.Frames.{encoding_item, frame_front, framed_same, framing_is, item_some, value_is}
-use Rattle.rlp.specs.Lemmas.RawItems.{list_by, raw_item_of-encoding, shallow_within}
+use Rattle.rlp_format.proofs.Lemmas.Encodings.{first_of_header, list_written, string_cases}
+use Rattle.rlp_reading.proofs.Lemmas.Frames.{encoding_item, frame_front, framed_same, framing_is, item_some, value_is}
+use Rattle.rlp_reading.proofs.Lemmas.RawItems.{list_by, raw_item_of-encoding}
 use Rattle.rlp.specs.Values.RawItem.{raw_item_of}
 use Rattle.rlp_records.proofs.AfterByte.{with_first}
-use Rattle.rlp_records.proofs.Bounds.{one_item}
+use Rattle.rlp_records.proofs.Bounds.{one_item, told_encoding, told_no_encoding}
 use Rattle.rlp_records.specs.Bounded.{bytes_counted, is_encoding, is_read_type, items_in, items_in_all_envelopes, items_in_envelopes, items_in_string, payload_items}
 
 -- ---- payloads
-
--- bytes that are the encoding of an item are told to be one
-pub told_encoding : (b : List ℕ) → length b < 2 ^ 64 → IsCanonicalWithin 256 b → is_encoding b ≡ true
-told_encoding b short (x, is, deep) =
-    (bytes_eq-Decides (encoding (raw_item_of b)) b).1 (ap encoding (raw_item_of-encoding b x short is deep) ∙ sym is)
-
-told_by : (b : List ℕ) (t : Bool) → is_encoding b ≡ t → ¬ IsCanonicalWithin 256 b → t ≡ false
-told_by b false is none = refl
-told_by b true is none = absurd (none (raw_item_of b, sym ((bytes_eq-Decides (encoding (raw_item_of b)) b).0 is), shallow_within 256 b))
-
--- and other bytes are told not to be one
-pub told_no_encoding : (b : List ℕ) → ¬ IsCanonicalWithin 256 b → is_encoding b ≡ false
-told_no_encoding b none = told_by b (is_encoding b) refl none
-
-pub no_list_counted : (b : List ℕ) → begins_as_list b ≡ false → 0 ≡ payload_items b
-no_list_counted b kind =
-    sym (cond-false (begins_as_list b) (if is_encoding b then items_in (raw_item_of b) else bytes_counted b (strict_fault b)) 0 kind)
 
 pub walk_counted : (b : List ℕ) (old new : List FlatItem) (n : ℕ) → length b < 2 ^ 64 → begins_as_list b ≡ true
     → IsWalked (λ item. item) b 0 0 256 old 0 new n → n ≡ payload_items b

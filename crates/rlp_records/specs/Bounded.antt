@@ -1,5 +1,5 @@
 -- Bounds on what is read from strangers.
-use Rattle.std.specs.Prelude.{ℕ, ◌≡◌, ◌+◌, ◌≤◌, ◌<◌, ◌&&◌, nat_le, if◌then◌else◌, Bool, List, [], ◌∷◌, Option, Some, None, length, codes}
+use Rattle.std.specs.Prelude.{ℕ, ◌≡◌, ◌+◌, ◌≤◌, ◌&&◌, nat_le, nat_lt, if◌then◌else◌, Bool, List, [], ◌∷◌, Option, Some, None, Err, length, codes}
 use Rattle.std.specs.Str.{bytes_eq}
 use Rattle.rlp.specs.DecoderError.{DecoderError}
 use Rattle.rlp.specs.Format.Item.{Item, Items, item_and, item_depth, list, no_items, string}
@@ -9,8 +9,10 @@ use Rattle.rlp.specs.Format.Split.{begins_as_list}
 use Rattle.rlp.specs.Format.Strict.{strict_fault}
 use Rattle.rlp.specs.Format.TreeFaults.{tree_fault}
 use Rattle.rlp.specs.Values.RawItem.{raw_item_of}
-use Rattle.rlp.specs.Values.ValueReading.{IsCustom}
-use Rattle.rlp_values.specs.declared.flat.TreeFault.TheVariants.{Decoding, TooDeep}
+use Rattle.rlp.specs.Views.View.{View, strict_view_of}
+use Rattle.rlp_codec.specs.Form.{Answer, Fault, custom, fault_of, here}
+use Rattle.rlp_reading.specs.declared.flat.TreeFault.{TreeFault}
+use Rattle.rlp_reading.specs.declared.flat.TreeFault.TheVariants.{Decoding, TooDeep}
 
 -- the number of strings and lists in an item: itself, and the items in it at every depth
 abbrev pub items_in : Item → ℕ
@@ -65,9 +67,26 @@ pub record IsWithinBounds (most : ℕ) (b : List ℕ) : Type 0 where
   pub is : b ≡ encoding x
   pub bounded : IsBounded most x
 
+-- the fault of an item that has more than this number of items with its envelopes
+abbrev pub count_fault : ℕ → Item → Option Fault
+count_fault most x = if nat_lt most (items_in x + items_in_envelopes x) then Some (custom (codes "too many items")) else None
+
+-- the fault of bytes that have this first fault as a tree
+abbrev pub depth_fault : Option TreeFault → Option Fault
+depth_fault None = None
+depth_fault (Some TooDeep) = Some (custom (codes "nested too deep"))
+depth_fault (Some (Decoding e)) = Some (fault_of e)
+
 -- Why bytes are refused before a value is read: they are the encoding of an item with more items, or lists nest too deep, or they aren't the encoding of an
 -- item, and the fault is the first in the order of the bytes.
-pub data IsBoundFault (most : ℕ) (b : List ℕ) (e : DecoderError) : Type 0 where
-  too_many : (x : Item) → b ≡ encoding x → most < items_in x + items_in_envelopes x → IsCustom (codes "too many items") e → IsBoundFault most b e
-  too_deep : tree_fault 256 b ≡ Some TooDeep → IsCustom (codes "nested too deep") e → IsBoundFault most b e
-  no_item : tree_fault 256 b ≡ Some (Decoding e) → IsBoundFault most b e
+abbrev pub bound_fault : ℕ → List ℕ → Option Fault
+bound_fault most b = if is_encoding b then count_fault most (raw_item_of b) else depth_fault (tree_fault 256 b)
+
+-- the answer, unless there is a fault
+abbrev pub unless_fault : {M : Type 0} → Option Fault → Answer M Fault → Answer M Fault
+unless_fault None a = a
+unless_fault (Some e) a = here (Err e)
+
+-- what bytes give within the bounds, read strictly
+abbrev pub read_bounded : {M : Type 0} → ℕ → (View → Answer M Fault) → List ℕ → Answer M Fault
+read_bounded most read b = unless_fault (bound_fault most b) (read (strict_view_of b))

@@ -25,11 +25,7 @@ impl Encodable for Address {
 /// Read as the array of the bytes is. Fails with `RlpIsTooShort` if the string is shorter, and with
 /// `RlpIsTooBig` if it is longer. It doesn't allocate.
 impl Decodable for Address {
-    ghost gives = { address.gives };
-
-    ghost faults = { address.faults };
-
-    ghost may_lack_memory = { address.may_lack };
+    ghost reading = { address.reading };
 
     fn decode(alloc: Global, rlp: &Rlp<'_>) -> Result<Address, DecoderError> {
         let bytes = rlp.as_val(alloc)?;

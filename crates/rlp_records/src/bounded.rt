@@ -1,17 +1,15 @@
 //! Reading with a bound on the number of items, for bytes of strangers.
 
-ghost use Rattle.std.specs.Prelude.{◌≡◌, ◌⊎◌, IfErr, IfOk, MatchResult};
+ghost use Rattle.std.specs.Prelude.{◌≡◌, ◌⊎◌, Err, IfErr, IfOk, IsTrue, MatchResult, None, Ok, Some};
 ghost use Rattle.rlp.specs.DecoderError.TheVariants.{OutOfMemory};
 ghost use Rattle.rlp.specs.Format.Encoding.{encoding};
-ghost use Rattle.rlp.specs.Format.WrittenHeader.{AreBytes};
 ghost use Rattle.rlp.specs.Values.Value.{AreAlike};
-ghost use Rattle.rlp.specs.Views.View.{strict_view_of};
-ghost use Rattle.rlp_records.specs.Bounded.{IsBounded, IsBoundFault, IsWithinBounds};
+ghost use Rattle.rlp_codec.specs.Form.{fault_of};
+ghost use Rattle.rlp_records.specs.Bounded.{IsBounded, IsWithinBounds, bound_fault, read_bounded};
 
-use crate::Record;
 use crate::envelope_items::{GREATEST_DEPTH, items_in_envelopes};
-use rlp::{DecoderError, FlatItem, TreeFault};
-use rlp_values::walking::walk_whole;
+use rlp::{DecoderError, FlatItem, StrictRead, TreeFault};
+use rlp_reading::walking::walk_whole;
 use std::alloc::Global;
 
 /// The record whose whole encoding the bytes are, if it has at most `most` items. Each string and
@@ -27,17 +25,18 @@ use std::alloc::Global;
 /// Fails with the first fault of the bytes if they aren't the encoding of an item, with
 /// `Custom("nested too deep")` for more than 256 lists in one another, with
 /// `Custom("too many items")`, and else with the strict fault of the record.
-pub fn decode_at_most<R: Record>(
+pub fn decode_at_most<R: StrictRead>(
     alloc: Global,
     bytes: &[u8],
     most: usize,
 ) -> Result<R, DecoderError>
     ensures whole { IfOk result (λ w. R.fits w × (bytes.now ≡ encoding (R.item w))) }
     ensures bounded { IfOk result (λ w. IsBounded most (R.item w)) }
-    ensures fault { IfErr result (λ e. IsBoundFault most bytes.now e
-        ⊎ (IsWithinBounds most bytes.now
-        × ((AreBytes bytes.now × R.faults (strict_view_of bytes.now) e)
-        ⊎ ((e ≡ OutOfMemory) × R.may_lack_memory (strict_view_of bytes.now))))) }
+    ensures value { IfOk result
+        (λ w. (read_bounded most R.reading.read bytes.now).result ≡ Ok (R.reading.seen w)) }
+    ensures fault { IfErr result
+        (λ e. ((read_bounded most R.reading.read bytes.now).result ≡ Err (fault_of e))
+        ⊎ (IsWithinBounds most bytes.now × ((e ≡ OutOfMemory) × IsTrue R.reading.takes_memory))) }
     ensures alike { (v : R) → R.fits v → bytes.now ≡ encoding (R.item v)
         → IfOk result (λ w. R.fits w × AreAlike R.item w v) }
     ensures memory { (v : R) → R.fits v → IsBounded most (R.item v)
@@ -54,7 +53,8 @@ pub fn decode_at_most<R: Record>(
 fn test_bounds(bytes: &[u8], most: usize) -> Result<(), DecoderError>
     ensures within { MatchResult result (λ _. IsWithinBounds most bytes.now)
         (λ _. ¬ IsWithinBounds most bytes.now) }
-    ensures fault { IfErr result (λ e. IsBoundFault most bytes.now e) }
+    ensures fault { MatchResult result (λ _. bound_fault most bytes.now ≡ None)
+        (λ e. bound_fault most bytes.now ≡ Some (fault_of e)) }
 {
     let count = match walk_whole::<FlatItem>(bytes, GREATEST_DEPTH, &mut []) {
         Ok(count) => count,

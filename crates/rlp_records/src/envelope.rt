@@ -1,13 +1,14 @@
 //! Envelopes of typed transactions and receipts (EIP-2718): the byte of the type, and then the
 //! encoding of the payload. An envelope isn't an item.
 
-ghost use Rattle.std.specs.Prelude.{◌≡◌, ◌∷◌, ◌⊎◌, [], OnOk, IfOk, IfErr};
+ghost use Rattle.std.specs.Prelude.{◌≡◌, ◌∷◌, ◌⊎◌, [], Err, IfErr, IfOk, IsTrue, Ok, OnOk};
 ghost use Rattle.rlp.specs.DecoderError.TheVariants.{OutOfMemory};
 ghost use Rattle.rlp.specs.Format.Encoding.{encoding};
 ghost use Rattle.rlp.specs.Format.Item.{list_of};
 ghost use Rattle.rlp.specs.Streams.Stream.{initial_state};
 ghost use Rattle.rlp.specs.Values.Value.{AreAlike};
-ghost use Rattle.rlp_records.specs.Envelope.{FaultsAfter, MayLackAfter, another_type};
+ghost use Rattle.rlp_codec.specs.Form.{fault_of};
+ghost use Rattle.rlp_records.specs.Envelope.{another_type, read_after};
 
 use bytes::{BufMut, BytesMut};
 use rlp::{AppendFields, DecoderError, Encodable, RlpStream, StrictRead, write_struct};
@@ -69,15 +70,18 @@ fn typed_stream(alloc: Global, kind: u8) -> Result<RlpStream, AllocError>
 ///
 /// Fails with `Custom("another type")` if the bytes are empty or begin with another type, and else
 /// with the strict fault of the value.
-#[tactic(auto, using(crate::proofs::AfterByte::other_first_fails))]
+#[tactic(auto, using(crate::proofs::AfterByte::after_other))]
 pub fn from_envelope<T: StrictRead>(
     alloc: Global,
     kind: u8,
     bytes: &[u8],
 ) -> Result<T, DecoderError>
     ensures whole { IfOk result (λ w. T.fits w × (bytes.now ≡ kind ∷ encoding (T.item w))) }
-    ensures fault { IfErr result (λ e. (FaultsAfter kind another_type T.faults bytes.now e)
-        ⊎ ((e ≡ OutOfMemory) × MayLackAfter kind T.may_lack_memory bytes.now)) }
+    ensures value { IfOk result
+        (λ w. (read_after kind another_type T.reading.read bytes.now).result ≡ Ok (T.reading.seen w)) }
+    ensures fault { IfErr result
+        (λ e. ((read_after kind another_type T.reading.read bytes.now).result ≡ Err (fault_of e))
+        ⊎ ((e ≡ OutOfMemory) × IsTrue T.reading.takes_memory)) }
     ensures only { (v : T) → IfOk result (λ w. AreAlike T.item w v
         → bytes.now ≡ kind ∷ encoding (T.item v)) }
     ensures alike { (v : T) → T.fits v → bytes.now ≡ kind ∷ encoding (T.item v)

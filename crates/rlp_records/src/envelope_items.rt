@@ -8,8 +8,8 @@ ghost use Rattle.rlp_records.specs.Bounded.{is_read_type, items_in_envelopes, it
 
 use crate::{ACCESS_LIST_TYPE, SET_CODE_TYPE};
 use rlp::FlatItem;
-use rlp_values::framed::{begins_as_list, first_framed, whole_framing};
-use rlp_values::walking::walk_whole;
+use rlp_reading::framed::{begins_as_list, first_framed, whole_framing};
+use rlp_reading::walking::walk_whole;
 
 /// How deep lists may nest in an item, or in the payload of an envelope.
 pub(crate) const GREATEST_DEPTH: usize = 256;

@@ -1,9 +1,10 @@
 //! Values that are sent after a byte that says their type.
 
-ghost use Rattle.std.specs.Prelude.{◌≡◌, ◌∷◌, ◌⊎◌, ℕ, IfErr, IfOk, OnOk};
+ghost use Rattle.std.specs.Prelude.{◌≡◌, ◌∷◌, ◌⊎◌, ℕ, Err, IfErr, IfOk, IsTrue, Ok, OnOk};
 ghost use Rattle.rlp.specs.DecoderError.TheVariants.{OutOfMemory};
 ghost use Rattle.rlp.specs.Format.Encoding.{encoding};
-ghost use Rattle.rlp_records.specs.Envelope.{FaultsAfter, MayLackAfter, another_type};
+ghost use Rattle.rlp_codec.specs.Form.{fault_of};
+ghost use Rattle.rlp_records.specs.Envelope.{another_type, read_after};
 
 use crate::envelope::{from_envelope, to_envelope};
 use bytes::BytesMut;
@@ -34,9 +35,12 @@ pub trait Enveloped: StrictRead {
     final fn from_bytes(alloc: Global, bytes: &[u8]) -> Result<Self, DecoderError>
         ensures whole { IfOk result
             (λ x. Self.fits x × (bytes.now ≡ TYPE ∷ encoding (Self.item x))) }
-        ensures fault { IfErr result
-            (λ e. (FaultsAfter TYPE another_type Self.faults bytes.now e)
-            ⊎ ((e ≡ OutOfMemory) × MayLackAfter TYPE Self.may_lack_memory bytes.now)) }
+        ensures value { IfOk result (λ x.
+            (read_after TYPE another_type Self.reading.read bytes.now).result
+            ≡ Ok (Self.reading.seen x)) }
+        ensures fault { IfErr result (λ e.
+            ((read_after TYPE another_type Self.reading.read bytes.now).result ≡ Err (fault_of e))
+            ⊎ ((e ≡ OutOfMemory) × IsTrue Self.reading.takes_memory)) }
         ensures memory { (x : Self) → Self.fits x
             → bytes.now ≡ TYPE ∷ encoding (Self.item x)
             → IfErr result (λ e. e ≡ OutOfMemory) }

@@ -25,11 +25,7 @@ impl Encodable for Hash {
 /// Read as the array of the bytes is. Fails with `RlpIsTooShort` if the string is shorter, and with
 /// `RlpIsTooBig` if it is longer. It doesn't allocate.
 impl Decodable for Hash {
-    ghost gives = { hash.gives };
-
-    ghost faults = { hash.faults };
-
-    ghost may_lack_memory = { hash.may_lack };
+    ghost reading = { hash.reading };
 
     fn decode(alloc: Global, rlp: &Rlp<'_>) -> Result<Hash, DecoderError> {
         let bytes = rlp.as_val(alloc)?;

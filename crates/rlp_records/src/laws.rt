@@ -1,20 +1,20 @@
-//! What holds of each type with [`Record`]: its encoding is that of its item, strict reading gives
-//! a value exactly for its whole encoding, what is written is read back, and two values with equal
-//! encodings have the same fields. [`Record`] says when fields are the same.
+//! What holds of each record, a type with [`StrictRead`]: its encoding is that of its item, strict
+//! reading gives a value exactly for its whole encoding, what is written is read back, and contracts
+//! see two values with equal encodings as the same.
 
-ghost use Rattle.std.specs.Prelude.{◌≡◌, ◌↔◌, IfErr, IfOk, IsOkAnd, OnOk};
+ghost use Rattle.std.specs.Prelude.{◌≡◌, ◌↔◌, false, IfErr, IfOk, IsOkAnd, IsTrue, OnOk};
 ghost use Rattle.rlp.specs.DecoderError.TheVariants.{OutOfMemory};
 ghost use Rattle.rlp.specs.Format.Encoding.{encoding, IsSized};
 ghost use Rattle.rlp.specs.Values.Value.{AreAlike};
-ghost use Rattle.rlp.specs.Views.View.{View, strict_view_of};
+ghost use Rattle.rlp.specs.Views.View.{strict_view_of};
+ghost use Rattle.rlp_codec.specs.Form.{Faults};
 
-use crate::Record;
 use bytes::BytesMut;
-use rlp::DecoderError;
+use rlp::{DecoderError, Encodable, StrictRead};
 use std::alloc::{AllocError, Global};
 
 /// The bytes of a record. The record fits, and they are the encoding of its item.
-pub fn record_is_written<R: Record>(alloc: Global, value: &R) -> Result<BytesMut, AllocError>
+pub fn record_is_written<R: StrictRead>(alloc: Global, value: &R) -> Result<BytesMut, AllocError>
     ensures fits { OnOk result (R.fits value.now) }
     ensures bytes { IfOk result (λ b. b.items ≡ encoding (R.item value.now)) }
 {
@@ -25,22 +25,22 @@ pub fn record_is_written<R: Record>(alloc: Global, value: &R) -> Result<BytesMut
 /// the whole encoding of a value that fits: `whole` says that no other bytes give one, and `alike`
 /// and `memory` that those bytes do, if memory doesn't run out. `only` says `whole` of each value
 /// that is alike to the result.
-pub fn record_is_read<R: Record>(alloc: Global, bytes: &[u8]) -> Result<R, DecoderError>
+pub fn record_is_read<R: StrictRead>(alloc: Global, bytes: &[u8]) -> Result<R, DecoderError>
     ensures whole { IfOk result (λ w. R.fits w × (bytes.now ≡ encoding (R.item w))) }
     ensures only { (v : R) → IsOkAnd result (λ w. AreAlike R.item w v)
         → bytes.now ≡ encoding (R.item v) }
     ensures alike { (v : R) → R.fits v → bytes.now ≡ encoding (R.item v)
         → IfOk result (λ w. R.fits w × AreAlike R.item w v) }
     ensures memory { (v : R) → R.fits v → bytes.now ≡ encoding (R.item v)
-        → IfErr result (λ e. (e ≡ OutOfMemory) × R.may_lack_memory (strict_view_of bytes.now)) }
+        → IfErr result (λ e. (e ≡ OutOfMemory) × IsTrue R.reading.takes_memory) }
 {
     rlp::decode_whole(alloc, bytes)
 }
 
 /// The record that is read from what is written of a record: it has the same fields. The call fails
 /// only if the record doesn't fit or memory runs out.
-pub fn record_round_trips<R: Record>(alloc: Global, value: &R) -> Result<R, DecoderError>
-    ensures same { IfOk result (λ w. R.fits w × R.same w value.now) }
+pub fn record_round_trips<R: StrictRead>(alloc: Global, value: &R) -> Result<R, DecoderError>
+    ensures same { IfOk result (λ w. R.fits w × (R.reading.seen w ≡ R.reading.seen value.now)) }
     ensures memory { IfErr result (λ e. e ≡ OutOfMemory) }
 {
     match record_is_written(alloc, value) {
@@ -52,14 +52,14 @@ pub fn record_round_trips<R: Record>(alloc: Global, value: &R) -> Result<R, Deco
 /// The record that bytes are, read strictly, for a type whose reading doesn't allocate, such as a
 /// withdrawal. The encoding of a value gives a value with its fields, and for
 /// other bytes the call fails with a fault of the type.
-pub fn reading_without_memory_is_total<R: Record>(
+pub fn reading_without_memory_is_total<R: StrictRead>(
     alloc: Global,
     bytes: &[u8],
 ) -> Result<R, DecoderError>
-    ensures value { ((view : View) → ¬ R.may_lack_memory view) → (v : R) → R.fits v
-        → bytes.now ≡ encoding (R.item v) → IsOkAnd result (λ w. R.fits w × R.same w v) }
-    ensures fault { ((view : View) → ¬ R.may_lack_memory view)
-        → IfErr result (λ e. R.faults (strict_view_of bytes.now) e) }
+    ensures value { R.reading.takes_memory ≡ false → (v : R) → R.fits v
+        → bytes.now ≡ encoding (R.item v) → IsOkAnd result (λ w. R.fits w × (R.reading.seen w ≡ R.reading.seen v)) }
+    ensures fault { R.reading.takes_memory ≡ false
+        → IfErr result (λ e. Faults R.reading (strict_view_of bytes.now) e) }
 {
     rlp::decode_whole(alloc, bytes)
 }
@@ -67,11 +67,11 @@ pub fn reading_without_memory_is_total<R: Record>(
 /// Two records whose encodings are shorter than 2^64 bytes have equal encodings if and only if they
 /// are alike: they are written as the same item. If both fit, each of their fields is then the
 /// same.
-pub fn encodings_tell_records<R: Record>(one: &R, other: &R)
+pub fn encodings_tell_records<R: StrictRead>(one: &R, other: &R)
     ensures alike { IsSized (R.item one.now) → IsSized (R.item other.now)
         → ((encoding (R.item one.now) ≡ encoding (R.item other.now))
         ↔ AreAlike R.item one.now other.now) }
     ensures fields { R.fits one.now → R.fits other.now
         → IsSized (R.item one.now) → IsSized (R.item other.now)
-        → encoding (R.item one.now) ≡ encoding (R.item other.now) → R.same one.now other.now }
+        → encoding (R.item one.now) ≡ encoding (R.item other.now) → R.reading.seen one.now ≡ R.reading.seen other.now }
 {}

@@ -9,7 +9,6 @@ mod enveloped;
 mod hash;
 mod hashing;
 pub mod laws;
-mod record;
 
 pub use address::Address;
 pub use bounded::decode_at_most;
@@ -20,4 +19,3 @@ pub use envelope::{
 pub use enveloped::Enveloped;
 pub use hash::Hash;
 pub use hashing::encoding_hash;
-pub use record::Record;

@@ -1,22 +1,22 @@
 -- Only encodings of transactions are shown.
-use Rattle.std.proofs.Common.{◌≡◌, ◌≢◌, ◌==◌, ◌⊎◌, ⊎_elim, inl, inr, ℕ, Bool, true, false, if◌then◌else◌, nat_lt, Result, Ok, Err, IsOk, List, [], ◌∷◌, ◌++◌, codes}
-use Rattle.std.proofs.Common.{refl, ap, ◌∙◌, arith, ltb-true}
+use Rattle.std.proofs.Common.{◌≡◌, ◌≢◌, ◌==◌, ◌⊎◌, ⊎_elim, inl, inr, ℕ, Bool, true, false, if◌then◌else◌, nat_lt, Result, Ok, Err, IsOk, List, [], ◌∷◌, ◌++◌, codes, ◌&&◌, not}
+use Rattle.std.proofs.Common.{refl, ap, ◌∙◌, arith}
 use Rattle.std.proofs.lemmas.Bool.Decides.{nat_tests}
 use Rattle.rlp.specs.DecoderError.{DecoderError}
 use Rattle.rlp.specs.Format.Encoding.{encoding}
 use Rattle.rlp.specs.Format.Item.{Item, string}
 use Rattle.rlp.specs.Format.Split.{begins_as_list}
-use Rattle.rlp.specs.Lemmas.StringsHeld.{ReadsHeld, held_reads}
-use Rattle.rlp.specs.Values.Sums.{IsOtherTag}
+use Rattle.rlp_reading.proofs.Lemmas.StringsHeld.{ReadsHeld, held_reads}
 use Rattle.rlp.specs.Views.View.{strict_view_of, view_string}
 use Rattle.rlp_records.specs.Alone.{bytes_alone}
+use Rattle.rlp_records.specs.Bounded.{is_read_type}
 use Rattle.rlp_transactions.specs.AccessListTransaction.{signed_access_list_transaction}
 use Rattle.rlp_transactions.specs.AnyTransaction.{any_transaction as any_codec}
 use Rattle.rlp_transactions.specs.BlobTransaction.{signed_blob_transaction}
 use Rattle.rlp_transactions.specs.FeeMarketTransaction.{signed_fee_market_transaction}
 use Rattle.rlp_transactions.specs.OtherTransaction.{IsOther}
 use Rattle.rlp_transactions.specs.SetCodeTransaction.{signed_set_code_transaction}
-use Rattle.rlp_transactions.specs.Transaction.{transaction as transaction_codec, typed_transactions}
+use Rattle.rlp_transactions.specs.Transaction.{transaction as transaction_codec}
 use Rattle.rlp_transactions.specs.declared.any_transaction.AnyTransaction.{AnyTransaction}
 use Rattle.rlp_transactions.specs.declared.any_transaction.AnyTransaction.TheVariants.{Known, Other}
 use Rattle.rlp_transactions.specs.declared.transaction.Transaction.{Transaction}
@@ -57,7 +57,10 @@ envelope_only {A} Fits item kind shape other only name (first ∷ payload) slice
 
 -- bytes don't begin with a type that is known
 abbrev HasOtherType : List ℕ → Type 0
-HasOtherType b = (kind : ℕ) (payload : List ℕ) → b ≡ kind ∷ payload → IsOtherTag typed_transactions.tags kind
+HasOtherType b = (kind : ℕ) (payload : List ℕ) → b ≡ kind ∷ payload → is_read_type kind ≡ false
+
+not_known : (k : ℕ) → k ≢ 1 → k ≢ 2 → k ≢ 3 → k ≢ 4 → is_read_type k ≡ false
+not_known k one two three four = grind (arith, nat_tests)
 
 -- the bytes of a transaction with a type, or others
 typed_only : (other : Shape) (name b : List ℕ) → IsSlice b → IsOk (typed_transaction other name (strict_view_of b))
@@ -75,7 +78,7 @@ typed_only other name b slice ok =
     (λ (t, fit, is). inl (Blob t, fit, ap string is))
     (λ (ok, not_three). ⊎_elim
     (λ (t, fit, is). inl (SetCode t, fit, ap string is))
-    (λ (ok, not_four). inr (ok, λ k payload is. (not_one k payload is, (not_two k payload is, (not_three k payload is, (not_four k payload is, tt))))))
+    (λ (ok, not_four). inr (ok, λ k payload is. not_known k (not_one k payload is) (not_two k payload is) (not_three k payload is) (not_four k payload is)))
     (envelope_only signed_set_code_transaction.Fits signed_set_code_transaction.item 4 set_code_transaction other
     set_code_transaction_display.only name b slice ok))
     (envelope_only signed_blob_transaction.Fits signed_blob_transaction.item 3 blob_transaction four blob_transaction_display.only name b slice ok))
@@ -89,7 +92,7 @@ other_only : (name b : List ℕ) → IsOk (other_transaction name (strict_view_o
 other_only name [] ok none = absurd (let no : ⊥ = cc in no)
 other_only name (kind ∷ payload) ok none =
     let test = if_ok (nat_lt kind 0x80) _ _ ok in
-    (ltb-true kind 0x80 test.0, none kind payload refl)
+    ap (λ b. b && not (is_read_type kind)) test.0 ∙ ap not (none kind payload refl)
 
 -- ---- transactions by themselves
 

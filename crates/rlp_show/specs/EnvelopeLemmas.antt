@@ -5,10 +5,10 @@ use Rattle.std.proofs.lemmas.Bool.Decides.{nat_tests}
 use Rattle.rlp.specs.Format.Encoding.{IsSized, encoding}
 use Rattle.rlp.specs.Format.Item.{Item, list_of, string}
 use Rattle.rlp.specs.Format.Split.{begins_as_list}
-use Rattle.rlp.specs.Lemmas.Encodings.{string_cases}
-use Rattle.rlp.specs.Lemmas.RawItems.{string_kind}
-use Rattle.rlp.specs.Lemmas.StringsHeld.{held_only}
-use Rattle.rlp.specs.Lemmas.Sums.{list_first}
+use Rattle.rlp_format.proofs.Lemmas.Encodings.{string_cases}
+use Rattle.rlp_reading.proofs.Lemmas.RawItems.{string_kind}
+use Rattle.rlp_reading.proofs.Lemmas.StringsHeld.{held_only}
+use Rattle.rlp_reading.proofs.Lemmas.Sums.{list_first}
 use Rattle.rlp.specs.Views.View.{View, strict_view_of}
 use Rattle.rlp_show_text.specs.Lines.{Shape, held_lines, list_or_string, typed, typed_lines}
 

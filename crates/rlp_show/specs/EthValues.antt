@@ -1,24 +1,20 @@
 -- The lines of messages of `eth`, but for those with receipts of `eth/68`.
-use Rattle.std.specs.Prelude.{ℕ, ◌≡◌, ◌==◌, ◌<◌, ◌^◌, ◌++◌, Bool, false, true, if◌then◌else◌, List, [], ◌∷◌, length, codes, Result, Ok, Err, IsOk, ⊤}
+use Rattle.std.specs.Prelude.{ℕ, ◌≡◌, ◌==◌, ◌++◌, Bool, false, true, if◌then◌else◌, List, [], ◌∷◌, length, codes, Result, Ok, Err, IsOk, ⊤}
 use Rattle.std.specs.Global.{Vec}
 use Rattle.std.specs.Vec.{vec_items}
-use Rattle.std.proofs.Common.{refl, sym, ap, subst, ◌∙◌, arith}
-use Rattle.std.proofs.lemmas.Bool.{cond-false, cond-true}
+use Rattle.std.proofs.Common.{◌⊎◌, inl, inr, refl, ap, ◌∙◌, arith}
 use Rattle.std.proofs.lemmas.Bool.Decides.{nat_tests}
 use Rattle.rlp.specs.Codec.{Codec, list_type}
 use Rattle.rlp.specs.DecoderError.{DecoderError}
 use Rattle.rlp.specs.Format.Encoding.{IsSized, encoding}
-use Rattle.rlp.specs.Format.Item.{Item, list_of as list_item}
-use Rattle.rlp.specs.Format.WrittenHeader.{big_endian}
-use Rattle.rlp.specs.Lemmas.OneReading.{few_digits}
-use Rattle.rlp.specs.Lemmas.StringsHeld.{ReadsHeld, held_reads}
+use Rattle.rlp.specs.Format.Item.{Item, list_of as list_item, string}
 use Rattle.rlp.specs.Values.Value.{FitsBytes, number_item}
-use Rattle.rlp.specs.Values.ValueReading.{FaultsAsNumber, GivesValue, no_string, no_value}
 use Rattle.rlp.specs.Views.Text.{error_name}
-use Rattle.rlp.specs.Views.View.{HoldsString, View, strict_view_of, view_string}
+use Rattle.rlp.specs.Views.View.{View, strict_view_of}
+use Rattle.rlp_codec.specs.Form.{Fault, and_then, fault_of, map_value, number_of, string_of}
 use Rattle.rlp_eth.specs.declared.hash_or_number.HashOrNumber.{HashOrNumber}
 use Rattle.rlp_eth.specs.declared.hash_or_number.HashOrNumber.TheVariants.{Hash, Number}
-use Rattle.rlp_eth.specs.HashOrNumber.{FaultsAsHashOrNumber, IsHashOrNumber, hash_or_number_bytes, hash_or_number_item, sound_hash_or_number}
+use Rattle.rlp_eth.specs.HashOrNumber.{IsHashOrNumber, hash_or_number_bytes, hash_or_number_of, seen_hash_or_number}
 use Rattle.rlp_eth.specs.HashOrNumber.{hash_or_number as hash_or_number_codec}
 use Rattle.rlp_eth.specs.declared.with_request_id.WithRequestId.{WithRequestId}
 use Rattle.rlp_eth.specs.declared.announcements.NewBlockHash.{NewBlockHash}
@@ -51,11 +47,11 @@ use Rattle.rlp_eth.specs.declared.status.Status69.{Status69}
 use Rattle.rlp_eth.specs.declared.status.ForkHash.{ForkHash}
 use Rattle.rlp_eth.specs.Status.{fork_id as fork_id_codec, status68 as status68_codec, status69 as status69_codec, fork_hash as fork_hash_codec}
 use Rattle.rlp_show.specs.BodyValues.{body_display}
-use Rattle.rlp_show_text.specs.ConverseLemmas.{IsEncoded, OnlyEncodings, below, end_only, field_only, number_only, record_only, vec_of}
-use Rattle.rlp_show_text.specs.Displays.{Display, alone_display, bytes_display, end_display, field_display, fixed_display, hash_display, list_display, newtype_display}
+use Rattle.rlp_show_text.specs.ConverseLemmas.{IsSlice, OnlyEncodings, end_only, field_only, number_found, number_only, record_only, strings_only, vec_of}
+use Rattle.rlp_show_text.specs.Displays.{Display, alone_display, bytes_display, end_display, field_display, fixed_display, given_back, hash_display, list_display, newtype_display}
 use Rattle.rlp_show_text.specs.Displays.{number_display, record_display, status_display, truth_display, uint_display, vec_display}
-use Rattle.rlp_show_text.specs.Lines.{Shape, Worded, field, in_field, in_string, line, named, number, number_in, prefix, record_of, string_shape, wrong}
-use Rattle.rlp_show_text.specs.StringLemmas.{number_right_by, number_wrong, shown_fault, shown_string}
+use Rattle.rlp_show_text.specs.Lines.{Shape, Worded, field, in_field, line, number, number_in, prefix, record_of, string_shape, wrong}
+use Rattle.rlp_show_text.specs.StringLemmas.{AreWorded, number_worded, string_faulty, string_given, wording}
 use Rattle.rlp_show_text.specs.Text.{bytes_text, number_text}
 use Rattle.rlp_show.specs.TransactionValues.{block_display, transaction_display}
 use Rattle.rlp_show_text.specs.ValueLemmas.{both_shown, first_sized, joined_small, others_small, record_shown}
@@ -65,7 +61,7 @@ use Rattle.rlp_show.specs.Values.{header_display, log_display}
 
 -- the text of a string that is a hash or a number
 abbrev pub hash_or_number_in : List ℕ → Worded
-hash_or_number_in string = if length string == 32 then Ok (bytes_text string) else number_in number_text 8 string
+hash_or_number_in d = if length d == 32 then Ok (bytes_text d) else number_in number_text 8 d
 
 -- a hash of 32 bytes, or a number of at most eight; an item that is neither has the fault of the number
 abbrev pub hash_or_number : Shape
@@ -76,65 +72,54 @@ abbrev pub hash_or_number_text : HashOrNumber → List ℕ
 hash_or_number_text (Hash h) = bytes_text h.0
 hash_or_number_text (Number n) = number_text n
 
-hash_or_number_right : (x : HashOrNumber) → IsHashOrNumber x → hash_or_number_in (hash_or_number_bytes x) ≡ Ok (hash_or_number_text x)
-hash_or_number_right (Hash h) fit = cond-true (length h.0 == 32) _ _ (grind (arith, nat_tests))
-hash_or_number_right (Number n) fit =
-    let few = few_digits 8 n fit in
-    cond-false (length (big_endian n) == 32) _ _ (grind (arith, nat_tests)) ∙ number_right_by number_text 8 n (big_endian n) refl fit
+-- the text of what is seen of a hash or of a number
+abbrev either_text : List ℕ ⊎ ℕ → List ℕ
+either_text (inl h) = bytes_text h
+either_text (inr n) = number_text n
 
-pub hash_or_number_given : (name : List ℕ) (v : View) (x : HashOrNumber) → length v.bytes < 2 ^ 64
-    → GivesValue IsHashOrNumber hash_or_number_item v x → hash_or_number name v ≡ Ok (line name (hash_or_number_text x))
-hash_or_number_given name v x few given =
-    shown_string hash_or_number_in name v (hash_or_number_bytes x) few given.begins ∙ ap (named name) (hash_or_number_right x given.fits)
-
--- a string at fault doesn't have the length of a hash
-no_hash_length : (v : View) (d : List ℕ) (e : DecoderError) → length v.bytes < 2 ^ 64 → HoldsString v d → FaultsAsHashOrNumber v e → (length d == 32) ≡ false
-no_hash_length v d e few holds fault = by (length d == 32) refl
+hash_or_number_worded : AreWorded hash_or_number_of either_text hash_or_number_in
+hash_or_number_worded = record { same = λ d. by d (length d == 32) }
   where
-    by : (b : Bool) → (length d == 32) ≡ b → (length d == 32) ≡ false
-    by false is = is
-    by true is =
-        let many : length d ≡ 32 = grind (arith, nat_tests) in
-        absurd (sound_hash_or_number v few (Hash (record { 0 = d })) many holds e fault)
+    mapped : (r : Result ℕ Fault) → wording number_text r ≡ wording either_text (map_value inr r)
+    mapped (Ok n) = refl
+    mapped (Err e) = refl
 
-neither_shown : (name : List ℕ) (v : View) (e : DecoderError) → length v.bytes < 2 ^ 64 → FaultsAsHashOrNumber v e → FaultsAsNumber 8 v e
-    → hash_or_number name v ≡ Err (wrong name (error_name e))
-neither_shown name v e few fault (no_string f is) = shown_fault hash_or_number_in name v f is
-neither_shown name v e few fault (no_value d f holds faulty) =
-    shown_string hash_or_number_in name v d few holds
-    ∙ ap (named name) (cond-false (length d == 32) _ _ (no_hash_length v d f few holds fault) ∙ number_wrong number_text 8 d f faulty)
+    by : (d : List ℕ) (b : Bool) → (if b then Ok (bytes_text d) else number_in number_text 8 d)
+        ≡ wording either_text (if b then Ok (inl d) else map_value inr (number_of 8 d))
+    by d true = refl
+    by d false = (number_worded number_text 8).same d ∙ mapped (number_of 8 d)
 
-pub hash_or_number_faulty : (name : List ℕ) (v : View) (e : DecoderError) → length v.bytes < 2 ^ 64 → FaultsAsHashOrNumber v e
+text_seen : (x : HashOrNumber) → either_text (seen_hash_or_number x) ≡ hash_or_number_text x
+text_seen (Hash h) = refl
+text_seen (Number n) = refl
+
+pub hash_or_number_given : (name : List ℕ) (v : View) (x : HashOrNumber) → and_then (string_of v) hash_or_number_of ≡ Ok (seen_hash_or_number x)
+    → hash_or_number name v ≡ Ok (line name (hash_or_number_text x))
+hash_or_number_given name v x given =
+    string_given hash_or_number_of either_text hash_or_number_in hash_or_number_worded name v (seen_hash_or_number x) given
+    ∙ ap (λ t. Ok (line name t)) (text_seen x)
+
+pub hash_or_number_faulty : (name : List ℕ) (v : View) (e : DecoderError) → and_then (string_of v) hash_or_number_of ≡ Err (fault_of e)
     → hash_or_number name v ≡ Err (wrong name (error_name e))
-hash_or_number_faulty name v e few fault = neither_shown name v e few fault fault.no_number
+hash_or_number_faulty = string_faulty hash_or_number_of either_text hash_or_number_in hash_or_number_worded
 
 pub ruleset hash_or_number_strings = (hash_or_number_given, hash_or_number_faulty)
 
 -- only encodings of hashes and of numbers are shown
-pub hash_or_number_only : OnlyEncodings IsHashOrNumber hash_or_number_item hash_or_number
-hash_or_number_only name b slice ok = by (view_string (strict_view_of b)) refl (held_reads (strict_view_of b) slice.0 (below b slice)) ok
+pub hash_or_number_only : OnlyEncodings IsHashOrNumber (λ x. string (hash_or_number_bytes x)) hash_or_number
+hash_or_number_only = strings_only IsHashOrNumber hash_or_number_bytes hash_or_number_in (λ d slice. by d slice (length d == 32) refl)
   where
-    -- a string that isn't a hash is shown as a number is
-    found : (d : List ℕ) → view_string (strict_view_of b) ≡ Ok d → b ≡ encoding (hash_or_number_item (Hash (record { 0 = d }))) → (t : Bool)
-        → (length d == 32) ≡ t → IsOk (named name (if t then Ok (bytes_text d) else number_in number_text 8 d)) → IsEncoded IsHashOrNumber hash_or_number_item b
-    found d held is true test ok = (Hash (record { 0 = d }), grind (arith, nat_tests), is)
-    found d held is false test ok =
-        let shown = ap (λ r. named name (in_string (number_in number_text 8) r)) held in
-        let (n, fit, same) = number_only number_text 8 name b slice (subst IsOk (sym shown) ok) in
-        (Number n, fit, same)
-
-    by : (r : Result (List ℕ) DecoderError) → view_string (strict_view_of b) ≡ r → ReadsHeld true b r → IsOk (named name (in_string hash_or_number_in r))
-        → IsEncoded IsHashOrNumber hash_or_number_item b
-    by (Ok d) held is ok = found d held is (length d == 32) refl ok
-    by (Err e) held none ok = absurd (let no : ⊥ = cc in no)
+    by : (d : List ℕ) → IsSlice d → (b : Bool) → (length d == 32) ≡ b → IsOk (if b then Ok (bytes_text d) else number_in number_text 8 d)
+        → (x : HashOrNumber) × IsHashOrNumber x × (hash_or_number_bytes x ≡ d)
+    by d slice true is ok = (Hash (record { 0 = d }), grind (arith, nat_tests), refl)
+    by d slice false is ok = let (n, fit, same) = number_found number_text 8 d slice ok in (Number n, fit, same)
 
 -- hashes or numbers
 abbrev pub hash_or_number_display : Display hash_or_number_codec
 hash_or_number_display = record {
   shape = hash_or_number;
   lines = λ name x. line name (hash_or_number_text x);
-  shown = λ name x fit sized. hash_or_number_given name (strict_view_of (encoding (hash_or_number_codec.item x))) x sized
-      (record { fits = fit; begins = refl });
+  shown = λ name x fit sized. hash_or_number_given name (strict_view_of (encoding (hash_or_number_codec.item x))) x (given_back hash_or_number_codec x fit sized);
   only = hash_or_number_only;
 }
 

@@ -11,10 +11,10 @@ use Rattle.rlp.specs.Format.Encoding.{IsSized, encoding, join_items}
 use Rattle.rlp.specs.Format.Item.{Item, Items, item_and, item_depth, items_depth, list, list_of, no_items, string}
 use Rattle.rlp.specs.Format.Split.{begins_as_list}
 use Rattle.rlp.specs.Format.WrittenHeader.{written_header}
-use Rattle.rlp.specs.Lemmas.Encodings.{AllSized, first_of_header, list_written, parts_sized}
-use Rattle.rlp.specs.Lemmas.RawItems.{raw_encoding, raw_if}
-use Rattle.rlp.specs.Lemmas.StringsHeld.{held_only}
-use Rattle.rlp.specs.Lemmas.WholeLists.{whole_sized}
+use Rattle.rlp_format.proofs.Lemmas.Encodings.{AllSized, first_of_header, list_written, parts_sized}
+use Rattle.rlp_show_text.specs.NodeRecordLemmas.{raw_whole}
+use Rattle.rlp_reading.proofs.Lemmas.StringsHeld.{held_only}
+use Rattle.rlp_reading.proofs.Lemmas.WholeLists.{whole_sized}
 use Rattle.rlp.specs.Views.Text.{error_name}
 use Rattle.rlp.specs.Views.View.{item_count, item_views, strict_view_of}
 use Rattle.rlp_trie.specs.BranchChild.{place_item}
@@ -74,8 +74,8 @@ module _ (kept : Shape) (only : OnlyCanonical kept) where
       let few : length b < 32 = ltb-true (length b) 32 short in
       let (x, fit, is) = only name b slice shown in
       let deep : item_depth x ≤ 256 = omega (arith, few, ap length is, depth_below x (whole_sized x b (below b slice) is)) in
-      let raw = raw_if b (x, is, deep) in
-      (Inline (record { item = b; is_list = kind; is_short = few }), raw, sym (raw_encoding b (below b slice) raw))
+      let whole = raw_whole b slice x is deep in
+      (Inline (record { item = b; is_list = kind; is_short = few }), whole, whole)
 
   -- children
   child_only : OnlyEncodings IsChild child_item (child kept)

@@ -14,9 +14,9 @@ use Rattle.rlp.specs.Format.Encoding.{IsSized, encoding, join}
 use Rattle.rlp.specs.Format.Item.{list_of, string}
 use Rattle.rlp.specs.Format.Split.{items}
 use Rattle.rlp.specs.Format.Strict.{strict_list_fault}
-use Rattle.rlp.specs.Lemmas.RawItems.{raw_encoding, shallow_within}
-use Rattle.rlp.specs.Lemmas.StrictReads.{counted_items, counted_told, told_whole}
-use Rattle.rlp.specs.Lemmas.WholeLists.{strict_item_count, whole_list}
+use Rattle.rlp_reading.proofs.Lemmas.RawItems.{shallow_within}
+use Rattle.rlp_reading.proofs.Lemmas.StrictReads.{counted_items, counted_told, told_whole}
+use Rattle.rlp_reading.proofs.Lemmas.WholeLists.{strict_item_count, whole_list}
 use Rattle.rlp.specs.Values.RawItem.{deepest_raw_item, raw_item_of}
 use Rattle.rlp.specs.Values.Value.{FitsBytes, all_items, number_item}
 use Rattle.rlp.specs.Views.View.{item_count, item_views, strict_view_of}
@@ -87,11 +87,10 @@ pairs_found name k i (f ∷ g ∷ fs) slices even ok =
     let held = node_value (key_of (strict_view_of f)) (here ++ codes ".value") (strict_view_of g) in
     let parts = both_ok (in_field i shown) (in_field (i + 1) held) both.0 in
     let (key, fit, is) = node_key_display.only (here ++ codes ".key") f slices.0 (field_ok i shown parts.0) in
-    let raw = key_value_only (key_of (strict_view_of f)) (here ++ codes ".value") g slices.1.0 (field_ok (i + 1) held parts.1) in
-    let whole = sym (raw_encoding g (below g slices.1.0) raw) in
+    let whole = key_value_only (key_of (strict_view_of f)) (here ++ codes ".value") g slices.1.0 (field_ok (i + 1) held parts.1) in
     let (ps, fits, are) = pairs_found name (k + 1) (i + 2) fs slices.1.1 (omega (arith, even)) both.1 in (
       record { key = key; value = g } ∷ ps,
-      ((tt, (raw, tt)), fits),
+      ((tt, (whole, tt)), fits),
       ap (λ f. f ∷ g ∷ fs) is ∙ ap (λ g. encoding (string (vec_items key)) ∷ g ∷ fs) whole
           ∙ ap (λ fs. encoding (string (vec_items key)) ∷ encoding (raw_item_of g) ∷ fs) are,
     )

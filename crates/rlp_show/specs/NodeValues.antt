@@ -3,16 +3,18 @@ use Rattle.std.specs.Prelude.{ℕ, zero, suc, ◌≡◌, ◌<◌, ◌+◌, ◌^�
 use Rattle.std.specs.Fmt.{digits}
 use Rattle.std.specs.Str.Lines.{strip_carriage_return}
 use Rattle.std.specs.Vec.{vec_items}
-use Rattle.std.proofs.Common.{refl, ap, ◌∙◌, arith, lt-ltb, append-nil, nat_lt, unwrap_or, is_some}
+use Rattle.std.proofs.Common.{sym, refl, ap, ◌∙◌, arith, lt-ltb, append-nil, nat_lt, unwrap_or, is_some}
 use Rattle.std.proofs.lemmas.Bool.{cond-false, cond-true}
 use Rattle.std.proofs.lemmas.Bool.Decides.{nat_tests}
-use Rattle.rlp.specs.Codec.{Fields, byte_string as byte_string_codec, each, end, field as field_codec}
+use Rattle.rlp_codec.proofs.StringLaws.{array_strings}
+use Rattle.rlp_show_text.specs.Displays.{given_back}
+use Rattle.rlp.specs.Codec.{Fields, byte_array, byte_string as byte_string_codec, each, end, field as field_codec}
 use Rattle.rlp.specs.Format.Encoding.{IsSized, encoding, join}
 use Rattle.rlp.specs.Format.Item.{Item, list_of, string}
 use Rattle.rlp.specs.Format.Split.{begins_as_list}
-use Rattle.rlp.specs.Lemmas.RawItems.{raw_encoding, string_kind}
-use Rattle.rlp.specs.Lemmas.WholeLists.{strict_item_count}
-use Rattle.rlp.specs.Values.RawItem.{IsRawItem, raw_item_of}
+use Rattle.rlp_reading.proofs.Lemmas.RawItems.{string_kind}
+use Rattle.rlp_reading.proofs.Lemmas.WholeLists.{strict_item_count}
+use Rattle.rlp.specs.Values.RawItem.{raw_item_of}
 use Rattle.rlp.specs.Views.View.{item_views, strict_view_of}
 use Rattle.rlp_lines.specs.Digits.{bytes_in}
 use Rattle.rlp_trie.specs.BranchChild.{branch_child as branch_child_codec, place_item}
@@ -35,7 +37,7 @@ use Rattle.rlp_show_text.specs.Lines.{string_shape, then_lines}
 use Rattle.rlp_show.specs.NodeConverse.{pair_kind}
 use Rattle.rlp_show_text.specs.Nodes.{are_leaf, branch, branch_child, child, child_hash_in, extension, extension_path, extension_path_in, inline_node}
 use Rattle.rlp_show_text.specs.Nodes.{kept_nodes, leaf, node as node_shape, node_keeping, node_lines, path, path_in}
-use Rattle.rlp_show_text.specs.StringLemmas.{bytes_given, fixed_as_given, fixed_right, shown_string}
+use Rattle.rlp_show_text.specs.StringLemmas.{bytes_given, fixed_as_given, fixed_worded, shown_string, wording}
 use Rattle.rlp_show_text.specs.Text.{bytes_text, path_text}
 use Rattle.rlp_show_text.specs.ValueLemmas.{both_shown, bytes_answered, first_sized, joined_small, others_small, record_shown, views_of}
 
@@ -86,11 +88,11 @@ hashed_node_value name n = then_lines (Ok (hash_line name (encoding (node_item n
 -- ---- children are shown as their values
 
 -- a list that is kept is what the next shape shows of it
-inline_shown : (kept other : Shape) (name b : List ℕ) → IsRawItem b → begins_as_list b ≡ true → length b < 32
+inline_shown : (kept other : Shape) (name b : List ℕ) → b ≡ encoding (raw_item_of b) → begins_as_list b ≡ true → length b < 32
     → (if begins_as_list (encoding (raw_item_of b)) then inline_node kept name (strict_view_of (encoding (raw_item_of b)))
     else other name (strict_view_of (encoding (raw_item_of b)))) ≡ kept name (strict_view_of b)
 inline_shown kept other name b raw kind few =
-    ap (λ b. if begins_as_list b then inline_node kept name (strict_view_of b) else other name (strict_view_of b)) (raw_encoding b (omega (arith, few)) raw)
+    ap (λ b. if begins_as_list b then inline_node kept name (strict_view_of b) else other name (strict_view_of b)) (sym raw)
     ∙ cond-true (begins_as_list b) _ _ kind ∙ cond-true (nat_lt (length b) 32) _ _ (lt-ltb _ _ few)
 
 -- children
@@ -99,13 +101,15 @@ child_shown : (kept : Shape) (name : List ℕ) (c : Child) → IsChild c → IsS
 child_shown kept name (Node hash) fit sized =
     let b = encoding (string hash.0) in
     cond-false (begins_as_list b) _ _ (string_kind b hash.0 sized refl)
-    ∙ fixed_as_given bytes_text 32 name (strict_view_of b) hash.0 sized (record { fits = fit; begins = refl })
+    ∙ fixed_as_given bytes_text 32 name (strict_view_of b) hash.0
+    (given_back (byte_array 32) hash.0 fit sized)
 child_shown kept name (Inline node) fit sized = inline_shown kept hash_shape name node.item fit node.is_list node.is_short
 
 -- the hash of a place
 hash_right : (d : List ℕ) → length d ≡ 32 → child_hash_in d ≡ Ok (bytes_text d)
 hash_right [] many = refl
-hash_right (c ∷ d) many = fixed_right bytes_text 32 (c ∷ d) many
+hash_right (c ∷ d) many =
+    (fixed_worded bytes_text 32).same (c ∷ d) ∙ ap (wording bytes_text) ((array_strings 32).back (c ∷ d) many (omega (arith, many)))
 
 -- places of a branch
 place_shown : (kept : Shape) (name : List ℕ) (o : Option Child) → IfSome o IsChild → IsSized (place_item o)

@@ -16,9 +16,10 @@ use Rattle.rlp.specs.Format.Item.{list_of}
 use Rattle.rlp.specs.Format.Split.{begins_as_list, items}
 use Rattle.rlp.specs.Format.Strict.{strict_list_fault}
 use Rattle.rlp.specs.Format.WrittenHeader.{big_endian}
-use Rattle.rlp.specs.Lemmas.RawItems.{raw_encoding, raw_if, shallow_within, string_kind}
-use Rattle.rlp.specs.Lemmas.StrictReads.{counted_items, counted_told, told_whole}
-use Rattle.rlp.specs.Lemmas.WholeLists.{strict_item_count, whole_list}
+use Rattle.rlp_reading.proofs.Lemmas.RawItems.{shallow_within, string_kind}
+use Rattle.rlp_show_text.specs.NodeRecordLemmas.{raw_whole}
+use Rattle.rlp_reading.proofs.Lemmas.StrictReads.{counted_items, counted_told, told_whole}
+use Rattle.rlp_reading.proofs.Lemmas.WholeLists.{strict_item_count, whole_list}
 use Rattle.rlp.specs.Values.RawItem.{deepest_raw_item, raw_item_of}
 use Rattle.rlp.specs.Values.Value.{all_items}
 use Rattle.rlp.specs.Views.Text.{error_name}
@@ -34,7 +35,7 @@ use Rattle.rlp_p2p.specs.declared.hello.Capability.{Capability}
 use Rattle.rlp_p2p.specs.declared.hello.FurtherItem.{FurtherItem}
 use Rattle.rlp_p2p.specs.declared.hello.Hello.{Hello}
 use Rattle.rlp_p2p.specs.declared.hello.NodeId.{NodeId}
-use Rattle.rlp_show_text.specs.ConverseLemmas.{IsEncoded, IsSlice, OnlyEncodings, below, both_ok, few_items, field_ok, item_slices, unless_ok, vec_of}
+use Rattle.rlp_show_text.specs.ConverseLemmas.{IsEncoded, IsSlice, OnlyEncodings, both_ok, few_items, field_ok, item_slices, unless_ok, vec_of}
 use Rattle.rlp_show_text.specs.Displays.{Display, FieldsDisplay, bytes_display, end_display, field_display, fixed_display, newtype_display, number_display}
 use Rattle.rlp_show_text.specs.Displays.{record_display, vec_display}
 use Rattle.rlp_show.specs.EnvelopeLemmas.{list_kind}
@@ -146,11 +147,11 @@ further_found name k (b ∷ bs) slices ok =
     let shown = any_item (place name k) (strict_view_of b) in
     let both = both_ok (in_field (k + 5) shown) (further_lines name (k + 1) (map strict_view_of bs)) ok in
     let (x, low, is) = item_only deepest_raw_item (place name k) b slices.0 (field_ok (k + 5) shown both.0) in
-    let raw = raw_if b (x, is, low) in
+    let whole = raw_whole b slices.0 x is low in
     let (fs, fits, are) = further_found name (k + 1) bs slices.1 both.1 in (
       record { item = b } ∷ fs,
-      ((raw, tt), fits),
-      ap (λ b. b ∷ bs) (sym (raw_encoding b (below b slices.0) raw)) ∙ ap (λ bs. encoding (raw_item_of b) ∷ bs) are,
+      ((whole, tt), fits),
+      ap (λ b. b ∷ bs) whole ∙ ap (λ bs. encoding (raw_item_of b) ∷ bs) are,
     )
 
 -- each is one item

@@ -1,9 +1,8 @@
 -- The lines of transactions of every type, and of blocks.
 use Rattle.std.specs.Prelude.{ℕ, Bool, ◌≡◌, ◌<◌, ◌^◌, List, ◌∷◌, ◌++◌, [], length, codes, nat_lt, true, false, Some, Ok}
 use Rattle.std.specs.Vec.{vec_items}
-use Rattle.std.proofs.Common.{ap, ◌∙◌, arith, refl}
+use Rattle.std.proofs.Common.{◌≢◌, ◌&&◌, not, ap, sym, ◌∙◌, arith, ltb-true, refl}
 use Rattle.std.proofs.lemmas.Bool.{cond-false, cond-true, lt-leb}
-use Rattle.std.proofs.lemmas.Bool.Decides.{nat_tests}
 use Rattle.rlp.specs.Format.Encoding.{IsSized, encoding}
 use Rattle.rlp.specs.Format.Split.{begins_as_list}
 use Rattle.rlp.specs.Views.View.{View, strict_view_of}
@@ -23,6 +22,7 @@ use Rattle.rlp_transactions.specs.FeeMarketTransaction.{signed_fee_market_transa
 use Rattle.rlp_transactions.specs.LegacyTransaction.{signed_legacy_transaction, signed_legacy_transaction_fields}
 use Rattle.rlp_transactions.specs.SetCodeTransaction.{signed_set_code_transaction}
 use Rattle.rlp_records.specs.Alone.{bytes_alone}
+use Rattle.rlp_records.specs.Bounded.{is_read_type}
 use Rattle.rlp_transactions.specs.AnyTransaction.{any_transaction as any_codec}
 use Rattle.rlp_transactions.specs.OtherTransaction.{IsOther}
 use Rattle.rlp_transactions.specs.Transaction.{transaction as transaction_codec}
@@ -112,20 +112,30 @@ not_typed other name v is =
     ∙ not_of_type 3 blob_transaction three name v (omega arith) is
     ∙ not_of_type 4 set_code_transaction other name v (omega arith) is
 
+both_of : (low read : Bool) → (low && not read) ≡ true → (low ≡ true) × (read ≡ false)
+both_of true false is = (refl, refl)
+both_of true true is = absurd (let no : ⊥ = cc in no)
+both_of false read is = absurd (let no : ⊥ = cc in no)
+
+-- a type that isn't known isn't this one
+not_this : (kind k : ℕ) → is_read_type kind ≡ false → is_read_type k ≡ true → kind ≢ k
+not_this kind k other known same = let no : true ≡ false = sym known ∙ ap is_read_type (sym same) ∙ other in cc
+
 -- the bytes of another type are shown as its lines
 other_typed : (list : Shape) (name d : List ℕ) → IsOther d → ((v : View) → begins_as_list v.bytes ≡ false → list name v ≡ other_transaction name v)
     → typed_transaction list name (strict_view_of d) ≡ Ok (other_value name d)
-other_typed list name [] is shown = absurd is
-other_typed list name (kind ∷ payload) (low, others) shown =
+other_typed list name [] is shown = absurd (let no : ⊥ = cc in no)
+other_typed list name (kind ∷ payload) is shown =
+    let (low, other) = both_of (nat_lt kind 0x80) (is_read_type kind) is in
     let v = strict_view_of (kind ∷ payload) in
     let three = typed 4 set_code_transaction list in
     let two = typed 3 blob_transaction three in
-    other_than 1 access_list_transaction (typed 2 fee_market_transaction two) name kind payload others.0
-    ∙ other_than 2 fee_market_transaction two name kind payload others.1.0
-    ∙ other_than 3 blob_transaction three name kind payload others.1.1.0
-    ∙ other_than 4 set_code_transaction list name kind payload others.1.1.1.0
-    ∙ shown v (lt-leb 0xc0 kind (omega (arith, low)))
-    ∙ cond-true (nat_lt kind 0x80) _ _ (grind (arith, nat_tests, low))
+    other_than 1 access_list_transaction (typed 2 fee_market_transaction two) name kind payload (not_this kind 1 other refl)
+    ∙ other_than 2 fee_market_transaction two name kind payload (not_this kind 2 other refl)
+    ∙ other_than 3 blob_transaction three name kind payload (not_this kind 3 other refl)
+    ∙ other_than 4 set_code_transaction list name kind payload (not_this kind 4 other refl)
+    ∙ shown v (lt-leb 0xc0 kind (omega (arith, ltb-true kind 0x80 low)))
+    ∙ cond-true (nat_lt kind 0x80) _ _ low
 
 -- ---- transactions by themselves
 

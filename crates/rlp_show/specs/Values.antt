@@ -90,7 +90,7 @@ access_list_alone_display = alone_display (codes "access_list") access_list_disp
 
 -- the fields of transactions without a type and of their signatures, by how `v` is shown
 abbrev pub legacy_fields_display : Display (uint 32) → Display signed_legacy_transaction
-legacy_fields_display v = signed_display (λ p. refl) (codes "v") v (
+legacy_fields_display v = signed_display refl (codes "v") v (
     field_display (codes "nonce") (λ (l : LegacyTransaction). l.nonce) (number_display 8) (
     field_display (codes "gas_price") (λ (l : LegacyTransaction). l.gas_price) (uint_display 32) (
     field_display (codes "gas_limit") (λ (l : LegacyTransaction). l.gas_limit) (number_display 8) (
@@ -105,7 +105,7 @@ legacy_transaction_display = legacy_signing_display (legacy_fields_display unsig
 
 -- transactions of type 1, without the byte of the type
 abbrev pub access_list_transaction_display : Display signed_access_list_transaction
-access_list_transaction_display = tagged_display 1 8 (λ p. refl) refl (codes "y_parity") truth_display (
+access_list_transaction_display = tagged_display 1 8 refl refl (codes "y_parity") truth_display (
     field_display (codes "chain_id") (λ (a : AccessListTransaction). a.chain_id) (number_display 8) (
     field_display (codes "nonce") (λ (a : AccessListTransaction). a.nonce) (number_display 8) (
     field_display (codes "gas_price") (λ (a : AccessListTransaction). a.gas_price) (uint_display 32) (
@@ -119,7 +119,7 @@ access_list_transaction_display = tagged_display 1 8 (λ p. refl) refl (codes "y
 
 -- transactions of type 2, without the byte of the type
 abbrev pub fee_market_transaction_display : Display signed_fee_market_transaction
-fee_market_transaction_display = tagged_display 2 9 (λ p. refl) refl (codes "y_parity") truth_display (
+fee_market_transaction_display = tagged_display 2 9 refl refl (codes "y_parity") truth_display (
     field_display (codes "chain_id") (λ (f : FeeMarketTransaction). f.chain_id) (number_display 8) (
     field_display (codes "nonce") (λ (f : FeeMarketTransaction). f.nonce) (number_display 8) (
     field_display (codes "max_priority_fee_per_gas") (λ (f : FeeMarketTransaction). f.max_priority_fee_per_gas) (uint_display 32) (
@@ -143,7 +143,7 @@ fee_market_transaction_display = tagged_display 2 9 (λ p. refl) refl (codes "y_
 
 -- transactions of type 3, without the byte of the type
 abbrev pub blob_transaction_display : Display signed_blob_transaction
-blob_transaction_display = tagged_display 3 11 (λ p. refl) refl (codes "y_parity") truth_display (
+blob_transaction_display = tagged_display 3 11 refl refl (codes "y_parity") truth_display (
     field_display (codes "chain_id") (λ (b : BlobTransaction). b.chain_id) (number_display 8) (
     field_display (codes "nonce") (λ (b : BlobTransaction). b.nonce) (number_display 8) (
     field_display (codes "max_priority_fee_per_gas") (λ (b : BlobTransaction). b.max_priority_fee_per_gas) (uint_display 32) (
@@ -171,7 +171,7 @@ blob_transaction_display = tagged_display 3 11 (λ p. refl) refl (codes "y_parit
 
 -- authorizations of transactions of type 4
 abbrev pub authorization_display : Display signed_authorization
-authorization_display = tagged_display 5 3 (λ p. refl) refl (codes "y_parity") (number_display 1) (
+authorization_display = tagged_display 5 3 refl refl (codes "y_parity") (number_display 1) (
     field_display (codes "chain_id") (λ (a : Authorization). a.chain_id) (uint_display 32) (
     field_display (codes "address") (λ (a : Authorization). a.address) address_display (
     field_display (codes "nonce") (λ (a : Authorization). a.nonce) (number_display 8) end_display))) refl
@@ -179,7 +179,7 @@ authorization_display = tagged_display 5 3 (λ p. refl) refl (codes "y_parity") 
 
 -- transactions of type 4, without the byte of the type
 abbrev pub set_code_transaction_display : Display signed_set_code_transaction
-set_code_transaction_display = tagged_display 4 10 (λ p. refl) refl (codes "y_parity") truth_display (
+set_code_transaction_display = tagged_display 4 10 refl refl (codes "y_parity") truth_display (
     field_display (codes "chain_id") (λ (s : SetCodeTransaction). s.chain_id) (number_display 8) (
     field_display (codes "nonce") (λ (s : SetCodeTransaction). s.nonce) (number_display 8) (
     field_display (codes "max_priority_fee_per_gas") (λ (s : SetCodeTransaction). s.max_priority_fee_per_gas) (uint_display 32) (

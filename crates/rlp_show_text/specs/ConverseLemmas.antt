@@ -1,32 +1,30 @@
 -- What is shown is an encoding: lemmas on bytes that are shown without a fault.
 use Rattle.std.proofs.Common.{◌≡◌, ◌^◌, ◌<◌, ◌≤◌, ◌+◌, ⊎_elim, ℕ, zero, suc, Bool, true, false, if◌then◌else◌, Option, Some, None, IfSome}
-use Rattle.std.proofs.Common.{Result, Ok, Err, IsOk, is_ok, List, [], ◌∷◌, ◌++◌, length, map, All, refl, sym, ap, ◌∙◌, subst, arith, length-append, le_refl}
+use Rattle.std.proofs.Common.{Result, Ok, Err, IsOk, is_ok, List, [], ◌∷◌, ◌++◌, length, map, All, refl, sym, ap, ◌∙◌, subst, arith, length-append, le_refl, ltb-false, nat_lt}
 use Rattle.std.specs.Bool.{⊤}
 use Rattle.std.specs.Global.{Vec}
 use Rattle.std.specs.List.{AllByRecursion, concat}
 use Rattle.std.specs.Ptr.{null_ptr}
 use Rattle.std.specs.Vec.{vec_items}
-use Rattle.std.proofs.lemmas.Bool.{cases_lt}
+use Rattle.std.specs.Int.Digits.{number_from_digits}
+use Rattle.std.proofs.lemmas.Bool.{cond-false}
 use Rattle.std.proofs.lemmas.Bool.Decides.{nat_tests}
 use Rattle.std.proofs.lemmas.List.{length-map, map-append}
 use Rattle.std.proofs.lemmas.List.Elements.{All-from_recursion, recursion_from_All}
 use Rattle.rlp.specs.DecoderError.{DecoderError}
-use Rattle.rlp.specs.DecoderError.TheVariants.{RlpIsTooBig, RlpIsTooShort}
 use Rattle.rlp.specs.Format.Encoding.{encoding, join, string_encoding}
 use Rattle.rlp.specs.Format.Item.{Item, list_of, string}
 use Rattle.rlp.specs.Format.Split.{items, payload, rest}
-use Rattle.rlp.specs.Format.WrittenHeader.{AreBytes, written_header}
-use Rattle.rlp.specs.Lemmas.Encodings.{encoding_list, form, form_some, string_cases}
-use Rattle.rlp.specs.Lemmas.Numbered.{length-views}
-use Rattle.rlp.specs.Lemmas.OneReading.{back_bytes, front_bytes, number_reading}
-use Rattle.rlp.specs.Lemmas.OptionalGroups.{without_end}
-use Rattle.rlp.specs.Lemmas.Slices.{payload_short}
-use Rattle.rlp.specs.Lemmas.StrictReads.{counted_items, counted_told, told_whole}
-use Rattle.rlp.specs.Lemmas.StringsHeld.{ReadsHeld, held_reads}
-use Rattle.rlp.specs.Lemmas.Views.{payload_bytes}
-use Rattle.rlp.specs.Lemmas.WholeLists.{payload_parts, whole_list}
+use Rattle.rlp.specs.Format.WrittenHeader.{AreBytes, big_endian, written_header}
+use Rattle.rlp_format.proofs.Lemmas.Encodings.{encoding_list, form, form_some, string_cases}
+use Rattle.rlp_reading.proofs.Lemmas.Numbered.{length-views}
+use Rattle.rlp_reading.proofs.Lemmas.OneReading.{back_bytes, front_bytes}
+use Rattle.rlp_reading.proofs.Lemmas.Slices.{payload_short}
+use Rattle.rlp_reading.proofs.Lemmas.StrictReads.{counted_items, counted_told, told_whole}
+use Rattle.rlp_reading.proofs.Lemmas.StringsHeld.{ReadsHeld, held_reads}
+use Rattle.rlp_reading.proofs.Lemmas.Views.{payload_bytes}
+use Rattle.rlp_reading.proofs.Lemmas.WholeLists.{payload_parts, whole_list}
 use Rattle.rlp.specs.Values.Value.{FitsBytes, bit, items_if, number_item}
-use Rattle.rlp.specs.Values.ValueReading.{GivesNumber, longer, no_number, shorter}
 use Rattle.rlp.specs.Views.View.{View, item_count, item_views, strict_view_of, view_string}
 use Rattle.rlp_headers.specs.declared.receipt_status.ReceiptStatus.{ReceiptStatus}
 use Rattle.rlp_headers.specs.declared.receipt_status.ReceiptStatus.TheVariants.{Failure, StateRoot, Success}
@@ -34,11 +32,14 @@ use Rattle.rlp_headers.specs.ReceiptStatus.{IsStatus, status_bytes}
 use Rattle.rlp_transactions.specs.declared.recipient.Recipient.{Recipient}
 use Rattle.rlp_transactions.specs.declared.recipient.Recipient.TheVariants.{Account, Creation}
 use Rattle.rlp_transactions.specs.Recipient.{IsRecipient, recipient_bytes}
+use Rattle.rlp_format.proofs.Lemmas.Digits.{big_endian_value}
+use Rattle.rlp_codec.specs.Form.{begins_with_zero}
+use Rattle.rlp_codec.proofs.StringLaws.{number_strings}
 use Rattle.rlp_show_text.specs.Lines.{Field, Shape, Shown, Worded, byte_string, field, fields_lines, fixed_bytes_as, fixed_bytes_in, hash_line, hashed, in_field, in_string}
 use Rattle.rlp_show_text.specs.Lines.{items_lines, list_lines, may_have, named, number_as, optional, place, prefix, receipt_status, recipient, recipient_in}
-use Rattle.rlp_show_text.specs.Lines.{list_of as list_shape_of, record_lines, record_of, status_in, string_shape, then_lines, truth_value}
-use Rattle.rlp_show_text.specs.StringLemmas.{fixed_wrong, is_status, number_as_faulty, truth_above, truth_faulty}
-use Rattle.rlp_show_text.specs.Text.{bytes_text}
+use Rattle.rlp_show_text.specs.Lines.{list_of as list_shape_of, number_in, record_lines, record_of, status_in, string_shape, then_lines, truth_value, truth_value_in}
+use Rattle.rlp_show_text.specs.StringLemmas.{is_other, is_status}
+use Rattle.rlp_show_text.specs.Text.{bytes_text, number_text}
 use Rattle.rlp_show_text.specs.ValueLemmas.{first_sized, others_small}
 
 -- ---- what is shown without a fault
@@ -188,13 +189,8 @@ bytes_only {B} bytes made = strings_only (λ (b : B). ⊤) bytes (λ string. Ok 
 
 pub fixed_length : (text : List ℕ → List ℕ) (n : ℕ) (d : List ℕ) → IsOk (fixed_bytes_in text n d) → length d ≡ n
 fixed_length text n d ok =
-    ⊎_elim
-    (λ few. absurd (not_ok (fixed_wrong text n d RlpIsTooShort (shorter few)) ok))
-    (λ enough. ⊎_elim
-    (λ many. absurd (not_ok (fixed_wrong text n d RlpIsTooBig (longer many)) ok))
-    (λ most. omega (arith, enough, most))
-    (cases_lt n (length d)))
-    (cases_lt (length d) n)
+    let (enough, most) = unless_ok (nat_lt (length d) n) _ _ ok in
+    omega (arith, ltb-false _ _ enough, ltb-false _ _ (unless_ok (nat_lt n (length d)) _ _ most).0)
 
 pub fixed_only : (text : List ℕ → List ℕ) (n : ℕ) → OnlyEncodings (λ d. length d ≡ n) string (fixed_bytes_as text n)
 fixed_only text n = strings_only (λ d. length d ≡ n) (λ d. d) (fixed_bytes_in text n) (λ d slice ok. (d, fixed_length text n d ok, refl))
@@ -221,24 +217,34 @@ pub status_only : OnlyEncodings IsStatus (λ s. string (status_bytes s)) receipt
 status_only = strings_only IsStatus status_bytes status_in (λ d slice. status_found d)
 
 -- numbers
+pub number_found : (text : ℕ → List ℕ) (width : ℕ) (d : List ℕ) → IsSlice d → IsOk (number_in text width d) → (n : ℕ) × FitsBytes width n × (big_endian n ≡ d)
+number_found text width d slice ok =
+    let (few, rest) = unless_ok (nat_lt width (length d)) _ _ ok in
+    let (some, shown) = unless_ok (begins_with_zero d) _ _ rest in
+    let n = number_from_digits 256 d in
+    let (fit, is) = (number_strings width).only d n slice.0 (below d slice) (cond-false (nat_lt width (length d)) _ _ few ∙ cond-false (begins_with_zero d) _ _ some) in
+    (n, fit, sym is)
+
 pub number_only : (text : ℕ → List ℕ) (width : ℕ) → OnlyEncodings (FitsBytes width) number_item (number_as text width)
-number_only text width name b slice ok =
-    ⊎_elim
-    (λ (n, given). (n, given.fits, given.begins))
-    (λ (e, bad). absurd (not_ok (number_as_faulty text width name (strict_view_of b) e (below b slice) bad) ok))
-    (number_reading (strict_view_of b) slice.0 (below b slice) width).some
+number_only text width = strings_only (FitsBytes width) big_endian (number_in text width) (number_found text width)
+
+truth_found : (d : List ℕ) → IsSlice d → IsOk (truth_value_in d) → (b : Bool) × ⊤ × (big_endian (bit b) ≡ d)
+truth_found d slice ok =
+    let (no_other, shown) = unless_ok (is_other d) _ _ ok in
+    let (few, rest) = unless_ok (nat_lt 1 (length d)) _ _ shown in
+    let (n, fit, is) = number_found number_text 1 d slice shown in
+    by n is (low d no_other few) (big_endian_value n)
+  where
+    low : (d : List ℕ) → is_other d ≡ false → nat_lt 1 (length d) ≡ false → number_from_digits 256 d ≤ 1
+    low d no_other few = grind (arith, nat_tests)
+
+    by : (n : ℕ) → big_endian n ≡ d → number_from_digits 256 d ≤ 1 → number_from_digits 256 (big_endian n) ≡ n → (b : Bool) × ⊤ × (big_endian (bit b) ≡ d)
+    by zero is few value = (false, tt, is)
+    by (suc zero) is few value = (true, tt, is)
+    by (suc (suc n)) is few value = absurd (omega (arith, few, value, ap (number_from_digits 256) is))
 
 pub truth_only : OnlyEncodings (λ (x : Bool). ⊤) (λ x. number_item (bit x)) truth_value
-truth_only name b slice ok =
-    ⊎_elim
-    (λ (n, given). by n given)
-    (λ (e, bad). absurd (not_ok (truth_faulty name (strict_view_of b) e (below b slice) (no_number e bad)) ok))
-    (number_reading (strict_view_of b) slice.0 (below b slice) 1).some
-  where
-    by : (n : ℕ) → GivesNumber 1 (strict_view_of b) n → IsEncoded (λ (x : Bool). ⊤) (λ x. number_item (bit x)) b
-    by zero given = (false, tt, given.begins)
-    by (suc zero) given = (true, tt, given.begins)
-    by (suc (suc n)) given = absurd (not_ok (truth_above name (strict_view_of b) (suc (suc n)) (below b slice) given (omega arith)) ok)
+truth_only = strings_only (λ (x : Bool). ⊤) (λ x. big_endian (bit x)) truth_value_in truth_found
 
 -- ---- lists
 
@@ -343,7 +349,11 @@ optional_only {A} value Fits item shape name only before i fs slices may ok =
     let one = field_only {Parts = Unit {0}} (λ (x : A). x) Fits item shape (λ x. tt) (λ x. ⊤) (λ x. []) [] name only end_only in
     let inside = group_only value (λ (x : A). (x, tt)) (λ x. Fits x × ⊤) (λ x. item x ∷ []) (field name shape) [] (λ t. t.0) (λ t. refl) one
     before i fs slices may ok in
-    record { found = inside.found; right = λ p same. let is = inside.right p same in (without_end Fits (value p) is.0, is.1) }
+    record { found = inside.found; right = λ p same. let is = inside.right p same in (without_end (value p) is.0, is.1) }
+  where
+    without_end : (o : Option A) → IfSome o (λ x. Fits x × ⊤) → IfSome o Fits
+    without_end None fit = tt
+    without_end (Some x) fit = fit.0
 
 -- What is shown as first fields and others, cut in two. If there are as many items as first fields, what follows is shown as the others.
 record IsCut (before : List ℕ) (i : ℕ) (first others : List Field) (fs : List (List ℕ)) : Type 0 where

@@ -1,18 +1,16 @@
 -- How values are shown, from their parts. The encoding of each value that fits its type is shown as its lines, and only such encodings are shown.
-use Rattle.std.specs.Prelude.{ℕ, ◌≡◌, ◌==◌, ◌<◌, ◌+◌, ◌^◌, false, true, List, [], ◌∷◌, ◌++◌, length, codes, Option, Ok}
+use Rattle.std.specs.Prelude.{ℕ, ◌≡◌, ◌<◌, ◌+◌, ◌^◌, false, true, List, [], ◌∷◌, ◌++◌, length, codes, Option, Ok}
 use Rattle.std.specs.Global.{Vec}
 use Rattle.std.specs.Vec.{vec_items}
 use Rattle.std.specs.Int.Digits.{number_from_digits}
-use Rattle.std.proofs.Common.{refl, sym, ap, ◌∙◌}
+use Rattle.std.proofs.Common.{refl, sym, ap, ◌∙◌, length-append}
 use Rattle.std.proofs.lemmas.List.Elements.{recursion_from_All}
-use Rattle.rlp.specs.Codec.{Codec, Fields, IsFixed, byte_array, byte_string as byte_string_codec, end, field as field_codec, list_type, newtype}
-use Rattle.rlp.specs.Codec.{number as number_codec, optional as optional_codec, optional_group, struct_of, truth_value as truth_codec, uint}
-use Rattle.rlp.specs.Codecs.Parts.{group}
+use Rattle.rlp.specs.Codec.{Codec, Fields, byte_array, byte_string as byte_string_codec, end, field as field_codec, list_type, newtype}
+use Rattle.rlp.specs.Codec.{group, number as number_codec, optional as optional_codec, optional_group, struct_of, truth_value as truth_codec, uint}
 use Rattle.rlp.specs.Format.Encoding.{IsSized, encoding, join}
 use Rattle.rlp.specs.Format.Item.{list_of as list_item}
 use Rattle.rlp.specs.Format.WrittenHeader.{big_endian}
-use Rattle.rlp.specs.Lemmas.Digits.{big_endian_value}
-use Rattle.rlp.specs.Lemmas.RoundTrips.{bit_below}
+use Rattle.rlp_format.proofs.Lemmas.Digits.{big_endian_value}
 use Rattle.rlp.specs.Uint.{Uint}
 use Rattle.rlp.specs.Values.Value.{bit}
 use Rattle.rlp.specs.Streams.Stream.{list_encoding}
@@ -28,6 +26,7 @@ use Rattle.rlp_headers.specs.Bloom.{bloom as bloom_codec}
 use Rattle.rlp_records.specs.Hash.{hash as hash_codec}
 use Rattle.rlp_headers.specs.ReceiptStatus.{receipt_status as status_codec, status_bytes}
 use Rattle.rlp_transactions.specs.Recipient.{recipient as recipient_codec, recipient_bytes}
+use Rattle.rlp_codec.specs.Form.{Gives}
 use Rattle.rlp_show_text.specs.ConverseLemmas.{OnlyEncodings, OnlyItems, bytes_only, end_only, field_only, first_only, fixed_only, group_only, hashed_only, list_only, newtype_only}
 use Rattle.rlp_show_text.specs.ConverseLemmas.{number_only, optional_only, part_only, recipient_only, record_only, status_only, truth_only, vec_of}
 use Rattle.rlp_show_text.specs.Lines.{Field, Shape, byte_string, field, fields_lines, fixed_bytes_as, hash_line, hashed, in_field, line, lines_if, list_of, list_value_lines, may_have}
@@ -47,6 +46,10 @@ pub record Display {A : Type 0} (codec : Codec A) : Type 0 where
   pub shown : (name : List ℕ) (x : A) → codec.Fits x → IsSized (codec.item x) → shape name (strict_view_of (encoding (codec.item x))) ≡ Ok (lines name x)
   pub only : OnlyEncodings codec.Fits codec.item shape
 
+-- the encoding of a value that fits gives the value
+pub given_back : {A : Type 0} (c : Codec A) (x : A) → c.Fits x → IsSized (c.item x) → Gives c.reading (strict_view_of (encoding (c.item x))) x
+given_back c x fit sized = (c.reads_strictly.back true).back (encoding (c.item x)) x sized fit refl
+
 -- ---- strings
 
 -- numbers, as their text
@@ -54,8 +57,8 @@ abbrev pub number_as_display : (text : ℕ → List ℕ) (width : ℕ) → Displ
 number_as_display text width = record {
   shape = number_as text width;
   lines = λ name n. line name (text n);
-  shown = λ name n fit sized. number_as_given text width n name (strict_view_of (encoding ((number_codec width).item n))) sized
-      (record { fits = fit; begins = refl });
+  shown = λ name n fit sized. number_as_given text width n name (strict_view_of (encoding ((number_codec width).item n)))
+      (given_back (number_codec width) n fit sized);
   only = number_only text width;
 }
 
@@ -95,7 +98,7 @@ abbrev pub fixed_as_display : (text : List ℕ → List ℕ) (n : ℕ) → Displ
 fixed_as_display text n = record {
   shape = fixed_bytes_as text n;
   lines = λ name d. line name (text d);
-  shown = λ name d fit sized. fixed_as_given text n name (strict_view_of (encoding ((byte_array n).item d))) d sized (record { fits = fit; begins = refl });
+  shown = λ name d fit sized. fixed_as_given text n name (strict_view_of (encoding ((byte_array n).item d))) d (given_back (byte_array n) d fit sized);
   only = fixed_only text n;
 }
 
@@ -127,7 +130,7 @@ abbrev pub recipient_display : Display recipient_codec
 recipient_display = record {
   shape = recipient;
   lines = λ name r. line name (bytes_text (recipient_bytes r));
-  shown = λ name r fit sized. recipient_given name (strict_view_of (encoding (recipient_codec.item r))) r sized (record { fits = fit; begins = refl });
+  shown = λ name r fit sized. recipient_given name (strict_view_of (encoding (recipient_codec.item r))) r (given_back recipient_codec r fit sized);
   only = recipient_only;
 }
 
@@ -136,7 +139,7 @@ abbrev pub status_display : Display status_codec
 status_display = record {
   shape = receipt_status;
   lines = λ name s. line name (bytes_text (status_bytes s));
-  shown = λ name s fit sized. status_given name (strict_view_of (encoding (status_codec.item s))) s sized (record { fits = fit; begins = refl });
+  shown = λ name s fit sized. status_given name (strict_view_of (encoding (status_codec.item s))) s (given_back status_codec s fit sized);
   only = status_only;
 }
 
@@ -145,7 +148,7 @@ abbrev pub truth_display : Display truth_codec
 truth_display = record {
   shape = truth_value;
   lines = λ name b. line name (number_text (bit b));
-  shown = λ name b fit sized. truth_given name (strict_view_of (encoding (truth_codec.item b))) b sized (record { fits = bit_below b; begins = refl });
+  shown = λ name b fit sized. truth_given name (strict_view_of (encoding (truth_codec.item b))) b (given_back truth_codec b fit sized);
   only = truth_only;
 }
 
@@ -170,7 +173,7 @@ vec_display = list_display vec_items vec_of
 pub record FieldsDisplay {P : Type 0} (codec : Fields P) : Type 1 where
   pub fields : List Field
   pub lines : List ℕ → P → List ℕ
-  pub right : (p : P) → codec.Fits p → may_have fields (codec.reading.count p) ≡ true
+  pub right : (p : P) → codec.Fits p → may_have fields (length (codec.items p)) ≡ true
   pub shown : (before : List ℕ) (i : ℕ) (p : P) → codec.Fits p → length (join (codec.items p)) < 2 ^ 64
       → fields_lines before i fields (views_of (codec.items p)) ≡ Ok (lines before p)
   pub Parts : Type 0
@@ -207,14 +210,14 @@ field_display {A} {c = c} {more = more} name f d others = record {
 -- the last fields, of which there are some, and which may be missing together
 abbrev pub optional_group_display : {A V P : Type 0} {c : Codec V} {more : Fields A} (f : P → Option A) (name : List ℕ) (first : A → V) (d : Display c)
     (others : FieldsDisplay more) (make : V × others.Parts → A) → ((t : V × others.Parts) → (first (make t), others.parts (make t)) ≡ t)
-    → (some : (0 == (field_codec first c more).reading.least) ≡ false) → FieldsDisplay (optional_group f (field_codec first c more) some)
+    → (some : (field_codec first c more).reading.accepts 0 ≡ false) → FieldsDisplay (optional_group f (field_codec first c more) some)
 optional_group_display {A} {c = c} {more = more} f name first d others make same some =
     let group = field_display name first d others in
     let codec = field_codec first c more in
     record {
       fields = optional (field name d.shape) ∷ others.fields;
       lines = λ before p. lines_if (group.lines before) (f p);
-      right = λ p. group_right codec.Fits (field name d.shape) others.fields codec.reading.count group.right (f p);
+      right = λ p. group_right codec.Fits (field name d.shape) others.fields codec.items group.right (f p);
       shown = λ before i p. group_shown codec.Fits (field name d.shape) others.fields codec.items before i (group.lines before) (group.shown before i) (f p);
       Parts = Option A;
       parts = f;
@@ -239,31 +242,36 @@ abbrev pub record_display : {P : Type 0} {f : Fields P} (d : FieldsDisplay f) (m
 record_display {f = f} d make same = record {
   shape = record_of d.fields;
   lines = λ name p. d.lines (prefix name) p;
-  shown = λ name p fit sized. record_shown d.fields name (f.items p) (Ok (d.lines (prefix name) p)) sized (ap (may_have d.fields) (f.counted p) ∙ d.right p fit)
+  shown = λ name p fit sized. record_shown d.fields name (f.items p) (Ok (d.lines (prefix name) p)) sized (d.right p fit)
       (d.shown (prefix name) 0 p fit (joined_small (f.items p) sized));
   only = record_only d.parts f.Fits f.items d.fields d.only make same;
 }
 
+-- fields that are always the same number of items are that many
+pub as_wide : {P : Type 0} (f : Fields P) → f.reading.is_fixed ≡ true → (p : P) → length (f.items p) ≡ f.reading.width
+as_wide f fixed p = (f.laws.back true).wide p fixed
+
 -- the fields of a part of the value, always the same number, before others
-abbrev pub part_display : {A P : Type 0} {f : Fields A} {more : Fields P} (value : P → A) (fixed : IsFixed f) (d : FieldsDisplay f)
-    → length d.fields ≡ f.reading.least → (make : d.Parts → A) → ((t : d.Parts) → d.parts (make t) ≡ t) → FieldsDisplay more
+abbrev pub part_display : {A P : Type 0} {f : Fields A} {more : Fields P} (value : P → A) (fixed : f.reading.is_fixed ≡ true) (d : FieldsDisplay f)
+    → length d.fields ≡ f.reading.width → (make : d.Parts → A) → ((t : d.Parts) → d.parts (make t) ≡ t) → FieldsDisplay more
     → FieldsDisplay (group value f fixed more)
 part_display {A} {f = f} {more = more} value fixed d many make same rest = record {
   fields = d.fields ++ rest.fields;
   lines = λ before p. d.lines before (value p) ++ rest.lines before p;
-  right = λ p fit. may_have-append d.fields rest.fields (f.reading.count (value p)) (more.reading.count p) (many ∙ sym (fixed (value p))) ∙ rest.right p fit.1;
+  right = λ p fit. ap (may_have (d.fields ++ rest.fields)) (length-append (f.items (value p)) (more.items p))
+      ∙ may_have-append d.fields rest.fields (length (f.items (value p))) (length (more.items p)) (many ∙ sym (as_wide f fixed (value p))) ∙ rest.right p fit.1;
   shown = λ before i p fit small. part_shown before i d.fields rest.fields (f.items (value p)) (more.items p) _ _
-      (many ∙ sym (fixed (value p)) ∙ sym (f.counted (value p)))
+      (many ∙ sym (as_wide f fixed (value p)))
       (d.shown before i (value p) fit.0 (front_small (f.items (value p)) (more.items p) small))
       (rest.shown before (i + length d.fields) p fit.1 (rest_small (f.items (value p)) (more.items p) small));
   Parts = A × rest.Parts;
   parts = λ p. (value p, rest.parts p);
-  only = part_only value d.parts f.Fits f.items d.fields rest.parts more.Fits more.items rest.fields make same (λ x. f.counted x ∙ fixed x ∙ sym many) d.only rest.only;
+  only = part_only value d.parts f.Fits f.items d.fields rest.parts more.Fits more.items rest.fields make same (λ x. as_wide f fixed x ∙ sym many) d.only rest.only;
 }
 
 -- a payload with its signature, by the name of what comes before its two numbers
-abbrev pub signed_display : {T V : Type 0} {f : Fields T} {c : Codec V} (fixed : IsFixed f) (name : List ℕ) → Display c → (d : FieldsDisplay f)
-    → length d.fields ≡ f.reading.least → (make : d.Parts → T) → ((t : d.Parts) → d.parts (make t) ≡ t) → Display (signed f fixed c)
+abbrev pub signed_display : {T V : Type 0} {f : Fields T} {c : Codec V} (fixed : f.reading.is_fixed ≡ true) (name : List ℕ) → Display c
+    → (d : FieldsDisplay f) → length d.fields ≡ f.reading.width → (make : d.Parts → T) → ((t : d.Parts) → d.parts (make t) ≡ t) → Display (signed f fixed c)
 signed_display {T} {V} fixed name v d many make same = record_display (part_display (λ (x : Signed T V). x.payload) fixed d many make same (
     field_display name (λ (x : Signed T V). x.v) v (
     field_display (codes "r") (λ (x : Signed T V). x.r) signature_number_display (
@@ -271,21 +279,21 @@ signed_display {T} {V} fixed name v d many make same = record_display (part_disp
     (λ (payload, (v, (r, (s, end)))). record { payload = payload; v = v; r = r; s = s }) (λ t. refl)
 
 -- the hash of what is signed, after the payload and its signature: a byte, and the list of the payload's n fields
-abbrev pub signing_display : {T V : Type 0} (kind n : ℕ) (f : Fields T) (c : Codec V) (fixed : IsFixed f) → n ≡ f.reading.least
+abbrev pub signing_display : {T V : Type 0} (kind n : ℕ) (f : Fields T) (c : Codec V) (fixed : f.reading.is_fixed ≡ true) → n ≡ f.reading.width
     → Display (signed f fixed c) → Display (signed f fixed c)
 signing_display kind n f c fixed many d = record {
   shape = with_signing_hash kind n d.shape;
   lines = λ name x. d.lines name x ++ signing_line name (kind ∷ encoding (list_item (f.items x.payload)));
   shown = λ name x fit sized. both_shown _ _ (d.lines name x) _ (d.shown name x fit sized)
       (ap (λ b. Ok (signing_line name (kind ∷ b)))
-      (signed_list n (f.items x.payload) _ (many ∙ sym (fixed x.payload) ∙ sym (f.counted x.payload)) sized));
+      (signed_list n (f.items x.payload) _ (many ∙ sym (as_wide f fixed x.payload)) sized));
   only = first_only (signed f fixed c).Fits (signed f fixed c).item d.shape
       (λ name v. Ok (signing_line name (kind ∷ list_encoding (first_bytes n (item_views v))))) d.only;
 }
 
 -- a payload of n fields with its signature, and the hash of what is signed
-abbrev pub tagged_display : {T V : Type 0} {f : Fields T} {c : Codec V} (kind n : ℕ) (fixed : IsFixed f) → n ≡ f.reading.least → (name : List ℕ)
-    → Display c → (d : FieldsDisplay f) → length d.fields ≡ f.reading.least → (make : d.Parts → T) → ((t : d.Parts) → d.parts (make t) ≡ t)
+abbrev pub tagged_display : {T V : Type 0} {f : Fields T} {c : Codec V} (kind n : ℕ) (fixed : f.reading.is_fixed ≡ true) → n ≡ f.reading.width → (name : List ℕ)
+    → Display c → (d : FieldsDisplay f) → length d.fields ≡ f.reading.width → (make : d.Parts → T) → ((t : d.Parts) → d.parts (make t) ≡ t)
     → Display (signed f fixed c)
 tagged_display {f = f} {c = c} kind n fixed least name v d many make same =
     signing_display kind n f c fixed least (signed_display fixed name v d many make same)

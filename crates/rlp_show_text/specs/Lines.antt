@@ -3,6 +3,7 @@ use Rattle.std.specs.Prelude.{ℕ, zero, suc, ◌+◌, ◌&&◌, ◌||◌, ◌==
 use Rattle.std.specs.Prelude.{Option, Some, None, Result, Ok, Err}
 use Rattle.std.specs.Int.Digits.{number_from_digits}
 use Rattle.keccak.specs.Keccak.{keccak256}
+use Rattle.rlp_codec.specs.Form.{begins_with_zero}
 use Rattle.rlp.specs.DecoderError.{DecoderError}
 use Rattle.rlp.specs.DecoderError.TheVariants.{RlpIsTooBig, RlpIsTooShort, RlpInvalidIndirection, RlpIncorrectListLen}
 use Rattle.rlp.specs.Format.Split.{begins_as_list}
@@ -75,11 +76,6 @@ abbrev pub is_empty_string : List ℕ → Bool
 is_empty_string [] = false
 is_empty_string (first ∷ []) = first == 0x80
 is_empty_string (first ∷ next ∷ more) = false
-
--- whether a string begins with a zero byte
-abbrev pub begins_with_zero : List ℕ → Bool
-begins_with_zero [] = false
-begins_with_zero (d ∷ ds) = d == 0
 
 -- the text of the number of a string of at most `width` bytes; it has no leading zero
 abbrev pub number_in : (ℕ → List ℕ) → ℕ → List ℕ → Worded

@@ -15,11 +15,11 @@ use Rattle.rlp.specs.DecoderError.TheVariants.{RlpExpectedToBeData}
 use Rattle.rlp.specs.Format.Encoding.{IsSized, encoding, join}
 use Rattle.rlp.specs.Format.Item.{Item, Items, item_and, item_depth, items_depth, items_from, list, list_of, listed, no_items, string}
 use Rattle.rlp.specs.Format.Split.{begins_as_list}
-use Rattle.rlp.specs.Lemmas.Encodings.{items_from-listed}
-use Rattle.rlp.specs.Lemmas.RawItems.{list_by, raw_if}
-use Rattle.rlp.specs.Lemmas.Strings.{string_list}
-use Rattle.rlp.specs.Lemmas.StringsHeld.{ReadsHeld, held_fault, held_only, held_reads}
-use Rattle.rlp.specs.Values.RawItem.{IsRawItem, deepest_raw_item, raw_item_of}
+use Rattle.rlp_format.proofs.Lemmas.Encodings.{items_from-listed}
+use Rattle.rlp_reading.proofs.Lemmas.RawItems.{list_by, raw_encoding, raw_if}
+use Rattle.rlp_reading.proofs.Lemmas.Strings.{string_list}
+use Rattle.rlp_reading.proofs.Lemmas.StringsHeld.{ReadsHeld, held_fault, held_only, held_reads}
+use Rattle.rlp.specs.Values.RawItem.{deepest_raw_item, raw_item_of}
 use Rattle.rlp.specs.Values.Value.{all_items}
 use Rattle.rlp.specs.Views.View.{View, item_count, item_views, strict_view_of, view_string}
 use Rattle.rlp_node_record.specs.NodeFields.{pair_fields}
@@ -123,14 +123,18 @@ key_value_shown key name (list ys) low sized =
     ap (λ r. text_or_item (item_text key r) name (strict_view_of b)) (list_unread b (list_by (list ys) b sized refl))
     ∙ item_shown deepest_raw_item name (list ys) low sized
 
+-- a slice of the encoding of an item that isn't too deep is the encoding of a raw item
+pub raw_whole : (b : List ℕ) → IsSlice b → (x : Item) → b ≡ encoding x → item_depth x ≤ deepest_raw_item → b ≡ encoding (raw_item_of b)
+raw_whole b slice x is low = sym (raw_encoding b (below b slice) (raw_if b (x, is, low)))
+
 -- only raw items are shown
-pub key_value_only : (key name b : List ℕ) → IsSlice b → IsOk (node_value key name (strict_view_of b)) → IsRawItem b
+pub key_value_only : (key name b : List ℕ) → IsSlice b → IsOk (node_value key name (strict_view_of b)) → b ≡ encoding (raw_item_of b)
 unfolding any_item
 key_value_only key name b slice ok = by (view_string (strict_view_of b)) (held_reads (strict_view_of b) slice.0 (below b slice)) ok
   where
-    by : (r : Result (List ℕ) DecoderError) → ReadsHeld true b r → IsOk (text_or_item (item_text key r) name (strict_view_of b)) → IsRawItem b
-    by (Ok d) is ok = raw_if b (string d, is, omega arith)
-    by (Err e) none ok = let (x, low, is) = item_only deepest_raw_item name b slice ok in raw_if b (x, is, low)
+    by : (r : Result (List ℕ) DecoderError) → ReadsHeld true b r → IsOk (text_or_item (item_text key r) name (strict_view_of b)) → b ≡ encoding (raw_item_of b)
+    by (Ok d) is ok = raw_whole b slice (string d) is (omega arith)
+    by (Err e) none ok = let (x, low, is) = item_only deepest_raw_item name b slice ok in raw_whole b slice x is low
 
 -- ---- keys
 

@@ -18,7 +18,8 @@ use Rattle.rlp_node_record.specs.NodeRecord.{keys_rise, longest_record}
 use Rattle.rlp_node_record.specs.declared.node_fields.NodeFields.{NodeFields}
 use Rattle.rlp_show_text.specs.ConverseLemmas.{vec_of}
 use Rattle.rlp_show_text.specs.Displays.{FieldsDisplay, bytes_display, end_display, field_display, number_display}
-use Rattle.rlp_show_text.specs.Lines.{Field, Shape, Shown, begins_with_zero, fields_lines, in_field, line, place, prefix, string_shape, then_lines, wrong}
+use Rattle.rlp_codec.specs.Form.{begins_with_zero}
+use Rattle.rlp_show_text.specs.Lines.{Field, Shape, Shown, fields_lines, in_field, line, place, prefix, string_shape, then_lines, wrong}
 use Rattle.rlp_show_text.specs.Nodes.{any_item}
 use Rattle.rlp_show_text.specs.Text.{bytes_text, number_text}
 

@@ -7,9 +7,9 @@ use Rattle.rlp.specs.Codec.{uint}
 use Rattle.rlp.specs.Format.Item.{Item, list_of, string}
 use Rattle.rlp.specs.Format.Encoding.{IsSized, encoding, join}
 use Rattle.rlp.specs.Format.WrittenHeader.{big_endian}
-use Rattle.rlp.specs.Lemmas.Digits.{big_endian_value, big_endian_zero}
-use Rattle.rlp.specs.Lemmas.Encodings.{encoding_list}
-use Rattle.rlp.specs.Lemmas.StringsHeld.{held_only}
+use Rattle.rlp_format.proofs.Lemmas.Digits.{big_endian_value, big_endian_zero}
+use Rattle.rlp_format.proofs.Lemmas.Encodings.{encoding_list}
+use Rattle.rlp_reading.proofs.Lemmas.StringsHeld.{held_only}
 use Rattle.rlp.specs.Streams.Stream.{list_encoding}
 use Rattle.rlp.specs.Uint.{Uint}
 use Rattle.rlp.specs.Values.Value.{items_if, number_item}
@@ -68,7 +68,7 @@ legacy_signed name t fit sized =
     let n = number_from_digits 256 t.v.bytes in
     ap (λ vs. signing_by (first_bytes 6 vs) name (drop 6 vs)) (views-encoding xs sized)
     ∙ signing_given name (first_bytes 6 (views_of xs)) n (strict_view_of (encoding v))
-    (first_sized v numbers (rest_small six (v ∷ numbers) (joined_small xs sized))) (record { fits = fit.1.0; begins = refl })
+    (((uint 32).reads_strictly.back true).back (encoding v) t.v (first_sized v numbers (rest_small six (v ∷ numbers) (joined_small xs sized))) fit.1.0 refl)
     ∙ ap (λ b. Ok (said_line name b (said_by n))) (first_joined six (v ∷ numbers)) ∙ ap Ok (said_shown name t.payload (said_by n))
 
 -- ---- without a type and without a signature

@@ -6,15 +6,14 @@ use Rattle.std.specs.List.{AllByRecursion}
 use Rattle.std.proofs.lemmas.Bool.{cond-true}
 use Rattle.rlp.specs.Format.Encoding.{IsSized, encoding, join}
 use Rattle.rlp.specs.Format.Item.{Item, list_of}
-use Rattle.rlp.specs.Lemmas.Encodings.{encoding_list, small_payload}
-use Rattle.rlp.specs.Lemmas.WholeLists.{strict_item_count, strict_items}
+use Rattle.rlp_format.proofs.Lemmas.Encodings.{encoding_list, small_payload}
+use Rattle.rlp_reading.proofs.Lemmas.WholeLists.{strict_item_count, strict_items}
 use Rattle.rlp.specs.Views.View.{View, item_views, strict_view_of}
 use Rattle.std.specs.Str.Lines.{strip_carriage_return}
 use Rattle.rlp_lines.specs.Digits.{bytes_in}
 use Rattle.rlp_show_text.specs.Answer.{bytes_answer, bytes_or_node, record_answer, shown_answer}
 use Rattle.rlp_show_text.specs.Lines.{Field, Shape, Shown, field, fields_lines, in_field, items_lines, lines_if, list_lines, may_have, optional, place, prefix, record_lines}
 use Rattle.rlp_show_text.specs.Lines.{list_of as list_shape_of, list_value_lines, record_of, then_lines, value_lines}
-use Rattle.rlp.specs.Values.FieldReading.{count_if}
 use Rattle.rlp.specs.Values.Value.{items_if}
 
 -- the strict views of the encodings of items
@@ -86,10 +85,10 @@ same_lines before i first fields [] = refl
 same_lines before i first fields (v ∷ vs) = refl
 
 module _ {A : Type 0} (Fits : A → Type 0) (first : Field) (fields : List Field) where
-  pub group_right : (count : A → ℕ) → ((x : A) → Fits x → may_have (first ∷ fields) (count x) ≡ true) → (o : Option A) → IfSome o Fits
-      → may_have (optional first ∷ fields) (count_if count o) ≡ true
-  group_right count right None fit = refl
-  group_right count right (Some x) fit = more_may_have first fields (count x) (right x fit)
+  pub group_right : (items : A → List Item) → ((x : A) → Fits x → may_have (first ∷ fields) (length (items x)) ≡ true) → (o : Option A) → IfSome o Fits
+      → may_have (optional first ∷ fields) (length (items_if items o)) ≡ true
+  group_right items right None fit = refl
+  group_right items right (Some x) fit = more_may_have first fields (length (items x)) (right x fit)
 
   pub group_shown : (items : A → List Item) (before : List ℕ) (i : ℕ) (lines : A → List ℕ)
       → ((x : A) → Fits x → length (join (items x)) < 2 ^ 64 → fields_lines before i (first ∷ fields) (views_of (items x)) ≡ Ok (lines x))
@@ -151,7 +150,7 @@ part_shown before i first others xs ys lines more many is are =
 
 module _ {A : Type 0} (Fits : A → Type 0) (item : A → Item) (shape : Shape) (lines : List ℕ → A → List ℕ)
     (shown : (name : List ℕ) (x : A) → Fits x → IsSized (item x) → shape name (strict_view_of (encoding (item x))) ≡ Ok (lines name x)) where
-  pub optional_right : (name : List ℕ) (o : Option A) → IfSome o Fits → may_have (optional (field name shape) ∷ []) (count_if (λ x. suc 0) o) ≡ true
+  pub optional_right : (name : List ℕ) (o : Option A) → IfSome o Fits → may_have (optional (field name shape) ∷ []) (length (items_if (λ x. item x ∷ []) o)) ≡ true
   optional_right name None fit = refl
   optional_right name (Some x) fit = refl
 

@@ -39,8 +39,6 @@ pub fn show_number<const N: usize>(
     ensures { Shows (number N name.now item.now) (string_bytes out.old) (string_bytes out.new)
         result }
 {
-    // Only the proof needs this: a slice has fewer than 2^64 bytes, each below 256.
-    let _bytes = item.as_raw();
     match item.as_val::<Uint<N>>(alloc) {
         Ok(number) => Ok(put_number_line(name, &number, out)?),
         Err(DecoderError::OutOfMemory) => Err(ShowFault::OutOfMemory),
@@ -57,7 +55,7 @@ fn put_hex_line(name: &str, number: &Uint<32>, out: &mut String) -> Result<(), A
 }
 
 /// Appends the line of the number r or s of a signature, in hexadecimal.
-#[tactic(auto, using(crate::specs::StringLemmas::hex_strings))]
+#[tactic(auto, using(crate::specs::StringLemmas::number_strings))]
 pub fn show_signature_number(
     alloc: Global,
     name: &str,
@@ -67,8 +65,6 @@ pub fn show_signature_number(
     ensures { Shows (signature_number name.now item.now) (string_bytes out.old) (string_bytes out.new)
         result }
 {
-    // Only the proof needs this: a slice has fewer than 2^64 bytes, each below 256.
-    let _bytes = item.as_raw();
     match item.as_val::<Uint<32>>(alloc) {
         Ok(number) => Ok(put_hex_line(name, &number, out)?),
         Err(DecoderError::OutOfMemory) => Err(ShowFault::OutOfMemory),
@@ -109,7 +105,7 @@ fn put_v_line(name: &str, v: &Uint<32>, out: &mut String) -> Result<(), AllocErr
 }
 
 /// Appends the line of the number v of the signature of a transaction without a type.
-#[tactic(auto, using(crate::specs::StringLemmas::v_strings))]
+#[tactic(auto, using(crate::specs::StringLemmas::number_strings))]
 pub fn show_legacy_v(
     alloc: Global,
     name: &str,
@@ -119,8 +115,6 @@ pub fn show_legacy_v(
     ensures { Shows (legacy_v name.now item.now) (string_bytes out.old) (string_bytes out.new)
         result }
 {
-    // Only the proof needs this: a slice has fewer than 2^64 bytes, each below 256.
-    let _bytes = item.as_raw();
     match item.as_val::<Uint<32>>(alloc) {
         Ok(v) => Ok(put_v_line(name, &v, out)?),
         Err(DecoderError::OutOfMemory) => Err(ShowFault::OutOfMemory),
@@ -148,7 +142,7 @@ fn put_unsigned_v_line(name: &str, chain: &Uint<32>, out: &mut String) -> Result
 
 /// Appends the line of the number of the chain, which is in the place of the number v in a
 /// transaction without a type that isn't signed.
-#[tactic(auto, using(crate::specs::StringLemmas::unsigned_v_strings))]
+#[tactic(auto, using(crate::specs::StringLemmas::number_strings))]
 pub fn show_unsigned_v(
     alloc: Global,
     name: &str,
@@ -158,8 +152,6 @@ pub fn show_unsigned_v(
     ensures { Shows (unsigned_v name.now item.now) (string_bytes out.old) (string_bytes out.new)
         result }
 {
-    // Only the proof needs this: a slice has fewer than 2^64 bytes, each below 256.
-    let _bytes = item.as_raw();
     match item.as_val::<Uint<32>>(alloc) {
         Ok(chain) => Ok(put_unsigned_v_line(name, &chain, out)?),
         Err(DecoderError::OutOfMemory) => Err(ShowFault::OutOfMemory),
@@ -189,8 +181,6 @@ pub fn show_truth_value(
     ensures { Shows (truth_value name.now item.now) (string_bytes out.old) (string_bytes out.new)
         result }
 {
-    // Only the proof needs this: a slice has fewer than 2^64 bytes, each below 256.
-    let _bytes = item.as_raw();
     match item.as_val::<bool>(alloc) {
         Ok(value) => Ok(put_truth_line(name, value, out)?),
         Err(DecoderError::OutOfMemory) => Err(ShowFault::OutOfMemory),

@@ -157,8 +157,6 @@ fn show_signing_of(
     ensures { Shows (signing_of six.now name.now v.now) (string_bytes out.old)
         (string_bytes out.new) result }
 {
-    // Only the proof needs this: a slice has fewer than 2^64 bytes, each below 256.
-    let _bytes = v.as_raw();
     match v.as_val::<Uint<32>>(alloc) {
         Ok(v) => Ok(put_said(alloc, name, six, said_by(&v), out)?),
         Err(DecoderError::OutOfMemory) => Err(ShowFault::OutOfMemory),

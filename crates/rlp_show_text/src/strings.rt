@@ -34,8 +34,6 @@ pub fn show_fixed<const N: usize>(
     ensures { Shows (fixed_bytes N name.now item.now) (string_bytes out.old)
         (string_bytes out.new) result }
 {
-    // Only the proof needs this: a slice has fewer than 2^64 bytes, each below 256.
-    let _bytes = item.as_raw();
     match item.as_val::<[u8; N]>(alloc) {
         Ok(bytes) => Ok(put_bytes_line(name, &bytes, out)?),
         Err(DecoderError::OutOfMemory) => Err(ShowFault::OutOfMemory),
@@ -62,7 +60,7 @@ fn put_bloom_line(name: &str, bloom: &[u8], out: &mut String) -> Result<(), Allo
 }
 
 /// Appends the line of a filter of logs.
-#[tactic(auto, using(crate::specs::StringLemmas::bloom_strings))]
+#[tactic(auto, using(crate::specs::StringLemmas::fixed_strings))]
 pub fn show_bloom(
     alloc: Global,
     name: &str,
@@ -72,8 +70,6 @@ pub fn show_bloom(
     ensures { Shows (bloom name.now item.now) (string_bytes out.old) (string_bytes out.new)
         result }
 {
-    // Only the proof needs this: a slice has fewer than 2^64 bytes, each below 256.
-    let _bytes = item.as_raw();
     match item.as_val::<[u8; 256]>(alloc) {
         Ok(bytes) => Ok(put_bloom_line(name, &bytes, out)?),
         Err(DecoderError::OutOfMemory) => Err(ShowFault::OutOfMemory),
@@ -108,8 +104,6 @@ pub fn show_recipient(
     ensures { Shows (recipient name.now item.now) (string_bytes out.old) (string_bytes out.new)
         result }
 {
-    // Only the proof needs this: a slice has fewer than 2^64 bytes, each below 256.
-    let _bytes = item.as_raw();
     match item.as_val::<Recipient>(alloc) {
         Ok(recipient) => Ok(put_bytes_line(name, bytes_of(&recipient), out)?),
         Err(DecoderError::OutOfMemory) => Err(ShowFault::OutOfMemory),
@@ -138,8 +132,6 @@ pub fn show_receipt_status(
     ensures { Shows (receipt_status name.now item.now) (string_bytes out.old) (string_bytes out.new)
         result }
 {
-    // Only the proof needs this: a slice has fewer than 2^64 bytes, each below 256.
-    let _bytes = item.as_raw();
     match item.as_val::<ReceiptStatus>(alloc) {
         Ok(status) => Ok(put_bytes_line(name, bytes_in(&status), out)?),
         Err(DecoderError::OutOfMemory) => Err(ShowFault::OutOfMemory),

@@ -12,9 +12,9 @@ use Rattle.rlp.specs.Format.Encoding.{encoding, join, BeginsWith, IsSized}
 use Rattle.rlp.specs.Format.Framing.{IsFramed, frame}
 use Rattle.rlp.specs.Format.Split.{split}
 use Rattle.rlp.specs.Format.Strict.{IsCanonicalWithin}
-use Rattle.rlp.specs.Lemmas.Frames.{split_join}
-use Rattle.rlp.specs.Lemmas.RawItems.{item_within-encoding, shallow_within}
-use Rattle.rlp.specs.Lemmas.Views.{sized_items}
+use Rattle.rlp_reading.proofs.Lemmas.Frames.{split_join}
+use Rattle.rlp_reading.proofs.Lemmas.RawItems.{item_within-encoding, shallow_within}
+use Rattle.rlp_reading.proofs.Lemmas.Views.{sized_items}
 use Rattle.rlp_tool.specs.RawItems.{AreRawItems, IsShallow, are_raw_items, deepest_raw_item, item_within, raw_items}
 
 -- ---- the rest of raw bytes

@@ -1,3 +1,4 @@
 pub mod OtherTypes
 pub mod Parities
 pub mod Signing
+pub mod Strings

@@ -1,19 +1,58 @@
--- For bodies that read a transaction of any type: which views hold a string of a type that isn't known.
-use Rattle.std.proofs.Common.{◌≡◌, ℕ, ◌^◌, ◌<◌, ◌⊎◌, inl, inr, ⊎_elim, List, length, subst}
-use Rattle.rlp.specs.DecoderError.{DecoderError}
-use Rattle.rlp.specs.DecoderError.TheVariants.{OutOfMemory}
-use Rattle.rlp.specs.Format.Item.{string}
-use Rattle.rlp.specs.Lemmas.ExactReads.{one_held}
-use Rattle.rlp.specs.Lemmas.Told.{string_told}
-use Rattle.rlp.specs.Values.ValueReading.{GivesSome}
-use Rattle.rlp.specs.Views.View.{View, HoldsString}
-use Rattle.rlp_transactions.specs.OtherTransaction.{GivesOther, IsOther}
+-- Transactions of every type by themselves, also of the types that aren't known: the bytes of a transaction are read back, and no other bytes are read.
+use Rattle.std.proofs.Common.{◌≡◌, ℕ, ◌^◌, ◌<◌, ◌⊎◌, inl, inr, Bool, true, false, IsTrue, List, length, refl, sym, ap, ◌∙◌, subst}
+use Rattle.std.proofs.Common.{Result, Ok, Err}
+use Rattle.std.proofs.lemmas.Bool.{cond-true, cond-false}
+use Rattle.rlp.specs.Format.WrittenHeader.{AreBytes}
+use Rattle.rlp.specs.Format.Item.{Item, string}
+use Rattle.rlp.specs.Values.Sums.{OnSum, sum_item}
+use Rattle.rlp_codec.specs.Form.{Answer, Fault, map_value}
+use Rattle.rlp_codec.specs.Sums.{sum_map}
+use Rattle.rlp_codec.proofs.StringLaws.{ReadsStrings}
+use Rattle.rlp_codec.proofs.SumLaws.{sums_fit}
+use Rattle.rlp_records.specs.Alone.{bytes_alone}
+use Rattle.rlp_transactions.specs.OtherStrings.{string_or}
 
--- a view that holds no string of another type fails as a type that is known does
-pub known_fails : (e : DecoderError) {F M N : Type 0} → ¬ N → F ⊎ ((e ≡ OutOfMemory) × M) → (F × ¬ N) ⊎ ((e ≡ OutOfMemory) × (M ⊎ N))
-known_fails e none h = ⊎_elim (λ fault. inl (fault, none)) (λ memory. inr (memory.0, inl memory.1)) h
+module _ {A M : Type 0} (is : List ℕ → Bool) (Fits : A → Type 0) (item : A → Item) (seen : A → M) (written : M → Item) (read : List ℕ → Answer M Fault)
+    (law : ReadsStrings Fits (λ x. bytes_alone (item x)) seen (λ m. bytes_alone (written m)) (λ d. (read d).result))
+    (apart : (x : A) → length (bytes_alone (item x)) < 2 ^ 64 → is (bytes_alone (item x)) ≡ false) where
+  -- the bytes of a value, or the string itself
+  abbrev bytes_or : A ⊎ List ℕ → List ℕ
+  bytes_or s = bytes_alone (sum_item item string s)
 
--- a view whose string isn't of another type gives none
-pub none_other : (v : View) (d : List ℕ) → length v.bytes < 2 ^ 64 → HoldsString v d → ¬ IsOther d → ¬ GivesSome GivesOther v
-none_other v d fits holds none some =
-    none (subst IsOther (string_told some.0 d (one_held v (string some.0) (string d) fits some.1.begins holds)) some.1.fits)
+  abbrev read_or : List ℕ → Result (M ⊎ List ℕ) Fault
+  read_or d = (string_or is (read d) (Ok d)).result
+
+  result_same : {N : Type 0} {a b : Answer N Fault} → a ≡ b → a.result ≡ b.result
+  result_same {N} same = ap (λ (a : Answer N Fault). a.result) same
+
+  or_back : (s : A ⊎ List ℕ) → OnSum Fits (λ d. IsTrue (is d)) s → length (bytes_or s) < 2 ^ 64 → read_or (bytes_or s) ≡ Ok (sum_map seen (λ d. d) s)
+  or_back (inl x) fit short = result_same (cond-false (is (bytes_alone (item x))) _ _ (apart x short)) ∙ ap (map_value inl) (law.back x fit short)
+  or_back (inr d) fit short = result_same (cond-true (is d) _ _ fit)
+
+  value_only : (d : List ℕ) (s : A ⊎ List ℕ) (r : Result M Fault) → AreBytes d → length d < 2 ^ 64 → (read d).result ≡ r
+      → map_value {B = M ⊎ List ℕ} inl r ≡ Ok (sum_map seen (λ d. d) s) → OnSum Fits (λ d. IsTrue (is d)) s × (d ≡ bytes_or s)
+  value_only d (inl x) (Ok y) held short read given = law.only d x held short (read ∙ ap Ok (let same : y ≡ seen x = cc in same))
+  value_only d (inr e) (Ok y) held short read given = absurd (let no : ⊥ = cc in no)
+  value_only d s (Err e) held short read given = absurd (let no : ⊥ = cc in no)
+
+  or_only : (d : List ℕ) (s : A ⊎ List ℕ) (told : Bool) → AreBytes d → length d < 2 ^ 64 → is d ≡ told → read_or d ≡ Ok (sum_map seen (λ d. d) s)
+      → OnSum Fits (λ d. IsTrue (is d)) s × (d ≡ bytes_or s)
+  or_only d s false held short told given = value_only d s (read d).result held short refl (sym (result_same (cond-false (is d) _ _ told)) ∙ given)
+  or_only d (inl x) true held short told given =
+      let r : read_or d ≡ Ok (inr d) = result_same (cond-true (is d) _ _ told) in absurd (let no : ⊥ = cc in no)
+  or_only d (inr e) true held short told given =
+      let r : read_or d ≡ Ok (inr d) = result_same (cond-true (is d) _ _ told) in
+      let same : d ≡ e = cc in
+      (subst (λ d. IsTrue (is d)) same told, same)
+
+  written_by : (s : A ⊎ List ℕ) → bytes_alone (sum_item written string (sum_map seen (λ d. d) s)) ≡ bytes_or s
+  written_by (inl x) = law.same x
+  written_by (inr d) = refl
+
+  pub or_strings : ReadsStrings (OnSum Fits (λ d. IsTrue (is d))) bytes_or (sum_map seen (λ d. d)) (λ m. bytes_alone (sum_item written string m)) read_or
+  or_strings = record {
+    back = or_back;
+    only = λ d s held short given. or_only d s (is d) held short refl given;
+    fits = sums_fit seen (λ d. d) Fits (λ d. IsTrue (is d)) law.fits (λ d e same. subst (λ d. IsTrue (is d)) same);
+    same = written_by;
+  }

@@ -23,4 +23,4 @@ access_list_transaction_fields =
 
 -- the list of these fields, and of the signature
 abbrev pub signed_access_list_transaction : Codec (Signed AccessListTransaction Bool)
-signed_access_list_transaction = signed access_list_transaction_fields (λ p. refl) truth_value
+signed_access_list_transaction = signed access_list_transaction_fields refl truth_value

@@ -15,4 +15,4 @@ authorization_fields =
 
 -- the list of these fields, and of the signature
 abbrev pub signed_authorization : Codec (Signed Authorization ℕ)
-signed_authorization = signed authorization_fields (λ p. refl) (number 1)
+signed_authorization = signed authorization_fields refl (number 1)

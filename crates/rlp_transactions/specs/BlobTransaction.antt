@@ -27,4 +27,4 @@ blob_transaction_fields =
 
 -- the list of these fields, and of the signature
 abbrev pub signed_blob_transaction : Codec (Signed BlobTransaction Bool)
-signed_blob_transaction = signed blob_transaction_fields (λ p. refl) truth_value
+signed_blob_transaction = signed blob_transaction_fields refl truth_value

@@ -1,8 +1,10 @@
 -- How transactions of type 3 are written and read with their blobs, as they are sent between nodes.
-use Rattle.std.specs.Prelude.{ℕ, ◌≢◌, ⊤, List, [], ◌∷◌, codes, refl}
+use Rattle.std.specs.Prelude.{ℕ, ◌≡◌, ⊤, Bool, true, false, if◌then◌else◌, List, [], ◌∷◌, Result, Ok, Err, codes, refl}
+use Rattle.std.specs.Str.{bytes_eq}
 use Rattle.std.specs.Vec.{vec_items}
-use Rattle.rlp.specs.DecoderError.{DecoderError}
-use Rattle.rlp.specs.Values.ValueReading.{IsCustom}
+use Rattle.std.proofs.lemmas.Bool.{cond-false}
+use Rattle.std.proofs.lemmas.Slice.Eq.{bytes_eq-Decides}
+use Rattle.rlp_codec.specs.Form.{Fault, custom}
 use Rattle.rlp.specs.Codec.{Codec, Fields, byte_array, end, field, list_type, string_type, struct_of}
 use Rattle.rlp_transactions.specs.declared.blob_wrapper.BlobTransactionWithCellProofs.{BlobTransactionWithCellProofs}
 use Rattle.rlp_transactions.specs.declared.blob_wrapper.BlobTransactionWithProofs.{BlobTransactionWithProofs}
@@ -26,18 +28,23 @@ with_proofs = struct_of proofs_fields
 abbrev pub version_bytes : WrapperVersion → List ℕ
 version_bytes version = 1 ∷ []
 
--- The fault of a string that isn't the version.
-pub data IsVersionFault (d : List ℕ) (e : DecoderError) : Type 0 where
-  other_version : d ≢ 1 ∷ [] → IsCustom (codes "unknown wrapper version") e → IsVersionFault d e
+-- whether a string is the version
+abbrev pub version_of : List ℕ → Result ⊤ Fault
+version_of d = if bytes_eq d (1 ∷ []) then Ok tt else Err (custom (codes "unknown wrapper version"))
 
-pub ruleset version_faults = (other_version)
-
-pub sound_version : (version : WrapperVersion) (e : DecoderError) → ⊤ → ¬ IsVersionFault (version_bytes version) e
-sound_version version e fit (other_version differ custom) = differ refl
+pub version_by : (d : List ℕ) (same : Bool) → bytes_eq d (1 ∷ []) ≡ same → version_of d ≡ Ok tt → d ≡ 1 ∷ []
+version_by d true same is = (bytes_eq-Decides d (1 ∷ [])).0 same
+version_by d false same is =
+    let r : version_of d ≡ Err (custom (codes "unknown wrapper version")) = cond-false (bytes_eq d (1 ∷ [])) _ _ same in absurd (let no : ⊥ = cc in no)
 
 -- the string of the byte 1
 abbrev pub wrapper_version : Codec WrapperVersion
-wrapper_version = string_type (λ version. ⊤) version_bytes IsVersionFault sound_version
+wrapper_version = string_type (λ version. ⊤) version_bytes (λ version. tt) (λ seen. 1 ∷ []) version_of false (record {
+  back = λ version fit short. refl;
+  only = λ d version held short is. (tt, version_by d (bytes_eq d (1 ∷ [])) refl is);
+  fits = λ version other same fit. tt;
+  same = λ version. refl;
+})
 
 -- EIP-7594: rlp([tx_payload_body, wrapper_version, blobs, commitments, cell_proofs])
 abbrev pub cell_proofs_fields : Fields BlobTransactionWithCellProofs

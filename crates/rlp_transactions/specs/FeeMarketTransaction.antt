@@ -24,4 +24,4 @@ fee_market_transaction_fields =
 
 -- the list of these fields, and of the signature
 abbrev pub signed_fee_market_transaction : Codec (Signed FeeMarketTransaction Bool)
-signed_fee_market_transaction = signed fee_market_transaction_fields (λ p. refl) truth_value
+signed_fee_market_transaction = signed fee_market_transaction_fields refl truth_value

@@ -20,7 +20,7 @@ legacy_transaction_fields =
 
 -- these fields, and then those of the signature
 abbrev pub signed_legacy_transaction_fields : Fields (Signed LegacyTransaction (Uint 32))
-signed_legacy_transaction_fields = signed_fields legacy_transaction_fields (λ p. refl) (uint 32)
+signed_legacy_transaction_fields = signed_fields legacy_transaction_fields refl (uint 32)
 
 -- the list of all of them
 abbrev pub signed_legacy_transaction : Codec (Signed LegacyTransaction (Uint 32))

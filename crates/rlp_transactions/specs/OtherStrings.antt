@@ -1,62 +1,112 @@
--- Values of a type beside strings that are none of its items: they are read back, and read strictly.
-use Rattle.std.proofs.Common.{◌≡◌, ◌↔◌, ℕ, ◌^◌, ◌<◌, ◌⊎◌, inl, inr, List, length, sym, subst}
+-- Values of a type beside strings that are none of the items of the type.
+use Rattle.std.proofs.Common.{◌≡◌, ℕ, ◌^◌, ◌<◌, ◌⊎◌, inl, inr, Bool, true, false, IsTrue, if◌then◌else◌, List, [], ◌∷◌, length, refl, sym, ap, ◌∙◌, subst}
+use Rattle.std.proofs.Common.{leb-true, Result, Ok, Err}
+use Rattle.std.proofs.lemmas.Bool.{cond-true, cond-false}
 use Rattle.rlp.specs.DecoderError.{DecoderError}
-use Rattle.rlp.specs.Format.Item.{string}
+use Rattle.rlp.specs.DecoderError.TheVariants.{RlpExpectedToBeData}
+use Rattle.rlp.specs.Format.Item.{Item, is_list, list, string}
+use Rattle.rlp.specs.Format.Encoding.{encoding}
+use Rattle.rlp.specs.Format.Split.{begins_as_list}
 use Rattle.rlp.specs.Format.WrittenHeader.{AreBytes}
-use Rattle.rlp.specs.Codec.{Codec}
-use Rattle.rlp.specs.Lemmas.ExactReads.{one_held}
-use Rattle.rlp.specs.Values.RoundTrip.{ReadsBack, ReadsStrictly}
 use Rattle.rlp.specs.Values.Sums.{OnSum, sum_item}
-use Rattle.rlp.specs.Values.ValueReading.{GivesSome, GivesValue}
-use Rattle.rlp.specs.Views.View.{View, HoldsItem, strict_view_of, view_of}
+use Rattle.rlp.specs.Views.View.{View, Holds, HoldsItem, strict_view_of, view_string}
+use Rattle.rlp_reading.specs.Format.StringReading.{read_string}
+use Rattle.rlp_reading.proofs.Lemmas.Strings.{string_list}
+use Rattle.rlp_reading.proofs.Lemmas.StringsHeld.{ReadsHeld, held_begins, held_fault, held_only, held_reads}
+use Rattle.rlp_reading.proofs.Lemmas.Sums.{list_first}
+use Rattle.rlp_codec.specs.Form.{Answer, Fault, Form, here, map_answer, map_value, seen_fault, string_of}
+use Rattle.rlp_codec.specs.Laws.{GivesOnly, IsLawful, viewed}
+use Rattle.rlp_codec.specs.Sums.{sum_map}
+use Rattle.rlp_codec.proofs.SumLaws.{sums_fit, sums_written}
 
-module _ {A : Type 0} (c : Codec A) (Is : List ℕ → Type 0) (apart : (x : A) (d : List ℕ) → Is d → ¬ (c.item x ≡ string d)) where
-  abbrev GivesOther : View → List ℕ → Type 0
-  GivesOther v d = GivesValue Is string v d
+-- What a view gives whose string is r: the string if it is one that `is` tells, and else what the type gives.
+abbrev pub string_or : {M : Type 0} → (List ℕ → Bool) → Answer M Fault → Result (List ℕ) Fault → Answer (M ⊎ List ℕ) Fault
+string_or is a (Ok d) = if is d then here (Ok (inr d)) else map_answer inl a
+string_or is a (Err e) = map_answer inl a
 
-  abbrev OrFits : A ⊎ List ℕ → Type 0
-  OrFits s = OnSum c.Fits Is s
+-- A value of a type, or a string that is none of its items. A view that holds such a string gives it, and any other view is read as the type.
+abbrev pub or_string : {A : Type 0} → Form A → (List ℕ → Bool) → Form (A ⊎ List ℕ)
+or_string c is = record {
+  Fits = OnSum c.Fits (λ d. IsTrue (is d));
+  item = sum_item c.item string;
+  reading = record {
+    M = c.reading.M ⊎ List ℕ;
+    seen = sum_map c.reading.seen (λ d. d);
+    item = sum_item c.reading.item string;
+    read = λ v. string_or is (c.reading.read v) (string_of v);
+    takes_memory = true;
+  };
+}
 
-  abbrev OrGives : View → A ⊎ List ℕ → Type 0
-  OrGives v s = OnSum (λ x. c.gives v x × ¬ GivesSome GivesOther v) (GivesOther v) s
+-- a view that holds a list holds no string
+no_string : (v : View) (x : Item) → length v.bytes < 2 ^ 64 → HoldsItem v x → is_list x ≡ true → view_string v ≡ Err RlpExpectedToBeData
+no_string v x fits holds kind =
+    held_fault v RlpExpectedToBeData (by v.bytes (list_first x v.bytes fits (held_begins v x holds) kind))
+  where
+    by : (b : List ℕ) → begins_as_list b ≡ true → read_string b ≡ Err RlpExpectedToBeData
+    by [] kind = absurd (let no : ⊥ = cc in no)
+    by (first ∷ rest) kind = string_list first rest (leb-true 0xc0 first kind)
 
-  abbrev OrFaults : View → DecoderError → Type 0
-  OrFaults v e = c.faults v e × ¬ GivesSome GivesOther v
+pub same_string : (d e : List ℕ) → string d ≡ string e → d ≡ e
+same_string d e same = cc
 
-  -- a view that holds the item of a value holds no such string
-  none_beside : (v : View) (x : A) → length v.bytes < 2 ^ 64 → HoldsItem v (c.item x) → ¬ GivesSome GivesOther v
-  none_beside v x fits holds some = apart x some.0 some.1.fits (one_held v (c.item x) (string some.0) fits holds some.1.begins)
+module _ {A : Type 0} (c : Form A) (is : List ℕ → Bool) (apart : (x : A) (d : List ℕ) → IsTrue (is d) → ¬ (c.item x ≡ string d)) where
+  result_same : {M : Type 0} {a b : Answer M Fault} → a ≡ b → a.result ≡ b.result
+  result_same {M} same = ap (λ (a : Answer M Fault). a.result) same
 
-  value_alike : (v : View) (x : A) → ¬ GivesSome GivesOther v → ReadsBack c.Fits c.item c.gives c.faults v x → (w : A ⊎ List ℕ)
-      → OrGives v w ↔ (OrFits w × (sum_item c.item string w ≡ c.item x))
-  value_alike v x none back (inl w) = (λ g. (back.alike w).0 g.0, λ h. ((back.alike w).1 h, none))
-  value_alike v x none back (inr d) = (λ g. absurd (none (d, g)), λ h. absurd (apart x d h.0 (sym h.1)))
+  -- what a view gives whose string is r
+  abbrev chosen : View → Result (List ℕ) Fault → Result (c.reading.M ⊎ List ℕ) Fault
+  chosen v r = (string_or is (c.reading.read v) r).result
 
-  string_alike : (v : View) (d : List ℕ) → length v.bytes < 2 ^ 64 → GivesOther v d → (w : A ⊎ List ℕ)
-      → OrGives v w ↔ (OrFits w × (sum_item c.item string w ≡ string d))
-  string_alike v d fits given (inl w) = (λ g. absurd (g.1 (d, given)), λ h. absurd (apart w d given.fits h.1))
-  string_alike v d fits given (inr e) = (
-    λ g. (g.fits, one_held v (string e) (string d) fits g.begins given.begins),
-    λ h. record { fits = h.0; begins = subst (HoldsItem v) (sym h.1) given.begins },
-  )
+  value_by : (v : View) (x : A) (i : Item) → length v.bytes < 2 ^ 64 → HoldsItem v i → c.item x ≡ i
+      → chosen v (string_of v) ≡ map_value inl (c.reading.read v).result
+  value_by v x (list xs) fits holds same = ap (λ r. chosen v (seen_fault r)) (no_string v (list xs) fits holds refl)
+  value_by v x (string d) fits holds same =
+      ap (λ r. chosen v (seen_fault r)) (held_only v d fits holds) ∙ result_same (cond-false (is d) _ _ (other (is d) refl))
+    where
+      other : (b : Bool) → is d ≡ b → is d ≡ false
+      other true told = absurd (apart x d told same)
+      other false differs = differs
 
-  pub or_reads_back : (b : List ℕ) (s : A ⊎ List ℕ) → length b < 2 ^ 64 → OrFits s → HoldsItem (view_of b) (sum_item c.item string s)
-      → ReadsBack OrFits (sum_item c.item string) OrGives OrFaults (view_of b) s
-  or_reads_back b (inl x) fits fit begins =
-      let back = c.reads_back b x fits fit begins in
-      record { alike = value_alike (view_of b) x (none_beside (view_of b) x fits begins) back; no_fault = λ e bad. back.no_fault e bad.0 }
-  or_reads_back b (inr d) fits fit begins =
-      let given : GivesOther (view_of b) d = record { fits = fit; begins = begins } in
-      record { alike = string_alike (view_of b) d fits given; no_fault = λ e bad. bad.1 (d, given) }
+  or_back : IsLawful c → (is_strict : Bool) (b : List ℕ) (s : A ⊎ List ℕ) → length b < 2 ^ 64 → (or_string c is).Fits s
+      → Holds is_strict b (encoding (sum_item c.item string s)) → chosen (viewed is_strict b) (string_of (viewed is_strict b)) ≡ Ok ((or_string c is).reading.seen s)
+  or_back law is_strict b (inl x) fits fit holds =
+      value_by (viewed is_strict b) x (c.item x) fits holds refl ∙ ap (map_value inl) ((law.back is_strict).back b x fits fit holds)
+  or_back law is_strict b (inr d) fits fit holds =
+      ap (λ r. chosen (viewed is_strict b) (seen_fault r)) (held_only (viewed is_strict b) d fits holds) ∙ result_same (cond-true (is d) _ _ fit)
 
-  pub or_strict : (b : List ℕ) (s : A ⊎ List ℕ) → AreBytes b → length b < 2 ^ 64 → ReadsStrictly OrFits (sum_item c.item string) OrGives OrFaults b s
-  or_strict b (inl x) bytes fits =
-      let strict = c.reads_strictly b x bytes fits in
-      record {
-        exact = (λ g. strict.exact.0 g.0, λ h. (strict.exact.1 h, none_beside (strict_view_of b) x fits h.1));
-        sound = λ fit is e bad. strict.sound fit is e bad.0;
-      }
-  or_strict b (inr d) bytes fits = record {
-    exact = (λ g. (g.fits, g.begins), λ h. record { fits = h.0; begins = h.1 });
-    sound = λ fit is e bad. bad.1 (d, record { fits = fit; begins = is });
+  value_only : GivesOnly true c → (b : List ℕ) (s : A ⊎ List ℕ) (r : Result c.reading.M Fault) → AreBytes b → length b < 2 ^ 64
+      → (c.reading.read (strict_view_of b)).result ≡ r → map_value {B = c.reading.M ⊎ List ℕ} inl r ≡ Ok ((or_string c is).reading.seen s)
+      → (or_string c is).Fits s × (b ≡ encoding (sum_item c.item string s))
+  value_only law b (inl x) (Ok y) bytes fits read given = law.only b x bytes fits (read ∙ ap Ok (let same : y ≡ c.reading.seen x = cc in same))
+  value_only law b (inr d) (Ok y) bytes fits read given = absurd (let no : ⊥ = cc in no)
+  value_only law b s (Err e) bytes fits read given = absurd (let no : ⊥ = cc in no)
+
+  string_only : GivesOnly true c → (b d : List ℕ) (s : A ⊎ List ℕ) (told : Bool) → AreBytes b → length b < 2 ^ 64 → b ≡ encoding (string d) → is d ≡ told
+      → chosen (strict_view_of b) (Ok d) ≡ Ok ((or_string c is).reading.seen s) → (or_string c is).Fits s × (b ≡ encoding (sum_item c.item string s))
+  string_only law b d s false bytes fits whole told given =
+      value_only law b s (c.reading.read (strict_view_of b)).result bytes fits refl (sym (result_same (cond-false (is d) _ _ told)) ∙ given)
+  string_only law b d (inl x) true bytes fits whole told given =
+      let r : chosen (strict_view_of b) (Ok d) ≡ Ok (inr d) = result_same (cond-true (is d) _ _ told) in absurd (let no : ⊥ = cc in no)
+  string_only law b d (inr s) true bytes fits whole told given =
+      let r : chosen (strict_view_of b) (Ok d) ≡ Ok (inr d) = result_same (cond-true (is d) _ _ told) in
+      let same : d ≡ s = cc in
+      (subst (λ d. IsTrue (is d)) same told, subst (λ d. b ≡ encoding (string d)) same whole)
+
+  or_only : GivesOnly true c → (b : List ℕ) (s : A ⊎ List ℕ) (r : Result (List ℕ) DecoderError) → AreBytes b → length b < 2 ^ 64 → ReadsHeld true b r
+      → chosen (strict_view_of b) (seen_fault r) ≡ Ok ((or_string c is).reading.seen s)
+      → (or_string c is).Fits s × (b ≡ encoding (sum_item c.item string s))
+  or_only law b s (Err e) bytes fits held given = value_only law b s (c.reading.read (strict_view_of b)).result bytes fits refl given
+  or_only law b s (Ok d) bytes fits held given = string_only law b d s (is d) bytes fits held refl given
+
+  pub or_lawful : IsLawful c → IsLawful (or_string c is)
+  or_lawful law = record {
+    told = record {
+      fits = sums_fit c.reading.seen (λ d. d) c.Fits (λ d. IsTrue (is d)) law.told.fits (λ d e same. subst (λ d. IsTrue (is d)) same);
+      written = sums_written c.reading.seen (λ d. d) c.item string c.reading.item string law.told.written (λ d. refl);
+    };
+    back = λ is_strict. record { back = or_back law is_strict };
+    exact = record {
+      only = λ b s bytes fits given. or_only law.exact b s (view_string (strict_view_of b)) bytes fits (held_reads (strict_view_of b) bytes fits) given;
+    };
   }

@@ -1,23 +1,20 @@
 -- Transactions of types that this crate doesn't know: which bytes they are.
-use Rattle.std.specs.Prelude.{ℕ, ◌<◌, List, [], ◌∷◌, codes}
-use Rattle.rlp.specs.Format.Item.{string}
-use Rattle.rlp.specs.Values.Sums.{IsOtherTag}
-use Rattle.rlp.specs.Values.ValueReading.{GivesValue}
-use Rattle.rlp.specs.Views.View.{View}
-use Rattle.rlp_transactions.specs.Transaction.{typed_transactions}
+use Rattle.std.specs.Prelude.{ℕ, ◌&&◌, nat_lt, not, Bool, false, IsTrue, List, [], ◌∷◌, codes}
+use Rattle.rlp_records.specs.Bounded.{is_read_type}
 
--- EIP-2718: "TransactionType is a positive unsigned 8-bit number between 0 and 0x7f that represents the type of the transaction". This one is none of those above.
-abbrev pub IsOtherType : ℕ → Type 0
-IsOtherType kind = (kind < 0x80) × IsOtherTag typed_transactions.tags kind
+-- EIP-2718: "TransactionType is a positive unsigned 8-bit number between 0 and 0x7f that represents the type of the transaction". This type is none of 1 to 4,
+-- the types that are known.
+abbrev pub is_other_type : ℕ → Bool
+is_other_type kind = nat_lt kind 0x80 && not (is_read_type kind)
 
 -- "TransactionType || TransactionPayload" of a type that isn't known; the payload is any bytes
-abbrev pub IsOther : List ℕ → Type 0
-IsOther [] = ⊥
-IsOther (kind ∷ payload) = IsOtherType kind
+abbrev pub is_other : List ℕ → Bool
+is_other [] = false
+is_other (kind ∷ payload) = is_other_type kind
 
--- the view gives the string of such a transaction
-abbrev pub GivesOther : View → List ℕ → Type 0
-GivesOther v d = GivesValue IsOther string v d
+-- the bytes are a transaction of another type
+abbrev pub IsOther : List ℕ → Type 0
+IsOther d = IsTrue (is_other d)
 
 -- the number of the type
 abbrev pub other_type : List ℕ → ℕ

@@ -1,8 +1,11 @@
 -- How recipients are written and read.
-use Rattle.std.specs.Prelude.{ℕ, ◌≡◌, ◌<◌, ⊤, List, [], length}
-use Rattle.std.proofs.Common.{arith}
-use Rattle.rlp.specs.DecoderError.{DecoderError}
-use Rattle.rlp.specs.DecoderError.TheVariants.{RlpIsTooBig, RlpIsTooShort}
+use Rattle.std.specs.Prelude.{ℕ, ◌≡◌, ◌↔◌, ⊤, Bool, true, false, List, [], ◌∷◌, length, Result, Ok, Err}
+use Rattle.std.proofs.Common.{refl, ap, ◌∙◌, ltb, ltb-false, arith}
+use Rattle.std.proofs.lemmas.Bool.{cond-true, cond-false}
+use Rattle.rlp_codec.specs.Form.{Fault, fixed_of, is_too_big, is_too_short, map_value}
+use Rattle.rlp_codec.specs.Kinds.{read_kind}
+use Rattle.rlp_codec.proofs.KindLaws.{kinds_read}
+use Rattle.rlp_codec.proofs.StringLaws.{array_strings}
 use Rattle.rlp.specs.Codec.{Codec, string_type}
 use Rattle.rlp_transactions.specs.declared.recipient.Recipient.{Recipient}
 use Rattle.rlp_transactions.specs.declared.recipient.Recipient.TheVariants.{Creation, Account}
@@ -17,19 +20,39 @@ abbrev pub IsRecipient : Recipient → Type 0
 IsRecipient Creation = ⊤
 IsRecipient (Account address) = length address.0 ≡ 20
 
--- The fault of a string that isn't a recipient's: it has 1 to 19 bytes, or more than 20.
-pub data IsRecipientFault (d : List ℕ) : DecoderError → Type 0 where
-  shorter_recipient : 0 < length d → length d < 20 → IsRecipientFault d RlpIsTooShort
-  longer_recipient : 20 < length d → IsRecipientFault d RlpIsTooBig
+-- whether the recipient is an account
+abbrev pub is_account : Recipient → Bool
+is_account Creation = false
+is_account (Account address) = true
 
-pub ruleset recipient_faults = (shorter_recipient, longer_recipient)
+-- whether a string is an account: no bytes are none, and 20 bytes are one
+abbrev pub account_of : List ℕ → Result Bool Fault
+account_of [] = Ok false
+account_of (byte ∷ rest) = map_value (λ d. true) (fixed_of 20 (byte ∷ rest))
 
-pub sound_recipient : (r : Recipient) (e : DecoderError) → IsRecipient r → ¬ IsRecipientFault (recipient_bytes r) e
-sound_recipient Creation e fit (shorter_recipient some few) = omega arith
-sound_recipient Creation e fit (longer_recipient many) = omega arith
-sound_recipient (Account address) e fit (shorter_recipient some few) = omega arith
-sound_recipient (Account address) e fit (longer_recipient many) = omega arith
+account_back : (d : List ℕ) → length d ≡ 20 → fixed_of 20 d ≡ Ok d → account_of d ≡ Ok true
+account_back [] whole is = absurd (omega (arith, whole))
+account_back (byte ∷ rest) whole is = ap (map_value (λ d. true)) is
+
+fixed_by : (d : List ℕ) (few many : Bool) → ltb (length d) 20 ≡ few → ltb 20 (length d) ≡ many → map_value (λ d. true) (fixed_of 20 d) ≡ Ok true → length d ≡ 20
+fixed_by d true many less more is =
+    let r : fixed_of 20 d ≡ Err is_too_short = cond-true (ltb (length d) 20) _ _ less in absurd (let no : ⊥ = cc in no)
+fixed_by d false true less more is =
+    let r : fixed_of 20 d ≡ Err is_too_big = cond-false (ltb (length d) 20) _ _ less ∙ cond-true (ltb 20 (length d)) _ _ more in absurd (let no : ⊥ = cc in no)
+fixed_by d false false less more is = omega (arith, ltb-false _ _ less, ltb-false _ _ more)
+
+account_whole : (d : List ℕ) → account_of d ≡ Ok true → length d ≡ 20
+account_whole [] is = absurd (let no : ⊥ = cc in no)
+account_whole (byte ∷ rest) is = fixed_by (byte ∷ rest) (ltb (length (byte ∷ rest)) 20) (ltb 20 (length (byte ∷ rest))) refl refl is
+
+-- a recipient fits exactly if its bytes tell what it is
+pub recipient_told : (r : Recipient) → IsRecipient r ↔ (account_of (recipient_bytes r) ≡ Ok (is_account r))
+recipient_told Creation = (λ fit. refl, λ is. tt)
+recipient_told (Account address) =
+    (λ fit. account_back address.0 fit ((array_strings 20).back address.0 fit (omega (arith, fit))), account_whole address.0)
 
 -- the string of the account's bytes, or the empty string
 abbrev pub recipient : Codec Recipient
-recipient = string_type IsRecipient recipient_bytes IsRecipientFault sound_recipient
+recipient =
+    string_type IsRecipient recipient_bytes (λ r. (is_account r, recipient_bytes r)) (λ m. m.1) (read_kind account_of) false
+    (kinds_read IsRecipient recipient_bytes is_account account_of (record { of_kind = recipient_told }))

@@ -26,4 +26,4 @@ set_code_transaction_fields =
 
 -- the list of these fields, and of the signature
 abbrev pub signed_set_code_transaction : Codec (Signed SetCodeTransaction Bool)
-signed_set_code_transaction = signed set_code_transaction_fields (λ p. refl) truth_value
+signed_set_code_transaction = signed set_code_transaction_fields refl truth_value

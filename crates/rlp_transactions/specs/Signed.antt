@@ -1,13 +1,8 @@
 -- How payloads are written and read, with their signatures and without.
-use Rattle.std.specs.Prelude.{List, ◌++◌, ◌∷◌}
-use Rattle.rlp.specs.DecoderError.{DecoderError}
+use Rattle.std.specs.Prelude.{◌≡◌, List, ◌++◌, ◌∷◌, true}
 use Rattle.rlp.specs.Format.Item.{Item, list_of}
-use Rattle.rlp.specs.Views.View.{View}
-use Rattle.rlp.specs.Codec.{Codec, Fields, IsFixed, end, field, newtype, struct_of, uint}
-use Rattle.rlp.specs.Codecs.Parts.{group}
-use Rattle.rlp.specs.Values.FieldReading.{FieldsReading, field_before}
-use Rattle.rlp.specs.Values.ListReading.{GivesAt, GivesSomeAt, MayLackAt}
-use Rattle.rlp.specs.Values.Parts.{fields_before}
+use Rattle.rlp_codec.specs.Form.{FieldsReading, Reading, group_before, one_field, struct_reading}
+use Rattle.rlp.specs.Codec.{Codec, Fields, end, field, group, newtype, struct_of, uint}
 use Rattle.rlp_transactions.specs.declared.signed.Signed.{Signed}
 use Rattle.rlp_transactions.specs.declared.signed.Listed.{Listed}
 
@@ -20,11 +15,11 @@ abbrev pub both_numbers : {T V : Type 0} → Fields (Signed T V)
 both_numbers {T} {V} = field (λ (x : Signed T V). x.r) (uint 32) (field (λ (x : Signed T V). x.s) (uint 32) end)
 
 -- the fields of the payload, and then those of the signature
-abbrev pub signed_fields : {T V : Type 0} (f : Fields T) → IsFixed f → Codec V → Fields (Signed T V)
+abbrev pub signed_fields : {T V : Type 0} (f : Fields T) → f.reading.is_fixed ≡ true → Codec V → Fields (Signed T V)
 signed_fields {T} {V} f fixed c = group (λ (x : Signed T V). x.payload) f fixed (field (λ (x : Signed T V). x.v) c both_numbers)
 
 -- the list of these fields
-abbrev pub signed : {T V : Type 0} (f : Fields T) → IsFixed f → Codec V → Codec (Signed T V)
+abbrev pub signed : {T V : Type 0} (f : Fields T) → f.reading.is_fixed ≡ true → Codec V → Codec (Signed T V)
 signed f fixed c = struct_of (signed_fields f fixed c)
 
 -- ---- the members of that codec, for types without known laws
@@ -35,7 +30,5 @@ signed_item items v_item x = list_of (items x.payload ++ (v_item x.v ∷ both_nu
 abbrev pub SignedFits : {T V : Type 0} → (T → Type 0) → (V → Type 0) → Signed T V → Type 0
 SignedFits Fit VFits x = Fit x.payload × (VFits x.v × both_numbers.Fits x)
 
-abbrev pub signed_reading : {T V : Type 0} → FieldsReading T → (View → V → Type 0) → (View → DecoderError → Type 0) → (View → Type 0)
-    → FieldsReading (Signed T V)
-signed_reading r gives faults may_lack = fields_before (λ x. x.payload) r
-    (field_before (λ i v x. GivesAt gives v i x.v) (λ i v. GivesSomeAt gives v i) faults (λ i v. MayLackAt may_lack v i) both_numbers.reading)
+abbrev pub signed_reading : {T V : Type 0} → FieldsReading T → Reading V → Reading (Signed T V)
+signed_reading {T} {V} r s = struct_reading (group_before (λ (x : Signed T V). x.payload) r (group_before (λ x. x.v) (one_field s) both_numbers.reading))

@@ -1,10 +1,10 @@
 -- What a key signs, and when two of these mean the same.
-use Rattle.std.specs.Prelude.{ℕ, List, ◌∷◌}
+use Rattle.std.specs.Prelude.{ℕ, ◌≡◌, List, ◌∷◌}
 use Rattle.rlp.specs.Format.Item.{list_of}
 use Rattle.rlp.specs.Format.Encoding.{encoding}
 use Rattle.rlp_records.specs.Alone.{bytes_alone}
 use Rattle.rlp_transactions.specs.Authorization.{authorization_fields}
-use Rattle.rlp_transactions.specs.UnsignedTransaction.{HaveSameFields, unsigned_transaction}
+use Rattle.rlp_transactions.specs.UnsignedTransaction.{unsigned_transaction}
 use Rattle.rlp_transactions.specs.declared.authorization.Authorization.{Authorization}
 use Rattle.rlp_transactions.specs.declared.unsigned_transaction.UnsignedTransaction.{UnsignedTransaction}
 
@@ -25,7 +25,7 @@ FitsSigning (an_authorization a) = authorization_fields.Fits a
 
 -- both are transactions of one type with the same fields, or authorizations with the same fields
 abbrev pub HaveOneMeaning : Signable → Signable → Type 0
-HaveOneMeaning (a_transaction t) (a_transaction u) = HaveSameFields t u
+HaveOneMeaning (a_transaction t) (a_transaction u) = unsigned_transaction.reading.seen t ≡ unsigned_transaction.reading.seen u
 HaveOneMeaning (a_transaction t) (an_authorization b) = ⊥
 HaveOneMeaning (an_authorization a) (a_transaction u) = ⊥
-HaveOneMeaning (an_authorization a) (an_authorization b) = authorization_fields.Same a b
+HaveOneMeaning (an_authorization a) (an_authorization b) = authorization_fields.reading.seen a ≡ authorization_fields.reading.seen b

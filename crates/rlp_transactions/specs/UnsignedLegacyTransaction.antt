@@ -1,7 +1,7 @@
 -- How legacy transactions are written and read before they are signed.
 use Rattle.std.specs.Prelude.{ℕ, [], refl}
 use Rattle.rlp.specs.Codec.{Codec, Fields, byte_array, end, field, number, optional_group, struct_of}
-use Rattle.rlp.specs.Codecs.Parts.{group}
+use Rattle.rlp.specs.Codec.{group}
 use Rattle.rlp_transactions.specs.declared.unsigned_legacy_transaction.UnsignedLegacyTransaction.{UnsignedLegacyTransaction}
 use Rattle.rlp_transactions.specs.LegacyTransaction.{legacy_transaction_fields}
 
@@ -12,5 +12,5 @@ chain_fields = field (λ (chain : ℕ). chain) (number 8) (field (λ (chain : �
 -- EIP-155: (nonce, gasprice, startgas, to, value, data), or these six and (chainid, 0, 0) if there is a number of the chain
 abbrev pub unsigned_legacy_transaction : Codec UnsignedLegacyTransaction
 unsigned_legacy_transaction = struct_of (
-    group (λ (u : UnsignedLegacyTransaction). u.payload) legacy_transaction_fields (λ p. refl) (
+    group (λ (u : UnsignedLegacyTransaction). u.payload) legacy_transaction_fields refl (
     optional_group (λ (u : UnsignedLegacyTransaction). u.chain_id) chain_fields refl))

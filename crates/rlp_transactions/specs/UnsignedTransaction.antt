@@ -1,10 +1,9 @@
 -- How transactions of every type are written and read before they are signed.
-use Rattle.std.specs.Prelude.{◌⊎◌, refl}
+use Rattle.std.specs.Prelude.{ℕ, List, ◌⊎◌, refl}
 use Rattle.std.proofs.Common.{inl, inr}
-use Rattle.rlp.specs.Codec.{Codec, newtype, struct_of}
-use Rattle.rlp.specs.Codecs.Sums.{Cases, SameCase, and_case, enveloped, last_case, list_or_string}
-use Rattle.rlp.specs.Values.Same.{SameSum}
-use Rattle.rlp_records.specs.Alone.{unknown_type}
+use Rattle.rlp.specs.Codec.{Cases, Codec, and_case, enveloped, last_case, list_or_string, newtype, struct_of}
+use Rattle.rlp_codec.specs.Form.{Answer, Fault}
+use Rattle.rlp_records.specs.Alone.{read_alone, unknown_type}
 use Rattle.rlp_transactions.specs.declared.access_list_transaction.AccessListTransaction.{AccessListTransaction}
 use Rattle.rlp_transactions.specs.declared.blob_transaction.BlobTransaction.{BlobTransaction}
 use Rattle.rlp_transactions.specs.declared.fee_market_transaction.FeeMarketTransaction.{FeeMarketTransaction}
@@ -24,7 +23,7 @@ unsigned_types =
     and_case 1 (struct_of access_list_transaction_fields) (
     and_case 2 (struct_of fee_market_transaction_fields) (
     and_case 3 (struct_of blob_transaction_fields) (
-    last_case 4 (struct_of set_code_transaction_fields))))
+    last_case unknown_type 4 (struct_of set_code_transaction_fields))))
 
 -- a transaction of one of these types
 abbrev pub unsigned_sum : UnsignedTransaction → UnsignedLegacyTransaction
@@ -38,8 +37,8 @@ unsigned_sum (SetCode t) = inr (inr (inr (inr t)))
 -- a legacy transaction is a list, and a typed one the string of its type and its payload
 abbrev pub unsigned_transaction : Codec UnsignedTransaction
 unsigned_transaction = newtype unsigned_sum
-    (list_or_string unsigned_legacy_transaction (enveloped unknown_type unsigned_types) (λ t. refl) (λ t. refl))
+    (list_or_string unsigned_legacy_transaction (enveloped unsigned_types) (λ t. refl) (λ t. refl))
 
--- both are of one type, and each field is the same
-abbrev pub HaveSameFields : UnsignedTransaction → UnsignedTransaction → Type 0
-HaveSameFields t u = SameSum unsigned_legacy_transaction.Same (SameCase unsigned_types) (unsigned_sum t) (unsigned_sum u)
+-- what bytes give by themselves
+abbrev pub unsigned_alone : List ℕ → Answer unsigned_transaction.reading.M Fault
+unsigned_alone d = read_alone unsigned_legacy_transaction.reading.read unsigned_types.cases.read d

@@ -29,11 +29,7 @@ impl Encodable for AccessListItem {
 }
 
 impl Decodable for AccessListItem {
-    ghost gives = { access_list_item.gives };
-
-    ghost faults = { access_list_item.faults };
-
-    ghost may_lack_memory = { access_list_item.may_lack };
+    ghost reading = { access_list_item.reading };
 
     fn decode(alloc: Global, rlp: &Rlp<'_>) -> Result<AccessListItem, DecoderError> {
         rlp::decode_fields!(
@@ -71,11 +67,7 @@ impl Encodable for AccessList {
 }
 
 impl Decodable for AccessList {
-    ghost gives = { access_list.gives };
-
-    ghost faults = { access_list.faults };
-
-    ghost may_lack_memory = { access_list.may_lack };
+    ghost reading = { access_list.reading };
 
     fn decode(alloc: Global, rlp: &Rlp<'_>) -> Result<AccessList, DecoderError> {
         let items = rlp.as_list(alloc)?;

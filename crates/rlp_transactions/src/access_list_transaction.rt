@@ -1,11 +1,10 @@
 //! Transactions of type 1.
 
 ghost use Rattle.std.specs.Prelude.{refl};
-ghost use Rattle.rlp.specs.Codecs.Parts.{laws_of};
 ghost use Rattle.rlp_transactions.specs.AccessListTransaction.{access_list_transaction_fields};
 
 use crate::{AccessList, Payload, Recipient, Tagged, TypedTransaction};
-use rlp::{AppendFields, DecodeFields, FieldFault, Fields, FixedFields, RlpStream, Uint};
+use rlp::{AppendFields, DecodeFields, DecoderError, Fields, FixedFields, RlpStream, Uint};
 use rlp_records::ACCESS_LIST_TYPE;
 use std::alloc::{AllocError, Global};
 
@@ -66,12 +65,10 @@ impl DecodeFields for AccessListTransaction {
     fn decode_fields(
         alloc: Global,
         fields: &mut Fields<'_>,
-        len: usize,
-    ) -> Result<AccessListTransaction, FieldFault> {
+    ) -> Result<AccessListTransaction, DecoderError> {
         rlp::decode_fields!(
-            alloc,
+            fields alloc,
             fields,
-            len,
             AccessListTransaction {
                 chain_id,
                 nonce,
@@ -90,12 +87,12 @@ impl FixedFields for AccessListTransaction {
     fn width() -> Option<usize> {
         Some(8)
     }
-
-    ghost none_more = { refl };
 }
 
 impl Payload for AccessListTransaction {
-    ghost laws = { laws_of access_list_transaction_fields (λ p. refl) };
+    ghost laws = { access_list_transaction_fields.laws };
+
+    ghost fixed = { refl };
 }
 
 impl Tagged for AccessListTransaction {

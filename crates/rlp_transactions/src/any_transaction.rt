@@ -1,21 +1,18 @@
 //! Transactions of every type, also of those that this crate doesn't know.
 
-ghost use Rattle.std.specs.Prelude.{◌≡◌, ◌⊎◌, IfErr, IfNone, IfOk, IfSome, OnOk};
+ghost use Rattle.std.specs.Prelude.{◌≡◌, ◌⊎◌, Err, IfErr, IfNone, IfOk, IfSome, IsTrue, Ok, OnOk};
 ghost use Rattle.rlp.specs.DecoderError.TheVariants.{OutOfMemory};
-ghost use Rattle.rlp.specs.Values.ValueReading.{GivesSome};
-ghost use Rattle.rlp_records.specs.Alone.{FaultsAlone, MayLackAlone, bytes_alone, unknown_type};
+ghost use Rattle.rlp_codec.specs.Form.{fault_of};
+ghost use Rattle.rlp_records.specs.Alone.{bytes_alone};
 ghost use Rattle.rlp_records.specs.Hashing.{IsHashOf};
-ghost use Rattle.rlp_transactions.specs.AnyTransaction.{any_transaction, any_type};
-ghost use Rattle.rlp_transactions.specs.LegacyTransaction.{signed_legacy_transaction};
-ghost use Rattle.rlp_transactions.specs.OtherTransaction.{GivesOther, IsOther};
-ghost use Rattle.rlp_transactions.specs.Transaction.{typed_transactions};
+ghost use Rattle.rlp_transactions.specs.AnyTransaction.{any_alone, any_transaction, any_type};
 
 use crate::other_transaction::is_other;
 use crate::{OtherTransaction, Transaction};
 use bytes::BytesMut;
 use keccak::keccak256;
 use rlp::{Decodable, DecoderError, Encodable, Rlp, RlpStream, RoundTrip, StrictRead};
-use rlp_records::{Hash, Record};
+use rlp_records::Hash;
 use std::alloc::{AllocError, Global};
 
 /// A transaction in the list of a block's transactions, of any type: one of a type that isn't known
@@ -46,12 +43,12 @@ impl AnyTransaction {
     ///
     /// Fails as [`Transaction::from_bytes`] does, but not for a type below 0x80 that isn't known.
     pub fn from_bytes(alloc: Global, bytes: &[u8]) -> Result<AnyTransaction, DecoderError>
-        ensures value { IfOk result (λ t. any_transaction.Fits t
+        ensures whole { IfOk result (λ t. any_transaction.Fits t
             × (bytes.now ≡ bytes_alone (any_transaction.item t))) }
-        ensures fault { IfErr result (λ e. ((¬ IsOther bytes.now)
-            × FaultsAlone signed_legacy_transaction unknown_type typed_transactions bytes.now e)
-            ⊎ ((e ≡ OutOfMemory) × (IsOther bytes.now
-            ⊎ MayLackAlone signed_legacy_transaction typed_transactions bytes.now))) }
+        ensures value { IfOk result
+            (λ t. (any_alone bytes.now).result ≡ Ok (any_transaction.reading.seen t)) }
+        ensures fault { IfErr result (λ e. ((any_alone bytes.now).result ≡ Err (fault_of e))
+            ⊎ ((e ≡ OutOfMemory) × IsTrue any_transaction.reading.takes_memory)) }
         ensures memory { (t : AnyTransaction) → any_transaction.Fits t
             → bytes.now ≡ bytes_alone (any_transaction.item t)
             → IfErr result (λ e. e ≡ OutOfMemory) }
@@ -106,40 +103,19 @@ impl Encodable for AnyTransaction {
 /// Reading fails as reading a [`Transaction`] does, but not for the string of a type below 0x80 that
 /// isn't known.
 impl Decodable for AnyTransaction {
-    ghost gives = { any_transaction.gives };
+    ghost reading = { any_transaction.reading };
 
-    ghost faults = { any_transaction.faults };
-
-    ghost may_lack_memory = { any_transaction.may_lack };
-
-    #[tactic(auto, using(crate::proofs::OtherTypes::known_fails))]
     fn decode(alloc: Global, rlp: &Rlp<'_>) -> Result<AnyTransaction, DecoderError> {
-        if let Some(bytes) = other_string(rlp) {
-            return match OtherTransaction::from_bytes(alloc, bytes) {
+        match rlp.decoder().string() {
+            Ok(bytes) if is_other(bytes) => match OtherTransaction::from_bytes(alloc, bytes) {
                 Ok(other) => Ok(AnyTransaction::Other(other)),
                 Err(_) => Err(DecoderError::OutOfMemory),
-            };
-        }
-        let known = rlp.as_val(alloc)?;
-        Ok(AnyTransaction::Known(known))
-    }
-}
-
-/// The string that a view holds, if it is a transaction of another type.
-fn other_string<'a>(rlp: &Rlp<'a>) -> Option<&'a [u8]>
-    ensures some { IfSome result (λ d. GivesOther rlp.now d.now) }
-    ensures none { IfNone result (¬ GivesSome GivesOther rlp.now) }
-{
-    // Only the proof needs this: a slice has fewer than 2^64 bytes.
-    let _bytes = rlp.as_raw();
-    match rlp.decoder().string() {
-        Ok(bytes) => {
-            if is_other(bytes) {
-                return Some(bytes);
+            },
+            _ => {
+                let known = rlp.as_val(alloc)?;
+                Ok(AnyTransaction::Known(known))
             }
-            None
         }
-        Err(_) => None,
     }
 }
 
@@ -149,10 +125,4 @@ impl RoundTrip for AnyTransaction {
 
 impl StrictRead for AnyTransaction {
     ghost strict = { any_transaction.reads_strictly };
-}
-
-impl Record for AnyTransaction {
-    ghost same = { any_transaction.Same };
-
-    ghost told = { any_transaction.told };
 }

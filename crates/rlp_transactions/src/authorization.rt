@@ -1,11 +1,10 @@
 //! Authorizations of transactions of type 4.
 
 ghost use Rattle.std.specs.Prelude.{refl};
-ghost use Rattle.rlp.specs.Codecs.Parts.{laws_of};
 ghost use Rattle.rlp_transactions.specs.Authorization.{authorization_fields};
 
 use crate::{Payload, Signed, Tagged};
-use rlp::{AppendFields, DecodeFields, FieldFault, Fields, FixedFields, RlpStream, Uint};
+use rlp::{AppendFields, DecodeFields, DecoderError, Fields, FixedFields, RlpStream, Uint};
 use rlp_records::Address;
 use std::alloc::{AllocError, Global};
 
@@ -52,12 +51,10 @@ impl DecodeFields for Authorization {
     fn decode_fields(
         alloc: Global,
         fields: &mut Fields<'_>,
-        len: usize,
-    ) -> Result<Authorization, FieldFault> {
+    ) -> Result<Authorization, DecoderError> {
         rlp::decode_fields!(
-            alloc,
+            fields alloc,
             fields,
-            len,
             Authorization {
                 chain_id,
                 address,
@@ -71,12 +68,12 @@ impl FixedFields for Authorization {
     fn width() -> Option<usize> {
         Some(3)
     }
-
-    ghost none_more = { refl };
 }
 
 impl Payload for Authorization {
-    ghost laws = { laws_of authorization_fields (λ p. refl) };
+    ghost laws = { authorization_fields.laws };
+
+    ghost fixed = { refl };
 }
 
 impl Tagged for Authorization {

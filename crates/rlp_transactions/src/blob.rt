@@ -1,8 +1,8 @@
 //! Blobs of transactions of type 3.
 
-ghost use Rattle.std.specs.Prelude.{◌≡◌, ◌⊎◌, IfErr, IfOk, length};
+ghost use Rattle.std.specs.Prelude.{◌≡◌, ◌⊎◌, Err, IfErr, IfOk, length};
 ghost use Rattle.rlp.specs.DecoderError.TheVariants.{OutOfMemory};
-ghost use Rattle.rlp.specs.Values.ValueReading.{IsLengthFault};
+ghost use Rattle.rlp_codec.specs.Form.{fault_of, fixed_of};
 
 use rlp::{Decodable, DecoderError, Encodable, Rlp, RlpStream, RoundTrip, StrictRead};
 use std::alloc::{AllocError, Global};
@@ -24,10 +24,9 @@ impl Blob {
     ///
     /// Fails with `RlpIsTooShort` if there are fewer than 131,072, with `RlpIsTooBig` if there are
     /// more, and with `OutOfMemory` if memory is refused.
-    #[tactic(auto, using(rlp_values::specs::Lemmas::RoundTrips::length_faults))]
     pub fn new(alloc: Global, bytes: &[u8]) -> Result<Blob, DecoderError>
         ensures value { IfOk result (λ b. b.bytes.items ≡ bytes.now) }
-        ensures fault { IfErr result (λ e. IsLengthFault 131072 bytes.now e
+        ensures fault { IfErr result (λ e. (fixed_of 131072 bytes.now ≡ Err (fault_of e))
             ⊎ ((e ≡ OutOfMemory) × (length bytes.now ≡ 131072))) }
     {
         if bytes.len() < BLOB_LEN {
@@ -60,18 +59,11 @@ impl Encodable for Blob {
 impl Decodable for Blob {
     ghost use Rattle.rlp_transactions.specs.Blob.{blob};
 
-    ghost gives = { blob.gives };
+    ghost reading = { blob.reading };
 
-    ghost faults = { blob.faults };
-
-    ghost may_lack_memory = { blob.may_lack };
-
-    #[tactic(auto, using(crate::specs::Blob::blob_reading))]
     fn decode(alloc: Global, rlp: &Rlp<'_>) -> Result<Blob, DecoderError> {
-        match rlp.decoder().string() {
-            Ok(string) => Blob::new(alloc, string),
-            Err(fault) => Err(fault),
-        }
+        let string = rlp.decoder().string()?;
+        Blob::new(alloc, string)
     }
 }
 

@@ -1,11 +1,10 @@
 //! Transactions of type 3.
 
 ghost use Rattle.std.specs.Prelude.{refl};
-ghost use Rattle.rlp.specs.Codecs.Parts.{laws_of};
 ghost use Rattle.rlp_transactions.specs.BlobTransaction.{blob_transaction_fields};
 
 use crate::{AccessList, Payload, Tagged, TypedTransaction};
-use rlp::{AppendFields, DecodeFields, FieldFault, Fields, FixedFields, ListOf, RlpStream, Uint};
+use rlp::{AppendFields, DecodeFields, DecoderError, Fields, FixedFields, ListOf, RlpStream, Uint};
 use rlp_records::{Address, BLOB_TYPE, Hash};
 use std::alloc::{AllocError, Global};
 
@@ -77,12 +76,10 @@ impl DecodeFields for BlobTransaction {
     fn decode_fields(
         alloc: Global,
         fields: &mut Fields<'_>,
-        len: usize,
-    ) -> Result<BlobTransaction, FieldFault> {
+    ) -> Result<BlobTransaction, DecoderError> {
         rlp::decode_fields!(
-            alloc,
+            fields alloc,
             fields,
-            len,
             BlobTransaction {
                 chain_id,
                 nonce,
@@ -104,12 +101,12 @@ impl FixedFields for BlobTransaction {
     fn width() -> Option<usize> {
         Some(11)
     }
-
-    ghost none_more = { refl };
 }
 
 impl Payload for BlobTransaction {
-    ghost laws = { laws_of blob_transaction_fields (λ p. refl) };
+    ghost laws = { blob_transaction_fields.laws };
+
+    ghost fixed = { refl };
 }
 
 impl Tagged for BlobTransaction {

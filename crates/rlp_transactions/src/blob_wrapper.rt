@@ -1,7 +1,8 @@
 //! Transactions of type 3 with their blobs, as nodes and wallets send them.
 
-ghost use Rattle.std.specs.Prelude.{◌≡◌, ⊤, IfErr, IfOk};
-ghost use Rattle.rlp_transactions.specs.BlobWrapper.{IsVersionFault, version_bytes, with_cell_proofs, with_proofs, wrapper_version};
+ghost use Rattle.std.specs.Prelude.{◌≡◌, Err, IfErr, IfOk, Ok};
+ghost use Rattle.rlp_codec.specs.Form.{fault_of};
+ghost use Rattle.rlp_transactions.specs.BlobWrapper.{version_of, with_cell_proofs, with_proofs, wrapper_version};
 
 use crate::{Blob, BlobTransaction, Signed};
 use rlp::{Decodable, DecoderError, Encodable, ListOf, Rlp, RlpStream, RoundTrip, StrictRead};
@@ -67,11 +68,7 @@ impl Encodable for BlobTransactionWithProofs {
 }
 
 impl Decodable for BlobTransactionWithProofs {
-    ghost gives = { with_proofs.gives };
-
-    ghost faults = { with_proofs.faults };
-
-    ghost may_lack_memory = { with_proofs.may_lack };
+    ghost reading = { with_proofs.reading };
 
     fn decode(alloc: Global, rlp: &Rlp<'_>) -> Result<BlobTransactionWithProofs, DecoderError> {
         rlp::decode_fields!(
@@ -119,11 +116,7 @@ impl Encodable for BlobTransactionWithCellProofs {
 }
 
 impl Decodable for BlobTransactionWithCellProofs {
-    ghost gives = { with_cell_proofs.gives };
-
-    ghost faults = { with_cell_proofs.faults };
-
-    ghost may_lack_memory = { with_cell_proofs.may_lack };
+    ghost reading = { with_cell_proofs.reading };
 
     fn decode(alloc: Global, rlp: &Rlp<'_>) -> Result<BlobTransactionWithCellProofs, DecoderError> {
         rlp::decode_fields!(
@@ -167,15 +160,11 @@ impl Encodable for WrapperVersion {
 /// Reading fails with `Custom("unknown wrapper version")` if the string isn't the byte 1. It takes
 /// no memory.
 impl Decodable for WrapperVersion {
-    ghost gives = { wrapper_version.gives };
+    ghost reading = { wrapper_version.reading };
 
-    ghost faults = { wrapper_version.faults };
-
-    ghost may_lack_memory = { wrapper_version.may_lack };
-
-    #[tactic(auto, using(rlp::proofs::Reading::reading))]
     fn decode(_alloc: Global, rlp: &Rlp<'_>) -> Result<WrapperVersion, DecoderError> {
-        rlp.decoder().decode_value(version_of)
+        let string = rlp.decoder().string()?;
+        version_of(string)
     }
 }
 
@@ -188,10 +177,9 @@ impl StrictRead for WrapperVersion {
 }
 
 /// Makes the version from a string. Fails as reading it does.
-#[tactic(auto, using(crate::specs::BlobWrapper::version_faults))]
 fn version_of(string: &[u8]) -> Result<WrapperVersion, DecoderError>
-    ensures value { IfOk result (λ v. ⊤ × (version_bytes v ≡ string.now)) }
-    ensures fault { IfErr result (λ e. IsVersionFault string.now e) }
+    ensures value { IfOk result (λ _. version_of string.now ≡ Ok tt) }
+    ensures fault { IfErr result (λ e. version_of string.now ≡ Err (fault_of e)) }
 {
     match string {
         [1] => Ok(WrapperVersion::CellProofs),

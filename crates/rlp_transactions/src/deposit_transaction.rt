@@ -53,11 +53,7 @@ impl Encodable for DepositTransaction {
 }
 
 impl Decodable for DepositTransaction {
-    ghost gives = { deposit_transaction.gives };
-
-    ghost faults = { deposit_transaction.faults };
-
-    ghost may_lack_memory = { deposit_transaction.may_lack };
+    ghost reading = { deposit_transaction.reading };
 
     fn decode(alloc: Global, rlp: &Rlp<'_>) -> Result<DepositTransaction, DecoderError> {
         rlp::decode_fields!(

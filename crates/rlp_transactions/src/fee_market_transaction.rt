@@ -1,11 +1,10 @@
 //! Transactions of type 2.
 
 ghost use Rattle.std.specs.Prelude.{refl};
-ghost use Rattle.rlp.specs.Codecs.Parts.{laws_of};
 ghost use Rattle.rlp_transactions.specs.FeeMarketTransaction.{fee_market_transaction_fields};
 
 use crate::{AccessList, Payload, Recipient, Tagged, TypedTransaction};
-use rlp::{AppendFields, DecodeFields, FieldFault, Fields, FixedFields, RlpStream, Uint};
+use rlp::{AppendFields, DecodeFields, DecoderError, Fields, FixedFields, RlpStream, Uint};
 use rlp_records::FEE_MARKET_TYPE;
 use std::alloc::{AllocError, Global};
 
@@ -69,12 +68,10 @@ impl DecodeFields for FeeMarketTransaction {
     fn decode_fields(
         alloc: Global,
         fields: &mut Fields<'_>,
-        len: usize,
-    ) -> Result<FeeMarketTransaction, FieldFault> {
+    ) -> Result<FeeMarketTransaction, DecoderError> {
         rlp::decode_fields!(
-            alloc,
+            fields alloc,
             fields,
-            len,
             FeeMarketTransaction {
                 chain_id,
                 nonce,
@@ -94,12 +91,12 @@ impl FixedFields for FeeMarketTransaction {
     fn width() -> Option<usize> {
         Some(9)
     }
-
-    ghost none_more = { refl };
 }
 
 impl Payload for FeeMarketTransaction {
-    ghost laws = { laws_of fee_market_transaction_fields (λ p. refl) };
+    ghost laws = { fee_market_transaction_fields.laws };
+
+    ghost fixed = { refl };
 }
 
 impl Tagged for FeeMarketTransaction {

@@ -3,7 +3,7 @@
 ghost use Rattle.std.specs.Prelude.{◌≡◌, ◌<◌, ◌^◌, length};
 ghost use Rattle.rlp_records.specs.Alone.{bytes_alone};
 ghost use Rattle.rlp_transactions.specs.Signing.{FitsSigning, HaveOneMeaning, Signable, signed_bytes};
-ghost use Rattle.rlp_transactions.specs.AnyTransaction.{HaveSameFields, any_transaction};
+ghost use Rattle.rlp_transactions.specs.AnyTransaction.{any_transaction};
 
 use crate::AnyTransaction;
 
@@ -14,7 +14,7 @@ pub fn bytes_tell_transactions(one: &AnyTransaction, other: &AnyTransaction)
     ensures { any_transaction.Fits one.now → any_transaction.Fits other.now
         → length (bytes_alone (any_transaction.item one.now)) < 2 ^ 64
         → bytes_alone (any_transaction.item one.now) ≡ bytes_alone (any_transaction.item other.now)
-        → HaveSameFields one.now other.now }
+        → any_transaction.reading.seen one.now ≡ any_transaction.reading.seen other.now }
 {}
 
 /// No bytes are signed for two meanings. If two of what a key signs have the same bytes, fewer than

@@ -1,14 +1,13 @@
 //! Transactions without a type.
 
 ghost use Rattle.std.specs.Prelude.{◌≡◌, ◌+◌, ℕ, IfNone, IfSome, Option, refl};
-ghost use Rattle.rlp.specs.Codecs.Parts.{laws_of};
 ghost use Rattle.rlp.specs.Values.Value.{bit};
 ghost use Rattle.rlp_transactions.specs.Eip155.{FitsChain, even_v, v_of};
 ghost use Rattle.rlp_transactions.specs.LegacyTransaction.{legacy_transaction_fields};
 ghost use Rattle.rlp_transactions.specs.Signatures.{IsNoV, SaysChain, number_of};
 
 use crate::{Eip155, Payload, Recipient, Signed};
-use rlp::{AppendFields, DecodeFields, FieldFault, Fields, FixedFields, RlpStream, Uint};
+use rlp::{AppendFields, DecodeFields, DecoderError, Fields, FixedFields, RlpStream, Uint};
 use std::alloc::{AllocError, Global};
 
 /// A transaction without a type, with its signature: the list of nine fields. `v` is any number.
@@ -101,12 +100,10 @@ impl DecodeFields for LegacyTransaction {
     fn decode_fields(
         alloc: Global,
         fields: &mut Fields<'_>,
-        len: usize,
-    ) -> Result<LegacyTransaction, FieldFault> {
+    ) -> Result<LegacyTransaction, DecoderError> {
         rlp::decode_fields!(
-            alloc,
+            fields alloc,
             fields,
-            len,
             LegacyTransaction {
                 nonce,
                 gas_price,
@@ -123,10 +120,10 @@ impl FixedFields for LegacyTransaction {
     fn width() -> Option<usize> {
         Some(6)
     }
-
-    ghost none_more = { refl };
 }
 
 impl Payload for LegacyTransaction {
-    ghost laws = { laws_of legacy_transaction_fields (λ p. refl) };
+    ghost laws = { legacy_transaction_fields.laws };
+
+    ghost fixed = { refl };
 }

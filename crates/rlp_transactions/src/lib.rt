@@ -16,7 +16,6 @@ pub mod laws;
 mod legacy_transaction;
 mod other_transaction;
 mod recipient;
-mod record;
 mod set_code_transaction;
 mod signed;
 mod transaction;

@@ -1,14 +1,14 @@
 //! Transactions of types that this crate doesn't know.
 
-ghost use Rattle.std.specs.Prelude.{◌≡◌, ◌⊎◌, ◌↔◌, drop, nat_eq, IfErr, IfOk, IsTrue};
+ghost use Rattle.std.specs.Prelude.{◌≡◌, ◌⊎◌, drop, nat_eq, IfErr, IfOk};
 ghost use Rattle.std.specs.Cmp.{partial_equiv_from_equiv};
 ghost use Rattle.std.specs.Cmp.Lexicographic.{nat_list_eq_equiv, pointwise};
 ghost use Rattle.rlp.specs.DecoderError.TheVariants.{OutOfMemory};
-ghost use Rattle.rlp.specs.Values.ValueReading.{IsCustom};
-ghost use Rattle.rlp_transactions.specs.OtherTransaction.{IsOther, IsOtherType, not_other, other_type};
+ghost use Rattle.rlp_codec.specs.Form.{custom, fault_of};
+ghost use Rattle.rlp_transactions.specs.OtherTransaction.{IsOther, is_other, is_other_type, not_other, other_type};
 
 use rlp::DecoderError;
-use rlp_records::{ACCESS_LIST_TYPE, BLOB_TYPE, FEE_MARKET_TYPE, SET_CODE_TYPE};
+use rlp_records::{ACCESS_LIST_TYPE, SET_CODE_TYPE};
 use std::alloc::Global;
 use std::marker::Model;
 
@@ -40,7 +40,7 @@ impl OtherTransaction {
     /// `OutOfMemory` if memory is refused.
     pub fn from_bytes(alloc: Global, bytes: &[u8]) -> Result<OtherTransaction, DecoderError>
         ensures value { IfOk result (λ t. (t ≡ bytes.now) × IsOther bytes.now) }
-        ensures fault { IfErr result (λ e. ((¬ IsOther bytes.now) × IsCustom not_other e)
+        ensures fault { IfErr result (λ e. ((¬ IsOther bytes.now) × (fault_of e ≡ custom not_other))
             ⊎ ((e ≡ OutOfMemory) × IsOther bytes.now)) }
     {
         if !is_other(bytes) {
@@ -98,7 +98,7 @@ impl Eq for OtherTransaction {
 
 /// Whether the bytes are a transaction of another type.
 pub(crate) fn is_other(bytes: &[u8]) -> bool
-    ensures { IsTrue result ↔ IsOther bytes.now }
+    ensures { result ≡ is_other bytes.now }
 {
     match bytes {
         [kind, ..] => is_other_type(*kind),
@@ -108,11 +108,7 @@ pub(crate) fn is_other(bytes: &[u8]) -> bool
 
 /// Whether the byte is the number of another type.
 fn is_other_type(kind: u8) -> bool
-    ensures { IsTrue result ↔ IsOtherType kind }
+    ensures { result ≡ is_other_type kind }
 {
-    kind < 0x80
-        && kind != ACCESS_LIST_TYPE
-        && kind != FEE_MARKET_TYPE
-        && kind != BLOB_TYPE
-        && kind != SET_CODE_TYPE
+    kind < 0x80 && !(ACCESS_LIST_TYPE <= kind && kind <= SET_CODE_TYPE)
 }

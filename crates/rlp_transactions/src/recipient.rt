@@ -1,7 +1,9 @@
 //! Recipients of transactions: a string of 20 bytes, or the empty string.
 
-ghost use Rattle.std.specs.Prelude.{◌≡◌, IfErr, IfOk};
-ghost use Rattle.rlp_transactions.specs.Recipient.{IsRecipient, IsRecipientFault, recipient_bytes, recipient};
+ghost use Rattle.std.specs.Prelude.{◌≡◌, Err, IfErr, IfOk, Ok};
+ghost use Rattle.rlp_codec.specs.Form.{fault_of};
+ghost use Rattle.rlp_codec.specs.Kinds.{read_kind};
+ghost use Rattle.rlp_transactions.specs.Recipient.{account_of, is_account, recipient, recipient_bytes};
 
 use rlp::{Decodable, DecoderError, Encodable, Rlp, RlpStream, RoundTrip, StrictRead};
 use rlp_records::Address;
@@ -35,15 +37,11 @@ impl Encodable for Recipient {
 /// Reading fails with `RlpIsTooShort` if the string has 1 to 19 bytes, and with `RlpIsTooBig` if
 /// it has more than 20. It doesn't allocate.
 impl Decodable for Recipient {
-    ghost gives = { recipient.gives };
+    ghost reading = { recipient.reading };
 
-    ghost faults = { recipient.faults };
-
-    ghost may_lack_memory = { recipient.may_lack };
-
-    #[tactic(auto, using(rlp::proofs::Reading::reading))]
     fn decode(_alloc: Global, rlp: &Rlp<'_>) -> Result<Recipient, DecoderError> {
-        rlp.decoder().decode_value(recipient_of)
+        let string = rlp.decoder().string()?;
+        recipient_of(string)
     }
 }
 
@@ -57,10 +55,10 @@ impl StrictRead for Recipient {
 
 /// Makes a recipient from a string of 20 bytes, or from the empty string. Fails as reading a
 /// recipient does.
-#[tactic(auto, using(crate::specs::Recipient::recipient_faults))]
 fn recipient_of(string: &[u8]) -> Result<Recipient, DecoderError>
-    ensures value { IfOk result (λ r. IsRecipient r × (recipient_bytes r ≡ string.now)) }
-    ensures fault { IfErr result (λ e. IsRecipientFault string.now e) }
+    ensures value { IfOk result
+        (λ r. read_kind account_of string.now ≡ Ok (is_account r, recipient_bytes r)) }
+    ensures fault { IfErr result (λ e. read_kind account_of string.now ≡ Err (fault_of e)) }
 {
     if string.is_empty() {
         return Ok(Recipient::Creation);

@@ -1,11 +1,10 @@
 //! Transactions of type 4.
 
 ghost use Rattle.std.specs.Prelude.{refl};
-ghost use Rattle.rlp.specs.Codecs.Parts.{laws_of};
 ghost use Rattle.rlp_transactions.specs.SetCodeTransaction.{set_code_transaction_fields};
 
 use crate::{AccessList, Payload, SignedAuthorization, Tagged, TypedTransaction};
-use rlp::{AppendFields, DecodeFields, FieldFault, Fields, FixedFields, ListOf, RlpStream, Uint};
+use rlp::{AppendFields, DecodeFields, DecoderError, Fields, FixedFields, ListOf, RlpStream, Uint};
 use rlp_records::{Address, SET_CODE_TYPE};
 use std::alloc::{AllocError, Global};
 
@@ -75,12 +74,10 @@ impl DecodeFields for SetCodeTransaction {
     fn decode_fields(
         alloc: Global,
         fields: &mut Fields<'_>,
-        len: usize,
-    ) -> Result<SetCodeTransaction, FieldFault> {
+    ) -> Result<SetCodeTransaction, DecoderError> {
         rlp::decode_fields!(
-            alloc,
+            fields alloc,
             fields,
-            len,
             SetCodeTransaction {
                 chain_id,
                 nonce,
@@ -101,12 +98,12 @@ impl FixedFields for SetCodeTransaction {
     fn width() -> Option<usize> {
         Some(10)
     }
-
-    ghost none_more = { refl };
 }
 
 impl Payload for SetCodeTransaction {
-    ghost laws = { laws_of set_code_transaction_fields (λ p. refl) };
+    ghost laws = { set_code_transaction_fields.laws };
+
+    ghost fixed = { refl };
 }
 
 impl Tagged for SetCodeTransaction {

@@ -1,13 +1,13 @@
 //! Payloads with their signatures and without.
 
-ghost use Rattle.std.specs.Prelude.{◌≡◌, ◌∷◌, ◌⊎◌, ℕ, Bool, IfErr, IfOk, OnOk};
-ghost use Rattle.rlp.specs.Codec.{codec_of, struct_of};
-ghost use Rattle.rlp.specs.Codecs.Parts.{FieldLaws, fields_of};
+ghost use Rattle.std.specs.Prelude.{◌≡◌, ◌∷◌, ◌⊎◌, ℕ, true, Bool, Err, IfErr, IfOk, IsTrue, Ok, OnOk};
 ghost use Rattle.rlp.specs.DecoderError.TheVariants.{OutOfMemory};
 ghost use Rattle.rlp.specs.Format.Encoding.{encoding};
 ghost use Rattle.rlp.specs.Format.Item.{list_of};
-ghost use Rattle.rlp.specs.Values.Parts.{GivesStruct, StructFaults, StructMayLack};
-ghost use Rattle.rlp_records.specs.Envelope.{FaultsAfter, MayLackAfter, another_type};
+ghost use Rattle.rlp_codec.specs.Form.{fault_of, held_reading, struct_reading};
+ghost use Rattle.rlp_codec.specs.Laws.{AreLawful, fields_of};
+ghost use Rattle.rlp.specs.Codec.{codec_of, lawful_fields};
+ghost use Rattle.rlp_records.specs.Envelope.{another_type, read_after};
 ghost use Rattle.rlp_transactions.specs.Signed.{SignedFits, listed, signed, signed_item, signed_reading};
 ghost use Rattle.rlp_transactions.specs.declared.signed.Signed.{Signed};
 
@@ -23,7 +23,10 @@ use std::alloc::{AllocError, Global};
 /// signed, and [`Signed`] is the record with its signature.
 pub trait Payload: AppendFields + FixedFields {
     /// What is known of the fields, so that the list that they stand in is read back.
-    ghost laws: { FieldLaws Self.items Self.fit Self.reading };
+    ghost laws: { AreLawful (fields_of Self.fit Self.items Self.reading) };
+
+    /// The fields are always the same number of items.
+    ghost fixed: { Self.reading.is_fixed ≡ true };
 
     /// Returns the record with this signature, which isn't checked. The number `v` says which of two
     /// points belongs to the signature, as in [`Signed`].
@@ -68,9 +71,11 @@ pub trait Tagged: Payload {
     final fn from_signing_payload(alloc: Global, bytes: &[u8]) -> Result<Self, DecoderError>
         ensures whole { IfOk result
             (λ p. Self.fit p × (bytes.now ≡ TAG ∷ encoding (list_of (Self.items p)))) }
-        ensures fault { IfErr result
-            (λ e. (FaultsAfter TAG another_type (StructFaults Self.reading) bytes.now e)
-            ⊎ ((e ≡ OutOfMemory) × MayLackAfter TAG (StructMayLack Self.reading) bytes.now)) }
+        ensures value { IfOk result (λ p. (read_after TAG another_type
+            (struct_reading Self.reading).read bytes.now).result ≡ Ok (Self.reading.seen p)) }
+        ensures fault { IfErr result (λ e. ((read_after TAG another_type
+            (struct_reading Self.reading).read bytes.now).result ≡ Err (fault_of e))
+            ⊎ ((e ≡ OutOfMemory) × IsTrue Self.reading.takes_memory)) }
         ensures memory { (p : Self) → Self.fit p
             → bytes.now ≡ TAG ∷ encoding (list_of (Self.items p))
             → IfErr result (λ e. e ≡ OutOfMemory) }
@@ -132,10 +137,12 @@ impl<T: TypedTransaction> Signed<T, bool> {
     pub fn from_bytes(alloc: Global, bytes: &[u8]) -> Result<Signed<T, bool>, DecoderError>
         ensures whole { IfOk result (λ x. ⟦<Signed<T, bool> as Encodable>⟧.fits x
             × (bytes.now ≡ T.TAG ∷ encoding (⟦<Signed<T, bool> as Encodable>⟧.item x))) }
-        ensures fault { IfErr result (λ e. (FaultsAfter T.TAG another_type
-            ⟦<Signed<T, bool> as Decodable>⟧.faults bytes.now e)
-            ⊎ ((e ≡ OutOfMemory) × MayLackAfter T.TAG
-            ⟦<Signed<T, bool> as Decodable>⟧.may_lack_memory bytes.now)) }
+        ensures value { IfOk result (λ x. (read_after T.TAG another_type
+            ⟦<Signed<T, bool> as Decodable>⟧.reading.read bytes.now).result
+            ≡ Ok (⟦<Signed<T, bool> as Decodable>⟧.reading.seen x)) }
+        ensures fault { IfErr result (λ e. ((read_after T.TAG another_type
+            ⟦<Signed<T, bool> as Decodable>⟧.reading.read bytes.now).result ≡ Err (fault_of e))
+            ⊎ ((e ≡ OutOfMemory) × IsTrue ⟦<Signed<T, bool> as Decodable>⟧.reading.takes_memory)) }
         ensures memory { (x : Signed T Bool) → ⟦<Signed<T, bool> as Encodable>⟧.fits x
             → bytes.now ≡ T.TAG ∷ encoding (⟦<Signed<T, bool> as Encodable>⟧.item x)
             → IfErr result (λ e. e ≡ OutOfMemory) }
@@ -155,12 +162,7 @@ impl<T: Payload, V: Encodable> Encodable for Signed<T, V> {
 }
 
 impl<T: Payload, V: Decodable> Decodable for Signed<T, V> {
-    ghost gives = { GivesStruct (signed_reading T.reading V.gives V.faults V.may_lack_memory) };
-
-    ghost faults = { StructFaults (signed_reading T.reading V.gives V.faults V.may_lack_memory) };
-
-    ghost may_lack_memory = { StructMayLack
-        (signed_reading T.reading V.gives V.faults V.may_lack_memory) };
+    ghost reading = { signed_reading T.reading V.reading };
 
     fn decode(alloc: Global, rlp: &Rlp<'_>) -> Result<Signed<T, V>, DecoderError> {
         rlp::decode_fields!(
@@ -177,13 +179,13 @@ impl<T: Payload, V: Decodable> Decodable for Signed<T, V> {
 }
 
 impl<T: Payload, V: StrictRead> RoundTrip for Signed<T, V> {
-    ghost round_trip = { (signed (fields_of T.laws) T.laws.fixed (codec_of V.fits V.item V.gives
-        V.faults V.may_lack_memory V.round_trip V.strict)).reads_back };
+    ghost round_trip = { (signed (lawful_fields (fields_of T.fit T.items T.reading) T.laws)
+        T.fixed (codec_of V.fits V.item V.reading V.strict)).reads_back };
 }
 
 impl<T: Payload, V: StrictRead> StrictRead for Signed<T, V> {
-    ghost strict = { (signed (fields_of T.laws) T.laws.fixed (codec_of V.fits V.item V.gives
-        V.faults V.may_lack_memory V.round_trip V.strict)).reads_strictly };
+    ghost strict = { (signed (lawful_fields (fields_of T.fit T.items T.reading) T.laws)
+        T.fixed (codec_of V.fits V.item V.reading V.strict)).reads_strictly };
 }
 
 // A payload as the list of its fields, which is read after the byte of its type.
@@ -201,11 +203,7 @@ impl<T: Payload> Encodable for Listed<T> {
 }
 
 impl<T: Payload> Decodable for Listed<T> {
-    ghost gives = { λ v u. GivesStruct T.reading v u.0 };
-
-    ghost faults = { StructFaults T.reading };
-
-    ghost may_lack_memory = { StructMayLack T.reading };
+    ghost reading = { held_reading T.reading.takes_memory (λ u. u.0) (struct_reading T.reading) };
 
     fn decode(alloc: Global, rlp: &Rlp<'_>) -> Result<Listed<T>, DecoderError> {
         match rlp::decode_struct(alloc, rlp) {
@@ -216,9 +214,9 @@ impl<T: Payload> Decodable for Listed<T> {
 }
 
 impl<T: Payload> RoundTrip for Listed<T> {
-    ghost round_trip = { (listed (fields_of T.laws)).reads_back };
+    ghost round_trip = { (listed (lawful_fields (fields_of T.fit T.items T.reading) T.laws)).reads_back };
 }
 
 impl<T: Payload> StrictRead for Listed<T> {
-    ghost strict = { (listed (fields_of T.laws)).reads_strictly };
+    ghost strict = { (listed (lawful_fields (fields_of T.fit T.items T.reading) T.laws)).reads_strictly };
 }

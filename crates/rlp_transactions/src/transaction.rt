@@ -1,11 +1,12 @@
 //! Transactions of every type.
 
-ghost use Rattle.std.specs.Prelude.{◌≡◌, ◌∷◌, ◌⊎◌, IfErr, IfOk, OnOk};
+ghost use Rattle.std.specs.Prelude.{◌≡◌, ◌⊎◌, Err, IfErr, IfOk, IsTrue, Ok, OnOk};
+ghost use Rattle.std.proofs.Common.{inr};
 ghost use Rattle.rlp.specs.DecoderError.TheVariants.{OutOfMemory};
-ghost use Rattle.rlp.specs.Format.Item.{string};
-ghost use Rattle.rlp_records.specs.Alone.{FaultsAlone, MayLackAlone, PayloadFails, bytes_alone, unknown_type};
-ghost use Rattle.rlp_transactions.specs.LegacyTransaction.{signed_legacy_transaction};
-ghost use Rattle.rlp_transactions.specs.Transaction.{transaction, typed_transactions};
+ghost use Rattle.rlp.specs.Views.View.{strict_view_of};
+ghost use Rattle.rlp_codec.specs.Form.{fault_of, map_value};
+ghost use Rattle.rlp_records.specs.Alone.{bytes_alone};
+ghost use Rattle.rlp_transactions.specs.Transaction.{transaction, transaction_alone, typed_transactions};
 
 mod parts;
 mod signatures;
@@ -65,12 +66,12 @@ impl Transaction {
     /// type, with `RlpIsTooShort` if there are no bytes, and else with the strict fault of the
     /// payload.
     pub fn from_bytes(alloc: Global, bytes: &[u8]) -> Result<Transaction, DecoderError>
-        ensures value { IfOk result (λ t. transaction.Fits t
+        ensures whole { IfOk result (λ t. transaction.Fits t
             × (bytes.now ≡ bytes_alone (transaction.item t))) }
-        ensures fault { IfErr result (λ e.
-            (FaultsAlone signed_legacy_transaction unknown_type typed_transactions bytes.now e)
-            ⊎ ((e ≡ OutOfMemory)
-            × MayLackAlone signed_legacy_transaction typed_transactions bytes.now)) }
+        ensures value { IfOk result
+            (λ t. (transaction_alone bytes.now).result ≡ Ok (transaction.reading.seen t)) }
+        ensures fault { IfErr result (λ e. ((transaction_alone bytes.now).result ≡ Err (fault_of e))
+            ⊎ ((e ≡ OutOfMemory) × IsTrue transaction.reading.takes_memory)) }
         ensures memory { (t : Transaction) → transaction.Fits t
             → bytes.now ≡ bytes_alone (transaction.item t) → IfErr result (λ e. e ≡ OutOfMemory) }
     {
@@ -81,31 +82,26 @@ impl Transaction {
 // Reads a transaction from its bytes. The clauses of `from_bytes` add that reading what `to_bytes`
 // wrote can't fail.
 fn read_alone(alloc: Global, bytes: &[u8]) -> Result<Transaction, DecoderError>
-    ensures value { IfOk result (λ t. transaction.Fits t
-        × (bytes.now ≡ bytes_alone (transaction.item t))) }
-    ensures fault { IfErr result (λ e.
-        (FaultsAlone signed_legacy_transaction unknown_type typed_transactions bytes.now e)
-        ⊎ ((e ≡ OutOfMemory)
-        × MayLackAlone signed_legacy_transaction typed_transactions bytes.now)) }
+    ensures value { IfOk result
+        (λ t. (transaction_alone bytes.now).result ≡ Ok (transaction.reading.seen t)) }
+    ensures fault { IfErr result (λ e. ((transaction_alone bytes.now).result ≡ Err (fault_of e))
+        ⊎ ((e ≡ OutOfMemory) × IsTrue transaction.reading.takes_memory)) }
 {
     if Rlp::new(bytes).is_list() {
-        return match rlp::decode_whole(alloc, bytes) {
-            Ok(legacy) => Ok(Transaction::Legacy(legacy)),
-            Err(fault) => Err(fault),
-        };
+        let legacy = rlp::decode_strict(alloc, bytes)?;
+        return Ok(Transaction::Legacy(legacy));
     }
-    match Envelope::split(bytes) {
-        Ok(envelope) => decode_payload(alloc, &envelope),
-        Err(fault) => Err(fault),
-    }
+    let envelope = Envelope::split(bytes)?;
+    decode_payload(alloc, &envelope)
 }
 
 // Reads a transaction of one of the types.
 fn decode_payload(alloc: Global, envelope: &Envelope<'_>) -> Result<Transaction, DecoderError>
-    ensures value { IfOk result (λ t. transaction.Fits t
-        × (transaction.item t ≡ string (envelope.now.tag ∷ envelope.now.payload.now))) }
-    ensures fault { IfErr result (λ e. PayloadFails unknown_type typed_transactions
-        envelope.now.tag envelope.now.payload.now e) }
+    ensures value { IfOk result (λ t. map_value inr (typed_transactions.cases.read envelope.now.tag
+        (strict_view_of envelope.now.payload.now)).result ≡ Ok (transaction.reading.seen t)) }
+    ensures fault { IfErr result (λ e. ((typed_transactions.cases.read envelope.now.tag
+        (strict_view_of envelope.now.payload.now)).result ≡ Err (fault_of e))
+        ⊎ ((e ≡ OutOfMemory) × IsTrue typed_transactions.cases.takes_memory)) }
 {
     decode_typed!(
         alloc,
@@ -135,23 +131,15 @@ impl Encodable for Transaction {
 }
 
 impl Decodable for Transaction {
-    ghost gives = { transaction.gives };
-
-    ghost faults = { transaction.faults };
-
-    ghost may_lack_memory = { transaction.may_lack };
+    ghost reading = { transaction.reading };
 
     fn decode(alloc: Global, rlp: &Rlp<'_>) -> Result<Transaction, DecoderError> {
         if rlp.is_list() {
-            return match rlp.as_val(alloc) {
-                Ok(legacy) => Ok(Transaction::Legacy(legacy)),
-                Err(fault) => Err(fault),
-            };
+            let legacy = rlp.as_val(alloc)?;
+            return Ok(Transaction::Legacy(legacy));
         }
-        match Envelope::of(rlp) {
-            Ok(envelope) => decode_payload(alloc, &envelope),
-            Err(fault) => Err(fault),
-        }
+        let envelope = Envelope::of(rlp)?;
+        decode_payload(alloc, &envelope)
     }
 }
 

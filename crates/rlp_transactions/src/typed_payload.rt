@@ -10,9 +10,9 @@
 macro_rules! decode_typed {
     ($alloc:expr, $envelope:expr, $unknown:literal, $($kind:path => $variant:path $([$listed:path])?),+ $(,)?) => {
         match $envelope.tag {
-            $($kind => match $envelope.decode($alloc) {
-                Ok($($listed)?(payload)) => Ok($variant(payload)),
-                Err(fault) => Err(fault),
+            $($kind => {
+                let $($listed)?(payload) = rlp::decode_strict($alloc, $envelope.payload)?;
+                Ok($variant(payload))
             },)+
             _ => Err(DecoderError::Custom($unknown)),
         }

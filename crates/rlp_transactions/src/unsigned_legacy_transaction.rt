@@ -10,7 +10,7 @@ ghost use Rattle.rlp_transactions.specs.UnsignedLegacyTransaction.{unsigned_lega
 use crate::{Eip155, LegacyTransaction, Payload, SignedLegacyTransaction};
 use bytes::BytesMut;
 use rlp::{
-    AppendFields, Decodable, DecoderError, Encodable, Field, FieldsOf, Joined, OptionalGroup, Rlp,
+    AppendFields, Decodable, DecoderError, Encodable, FieldsOf, Joined, OptionalGroup, Rlp,
     RlpStream, RoundTrip, StrictRead, Uint, write_struct,
 };
 use std::alloc::{AllocError, Global};
@@ -91,22 +91,19 @@ impl Encodable for UnsignedLegacyTransaction {
     }
 }
 
+// The fields of the transaction, and then those that EIP-155 adds: the number of the chain, 0 and 0.
+type UnsignedFields = Joined<LegacyTransaction, OptionalGroup<(u64, ([u8; 0], ([u8; 0], ())))>>;
+
 /// Fails with `RlpIncorrectListLen` for a list that has neither 6 nor 9 items, and with
 /// `RlpIsTooBig` if one of the last two of nine is a string that isn't empty.
 impl Decodable for UnsignedLegacyTransaction {
-    ghost gives = { unsigned_legacy_transaction.gives };
-
-    ghost faults = { unsigned_legacy_transaction.faults };
-
-    ghost may_lack_memory = { unsigned_legacy_transaction.may_lack };
+    ghost reading = { unsigned_legacy_transaction.reading };
 
     fn decode(alloc: Global, rlp: &Rlp<'_>) -> Result<UnsignedLegacyTransaction, DecoderError> {
-        match rlp::decode_struct(alloc, rlp) {
+        match rlp::decode_struct::<UnsignedFields>(alloc, rlp) {
             Ok(Joined(payload, OptionalGroup(group))) => {
                 let chain_id = match group {
-                    Some((Field(chain_id), (Field::<[u8; 0]>(_), (Field::<[u8; 0]>(_), ())))) => {
-                        Some(chain_id)
-                    }
+                    Some((chain_id, (_, (_, ())))) => { Some(chain_id) }
                     None => None,
                 };
                 Ok(UnsignedLegacyTransaction { payload, chain_id })

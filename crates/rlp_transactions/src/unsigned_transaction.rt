@@ -1,12 +1,13 @@
 //! Transactions of every type, before they are signed.
 
-ghost use Rattle.std.specs.Prelude.{◌≡◌, ◌∷◌, ◌⊎◌, IfErr, IfOk, OnOk};
+ghost use Rattle.std.specs.Prelude.{◌≡◌, ◌⊎◌, Err, IfErr, IfOk, IsTrue, Ok, OnOk};
+ghost use Rattle.std.proofs.Common.{inr};
 ghost use Rattle.rlp.specs.DecoderError.TheVariants.{OutOfMemory};
-ghost use Rattle.rlp.specs.Format.Item.{string};
-ghost use Rattle.rlp_records.specs.Alone.{FaultsAlone, MayLackAlone, PayloadFails, bytes_alone, unknown_type};
+ghost use Rattle.rlp.specs.Views.View.{strict_view_of};
+ghost use Rattle.rlp_codec.specs.Form.{fault_of, map_value};
+ghost use Rattle.rlp_records.specs.Alone.{bytes_alone};
 ghost use Rattle.rlp_transactions.specs.Signatures.{Signs, r_of, s_of};
-ghost use Rattle.rlp_transactions.specs.UnsignedLegacyTransaction.{unsigned_legacy_transaction};
-ghost use Rattle.rlp_transactions.specs.UnsignedTransaction.{unsigned_transaction, unsigned_types};
+ghost use Rattle.rlp_transactions.specs.UnsignedTransaction.{unsigned_transaction, unsigned_alone, unsigned_types};
 
 use crate::signed::{Listed, Payload, Tagged};
 use crate::typed_payload::decode_typed;
@@ -87,15 +88,14 @@ impl UnsignedTransaction {
     /// type, with `RlpIsTooShort` if there are no bytes, and else with the strict fault of the
     /// payload.
     pub fn from_bytes(alloc: Global, bytes: &[u8]) -> Result<UnsignedTransaction, DecoderError>
-        ensures value { IfOk result (λ t. unsigned_transaction.Fits t
+        ensures whole { IfOk result (λ t. unsigned_transaction.Fits t
             × (bytes.now ≡ bytes_alone (unsigned_transaction.item t))) }
-        ensures fault { IfErr result (λ e.
-            (FaultsAlone unsigned_legacy_transaction unknown_type unsigned_types bytes.now e)
-            ⊎ ((e ≡ OutOfMemory)
-            × MayLackAlone unsigned_legacy_transaction unsigned_types bytes.now)) }
+        ensures value { IfOk result
+            (λ t. (unsigned_alone bytes.now).result ≡ Ok (unsigned_transaction.reading.seen t)) }
+        ensures fault { IfErr result (λ e. ((unsigned_alone bytes.now).result ≡ Err (fault_of e))
+            ⊎ ((e ≡ OutOfMemory) × IsTrue unsigned_transaction.reading.takes_memory)) }
         ensures memory { (t : UnsignedTransaction) → unsigned_transaction.Fits t
-            → bytes.now ≡ bytes_alone (unsigned_transaction.item t)
-            → IfErr result (λ e. e ≡ OutOfMemory) }
+            → bytes.now ≡ bytes_alone (unsigned_transaction.item t) → IfErr result (λ e. e ≡ OutOfMemory) }
     {
         read_alone(alloc, bytes)
     }
@@ -104,23 +104,17 @@ impl UnsignedTransaction {
 // Reads a transaction from its bytes. The clauses of `from_bytes` add that reading what `to_bytes`
 // wrote can't fail.
 fn read_alone(alloc: Global, bytes: &[u8]) -> Result<UnsignedTransaction, DecoderError>
-    ensures value { IfOk result (λ t. unsigned_transaction.Fits t
-        × (bytes.now ≡ bytes_alone (unsigned_transaction.item t))) }
-    ensures fault { IfErr result (λ e.
-        (FaultsAlone unsigned_legacy_transaction unknown_type unsigned_types bytes.now e)
-        ⊎ ((e ≡ OutOfMemory)
-        × MayLackAlone unsigned_legacy_transaction unsigned_types bytes.now)) }
+    ensures value { IfOk result
+        (λ t. (unsigned_alone bytes.now).result ≡ Ok (unsigned_transaction.reading.seen t)) }
+    ensures fault { IfErr result (λ e. ((unsigned_alone bytes.now).result ≡ Err (fault_of e))
+        ⊎ ((e ≡ OutOfMemory) × IsTrue unsigned_transaction.reading.takes_memory)) }
 {
     if Rlp::new(bytes).is_list() {
-        return match rlp::decode_whole(alloc, bytes) {
-            Ok(legacy) => Ok(UnsignedTransaction::Legacy(legacy)),
-            Err(fault) => Err(fault),
-        };
+        let legacy = rlp::decode_strict(alloc, bytes)?;
+        return Ok(UnsignedTransaction::Legacy(legacy));
     }
-    match Envelope::split(bytes) {
-        Ok(envelope) => decode_payload(alloc, &envelope),
-        Err(fault) => Err(fault),
-    }
+    let envelope = Envelope::split(bytes)?;
+    decode_payload(alloc, &envelope)
 }
 
 // Reads a transaction of one of the types.
@@ -128,10 +122,11 @@ fn decode_payload(
     alloc: Global,
     envelope: &Envelope<'_>,
 ) -> Result<UnsignedTransaction, DecoderError>
-    ensures value { IfOk result (λ t. unsigned_transaction.Fits t
-        × (unsigned_transaction.item t ≡ string (envelope.now.tag ∷ envelope.now.payload.now))) }
-    ensures fault { IfErr result (λ e. PayloadFails unknown_type unsigned_types
-        envelope.now.tag envelope.now.payload.now e) }
+    ensures value { IfOk result (λ t. map_value inr (unsigned_types.cases.read envelope.now.tag
+        (strict_view_of envelope.now.payload.now)).result ≡ Ok (unsigned_transaction.reading.seen t)) }
+    ensures fault { IfErr result (λ e. ((unsigned_types.cases.read envelope.now.tag
+        (strict_view_of envelope.now.payload.now)).result ≡ Err (fault_of e))
+        ⊎ ((e ≡ OutOfMemory) × IsTrue unsigned_types.cases.takes_memory)) }
 {
     decode_typed!(
         alloc,

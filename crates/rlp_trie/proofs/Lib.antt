@@ -1,4 +1,3 @@
-pub mod EmptyString
 pub mod OneValue
 pub mod PathLemmas
 pub mod StepLemmas

@@ -10,7 +10,8 @@ use Rattle.std.specs.Str.{bytes_eq}
 use Rattle.std.specs.Vec.{vec_items}
 use Rattle.rlp.specs.Codec.{Codec, Fields, byte_string, each, end, field}
 use Rattle.rlp.specs.Format.Item.{Item, string}
-use Rattle.rlp.specs.Lemmas.Structs.{list_same}
+use Rattle.rlp.specs.Format.Item.{items_from, listed, list_of}
+use Rattle.rlp_format.proofs.Lemmas.Encodings.{listed_from}
 use Rattle.rlp_trie.specs.BranchChild.{branch_child, place_item}
 use Rattle.rlp_trie.specs.Child.{IsChild, child_item}
 use Rattle.rlp_trie.specs.ChildLaws.{child_some}
@@ -60,6 +61,10 @@ place_fits b nibble small fit = subst (λ i. IfSome (child_at i b).0 IsChild) (l
     (each_fit_at child_at branch_child last_field b 16 0 nibble small fit)
 
 -- ---- the item of a node says the step
+
+-- if two lists are the same item, they have the same items
+list_same : (xs ys : List Item) → list_of xs ≡ list_of ys → xs ≡ ys
+list_same xs ys same = let inner : items_from xs ≡ items_from ys = cc in sym (listed_from xs) ∙ ap listed inner ∙ listed_from ys
 
 place_same : (o p : Option Child) (rest : List ℕ) → IfSome o IsChild → IfSome p IsChild → place_item o ≡ place_item p → place_step o rest ≡ place_step p rest
 place_same None None rest fit other same = refl

@@ -1,10 +1,10 @@
 -- The walk over the nodes of a proof ends in one way, and what it finds is what the trie has.
 use Rattle.std.proofs.Common.{◌≡◌, ◌<◌, ◌^◌, ◌⊎◌, inl, inr, ⊎_elim, ℕ, Bool, true, false, if◌then◌else◌, List, [], ◌∷◌, length, map, refl, sym, ap, ◌∙◌, subst, arith}
-use Rattle.std.proofs.Common.{Option, Result, Ok, Err, IfErr, IfOk}
+use Rattle.std.proofs.Common.{Option, Result, Ok, Err, IfOk}
 use Rattle.std.proofs.lemmas.List.Elements.{Contains-append_right}
 use Rattle.std.proofs.lemmas.Slice.Eq.{bytes_eq-Decides}
 use Rattle.std.specs.Global.{Vec}
-use Rattle.std.specs.Prelude.{Contains, IsErrAnd, option_map}
+use Rattle.std.specs.Prelude.{Contains, option_map}
 use Rattle.std.specs.Str.{bytes_eq}
 use Rattle.std.specs.Vec.{vec_items}
 use Rattle.keccak.specs.Keccak.{keccak256}
@@ -12,11 +12,13 @@ use Rattle.rlp.specs.DecoderError.{DecoderError}
 use Rattle.rlp.specs.DecoderError.TheVariants as decoder
 use Rattle.rlp.specs.Format.Encoding.{encoding}
 use Rattle.rlp.specs.Format.Item.{Item, list, string}
-use Rattle.rlp.specs.Lemmas.ExactReads.{one_held}
+use Rattle.rlp_format.proofs.Lemmas.Encodings.{encoding_same}
 use Rattle.rlp.specs.Format.Split.{begins_as_list}
-use Rattle.rlp.specs.Lemmas.RawItems.{string_kind}
+use Rattle.rlp_reading.proofs.Lemmas.RawItems.{string_kind}
 use Rattle.rlp.specs.Values.RawItem.{raw_item_of}
 use Rattle.rlp.specs.Views.View.{strict_view_of}
+use Rattle.rlp.specs.Form.{Faults}
+use Rattle.rlp_codec.proofs.Corollaries.{not_both}
 use Rattle.rlp_trie.specs.Child.{child_item}
 use Rattle.rlp_trie.specs.EmptyString.{empty_string}
 use Rattle.rlp_trie.specs.HexPrefix.{AreNibbles}
@@ -24,7 +26,7 @@ use Rattle.rlp_trie.specs.Lookup.{Encodes, HasValue, StandsFor, by_hash, ends, e
 use Rattle.rlp_trie.specs.Next.{Agrees, IsEnd, read_fault}
 use Rattle.rlp_trie.specs.ProofWalk.{IsKnown, IsNoNode, IsSameKind, IsUnread, TakesNode, Walk, ends_at_last, ends_early, next_node, next_unread, no_next, stops, unread, walks_on}
 use Rattle.rlp_trie.specs.TrieNode.{node_item}
-use Rattle.rlp_trie.specs.TrieNodeLaws.{node_sound, trie_node}
+use Rattle.rlp_trie.specs.TrieNodeLaws.{trie_node}
 use Rattle.rlp_trie.specs.declared.child.Child.{Child}
 use Rattle.rlp_trie.specs.declared.child.Child.TheVariants as child
 use Rattle.rlp_trie.specs.declared.inline_node.InlineNode.{InlineNode}
@@ -96,23 +98,27 @@ read_fails reference nodes left b e next (inl bad) = inl (next_unread b left nex
 read_fails reference nodes left b e next (inr lacks) = inr lacks
 
 -- why bytes weren't read as a node, by the fault of reading them
-pub unread_as : {A : Type 0} (b : List ℕ) (d : DecoderError) (e : ProofFault) → e ≡ read_fault d
-    → (A × trie_node.faults (strict_view_of b) d) ⊎ ((d ≡ decoder.OutOfMemory) × trie_node.may_lack (strict_view_of b))
+pub unread_as : {T : Type 0} (b : List ℕ) (d : DecoderError) (e : ProofFault) → e ≡ read_fault d
+    → Faults trie_node.reading (strict_view_of b) d ⊎ ((d ≡ decoder.OutOfMemory) × T)
     → IsUnread b e ⊎ (e ≡ OutOfMemory)
 unread_as b decoder.OutOfMemory e is why = inr is
-unread_as b d e is (inl (bytes, bad)) = inl (subst (λ e. IsUnread b e) (sym is) (unread d bad))
+unread_as b d e is (inl bad) = inl (subst (λ e. IsUnread b e) (sym is) (unread d bad))
 unread_as b d e is (inr (lacks, may)) = absurd (let no : ⊥ = cc in no)
 
 -- ---- one way to end
 
 -- the encoding of a node has no fault
 faultless : (b : List ℕ) (n : TrieNode) (e : ProofFault) → Encodes b n → ¬ IsUnread b e
-faultless b n e are (unread d bad) = node_sound (strict_view_of b) n are.sized are.fits are.is d bad
+faultless b n e are (unread d bad) =
+    not_both trie_node.reading (strict_view_of b) n d ((trie_node.reads_strictly.back true).back b n are.sized are.fits are.is) bad
 
 -- nodes of one encoding say the same of a path
 pub one_step : (b : List ℕ) (n m : TrieNode) (path : List ℕ) → Encodes b n → Encodes b m → AreNibbles path → step n path ≡ step m path
 one_step b n m path one other are =
-    same_step n m path one.fits other.fits are (one_held (strict_view_of b) (node_item n) (node_item m) one.sized one.is other.is)
+    let same : encoding (node_item n) ≡ encoding (node_item m) = sym one.is ∙ other.is in
+    let sized : length (encoding (node_item n)) < 2 ^ 64 = subst (λ c. length c < 2 ^ 64) one.is one.sized in
+    same_step n m path one.fits other.fits are
+    (encoding_same (node_item n) (node_item m) sized (subst (λ c. length c < 2 ^ 64) same sized) same)
 
 not_none : (nodes left : List (List ℕ)) (reference : Item) (n : TrieNode) (e : ProofFault) → TakesNode reference nodes n left → ¬ IsNoNode reference nodes e
 not_none nodes left reference n e taken (no_next none) = ok_or_err _ _ _ taken.next none
@@ -298,21 +304,3 @@ pub end_proves : (all : List (List ℕ)) (reference : Item) (path : List ℕ) (r
     → IfOk r (λ value. HasValue (IsKnown all) reference path (option_map vec_items value))
 end_proves all reference path (Ok value) walk = value_of_walk all all reference path (option_map vec_items value) (λ b held. held) walk
 end_proves all reference path (Err e) walk = tt
-
-pub end_fails : (all : List (List ℕ)) (reference : Item) (path : List ℕ) (r : Result (Option (Vec ℕ)) ProofFault) → IsEnd all reference path r
-    → IfErr r (λ e. Walk all reference path (Err e) ⊎ (e ≡ OutOfMemory))
-end_fails all reference path (Ok value) walk = tt
-end_fails all reference path (Err e) walk = walk
-
-pub agrees_found : (r : Result (Option (Vec ℕ)) ProofFault) (value : Option (List ℕ)) → Agrees r (Ok value) → IfOk r (λ given. option_map vec_items given ≡ value)
-agrees_found (Ok given) value same = same
-agrees_found (Err e) value lacks = tt
-
-pub agrees_lacks : (r : Result (Option (Vec ℕ)) ProofFault) (value : Option (List ℕ)) → Agrees r (Ok value) → IfErr r (λ e. e ≡ OutOfMemory)
-agrees_lacks (Ok given) value same = tt
-agrees_lacks (Err e) value lacks = lacks
-
-pub agrees_refused : (r : Result (Option (Vec ℕ)) ProofFault) (fault : ProofFault) → Agrees r (Err fault)
-    → IsErrAnd r (λ e. IsSameKind e fault ⊎ (e ≡ OutOfMemory))
-agrees_refused (Ok given) fault never = never
-agrees_refused (Err e) fault is = is

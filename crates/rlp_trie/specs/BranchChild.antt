@@ -1,20 +1,18 @@
 -- How the places of a branch are written and read.
-use Rattle.std.specs.Prelude.{ℕ, ◌≡◌, ◌≢◌, Option, Some, None, IfSome, List, [], Ok, Err}
-use Rattle.std.proofs.Common.{◌<◌, ◌^◌, ◌⊎◌, inl, inr, sym, ap, ◌∙◌, subst, length}
-use Rattle.rlp.specs.DecoderError.{DecoderError}
-use Rattle.rlp.specs.DecoderError.TheVariants.{OutOfMemory}
+use Rattle.std.specs.Prelude.{ℕ, ◌≡◌, ◌⊎◌, if◌then◌else◌, Bool, true, false, Option, Some, None, option_map, IfSome, List, [], Result, Ok}
+use Rattle.std.proofs.Common.{◌<◌, ◌^◌, refl, sym, ap, ◌∙◌, length}
+use Rattle.std.proofs.lemmas.Bool.{cond-true, cond-false}
 use Rattle.rlp.specs.Format.Item.{Item, string}
-use Rattle.rlp.specs.Format.Encoding.{encoding}
-use Rattle.rlp.specs.Values.RawItem.{view_frame}
-use Rattle.rlp.specs.Values.Same.{SameOption}
-use Rattle.rlp.specs.Values.ValueReading.{GivesValue}
-use Rattle.rlp.specs.Views.View.{View, Holds, HoldsItem}
-use Rattle.rlp.specs.Codec.{Codec, newtype}
-use Rattle.rlp.specs.Codecs.Exact.{exact_type}
-use Rattle.rlp.specs.Lemmas.RawItems.{view_frame-held}
-use Rattle.rlp_trie.specs.Child.{IsChild, IsChildFault, MayLackAsChild, SameChild, child_item, faulty_child}
-use Rattle.rlp_trie.specs.ChildLaws.{child_some, child_sound, same_child}
-use Rattle.rlp_trie.specs.Inline.{IsInlineNode}
+use Rattle.rlp.specs.Format.Encoding.{IsSized, encoding}
+use Rattle.rlp.specs.Format.WrittenHeader.{AreBytes}
+use Rattle.rlp_codec.specs.FirstItems.{item_type}
+use Rattle.rlp.specs.Form.{Fault, here, map_value}
+use Rattle.rlp_codec.proofs.FirstItemLaws.{ReadsItems, items_lawful}
+use Rattle.rlp_codec.proofs.ListLaws.{is_mapped, options_fit}
+use Rattle.rlp.specs.Codec.{Codec, lawful, newtype}
+use Rattle.rlp_trie.specs.Child.{IsChild, child_item, child_of, seen_child, written_child}
+use Rattle.rlp_trie.specs.ChildLaws.{child_back, child_fits, child_only, child_same, child_some}
+use Rattle.rlp_trie.specs.EmptyString.{empty_found, empty_only, is_empty_string, other_item}
 use Rattle.rlp_trie.specs.declared.branch_child.BranchChild.{BranchChild}
 use Rattle.rlp_trie.specs.declared.child.Child.{Child}
 
@@ -23,49 +21,61 @@ abbrev pub place_item : Option Child → Item
 place_item None = string []
 place_item (Some c) = child_item c
 
--- Why a view gives no place of a branch: it doesn't begin with a framed item, or the bytes of that item are neither the empty string nor a child.
-pub data FaultsAsPlace (v : View) (e : DecoderError) : Type 0 where
-  unframed_place : view_frame v ≡ Err e → FaultsAsPlace v e
-  faulty_place : (b : List ℕ) → view_frame v ≡ Ok b → b ≢ encoding (string []) → IsChildFault b e → FaultsAsPlace v e
+-- the child fits, if there is one
+abbrev pub IsPlace : Option Child → Type 0
+IsPlace o = IfSome o IsChild
 
--- a view that holds the encoding of a place has no fault
-pub place_sound : (v : View) (o : Option Child) → length v.bytes < 2 ^ 64 → IfSome o IsChild → HoldsItem v (place_item o) → (e : DecoderError)
-    → ¬ FaultsAsPlace v e
-place_sound v o fits is holds e (unframed_place none) = let framed = view_frame-held v (place_item o) fits holds in cc
-place_sound v None fits is holds e (faulty_place b framed other bad) =
-    let whole : view_frame v ≡ Ok (encoding (string [])) = view_frame-held v (string []) fits holds in
-    other (let same : b ≡ encoding (string []) = cc in same)
-place_sound v (Some c) fits is holds e (faulty_place b framed other bad) = child_sound v c fits is holds e (faulty_child b framed bad)
+-- what is seen of the child, if there is one
+abbrev pub seen_place : Option Child → Option (List ℕ ⊎ List ℕ)
+seen_place o = option_map seen_child o
 
--- places that are written as one item have the same child, or none
-pub same_place : (o p : Option Child) → IfSome o IsChild → IfSome p IsChild → place_item o ≡ place_item p → SameOption SameChild o p
-same_place None None is also same = tt
-same_place None (Some d) is also same = absurd (child_some d also (sym same))
-same_place (Some c) None is also same = absurd (child_some c is same)
-same_place (Some c) (Some d) is also same = same_child c d is also same
+-- the item of a place, by what contracts see of the place
+abbrev pub written_place : Option (List ℕ ⊎ List ℕ) → Item
+written_place None = string []
+written_place (Some m) = written_child m
 
--- A place is given exactly by its encoding. Two places agree if they have the same child, or none.
-abbrev pub place : Codec (Option Child)
-place = record (exact_type (λ o. IfSome o IsChild) place_item FaultsAsPlace MayLackAsChild place_sound) {
-  Same = λ o p. SameOption SameChild o p;
-  told = same_place;
+-- what the bytes of an item give: no child for the empty string, and else a child
+abbrev pub place_of : List ℕ → Result (Option (List ℕ ⊎ List ℕ)) Fault
+place_of b = if is_empty_string b then Ok None else map_value Some (child_of b)
+
+place_back : (o : Option Child) → IsPlace o → IsSized (place_item o) → place_of (encoding (place_item o)) ≡ Ok (seen_place o)
+place_back None is sized = cond-true (is_empty_string (encoding (string []))) _ _ empty_found
+place_back (Some c) is sized =
+    cond-false (is_empty_string (encoding (child_item c))) _ _ (other_item (child_item c) sized (child_some c is)) ∙ ap (map_value Some) (child_back c is sized)
+
+some_same : {A : Type 0} (x y : A) → Some x ≡ Some y → x ≡ y
+some_same x y same = cc
+
+none_some : {A : Type 0} (x : A) → (let o : Option A = None in o) ≡ Some x → ⊥
+none_some x same = cc
+
+place_by : (b : List ℕ) (o : Option Child) (empty : Bool) → AreBytes b → length b < 2 ^ 64 → is_empty_string b ≡ empty → place_of b ≡ Ok (seen_place o)
+    → IsPlace o × (b ≡ encoding (place_item o))
+place_by b None true bytes fits found is = (tt, empty_only b found)
+place_by b (Some c) true bytes fits found is =
+    let r : place_of b ≡ Ok None = cond-true (is_empty_string b) _ _ found in absurd (let no : ⊥ = cc in no)
+place_by b None false bytes fits found is =
+    let m = is_mapped (child_of b) Some _ (sym (cond-false (is_empty_string b) _ _ found) ∙ is) in absurd (none_some _ (sym m.then))
+place_by b (Some c) false bytes fits found is =
+    let m = is_mapped (child_of b) Some _ (sym (cond-false (is_empty_string b) _ _ found) ∙ is) in
+    child_only b c bytes fits (m.is ∙ ap Ok (some_same m.value (seen_child c) m.then))
+
+place_same : (o : Option Child) → written_place (seen_place o) ≡ place_item o
+place_same None = refl
+place_same (Some c) = child_same c
+
+pub place_items : ReadsItems IsPlace place_item seen_place written_place (λ b. here (place_of b))
+place_items = record {
+  back = place_back;
+  only = λ b o bytes fits is. place_by b o (is_empty_string b) bytes fits refl is;
+  fits = options_fit seen_child IsChild child_fits;
+  same = place_same;
 }
+
+-- the first item
+abbrev pub place : Codec (Option Child)
+place = lawful (item_type IsPlace place_item seen_place written_place (λ b. here (place_of b)) true) (items_lawful _ _ _ _ _ true place_items)
 
 -- the place that it holds
 abbrev pub branch_child : Codec BranchChild
 branch_child = newtype (λ (c : BranchChild). c.0) place
-
--- ---- rules for bodies
-
--- the place that is read from the first item
-pub place_given : (v : View) (b : List ℕ) (o : Option Child) → Holds v.is_strict v.bytes b → IfSome o IsChild → b ≡ encoding (place_item o)
-    → GivesValue (λ o. IfSome o IsChild) place_item v o
-place_given v b o holds is whole = record { fits = is; begins = subst (λ a. Holds v.is_strict v.bytes a) whole holds }
-
--- why no place is read from the first item
-pub place_fails : (v : View) (b c : List ℕ) (e : DecoderError) → view_frame v ≡ Ok b → c ≡ b → c ≢ encoding (string [])
-    → IsChildFault c e ⊎ ((e ≡ OutOfMemory) × IsInlineNode c) → FaultsAsPlace v e ⊎ ((e ≡ OutOfMemory) × MayLackAsChild v)
-place_fails v b c e framed same other (inl bad) = inl (faulty_place c (framed ∙ ap Ok (sym same)) other bad)
-place_fails v b c e framed same other (inr (lacks, raw)) = inr (lacks, record { bytes = c; framed = framed ∙ ap Ok (sym same); is = raw })
-
-pub ruleset place_reading = (place_given, place_fails, unframed_place)

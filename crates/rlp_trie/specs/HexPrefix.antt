@@ -1,7 +1,8 @@
 -- Hex-prefix encoding of paths, as in appendix C of the yellow paper.
-use Rattle.std.specs.Prelude.{ℕ, ◌≡◌, ◌≢◌, ◌+◌, ◌*◌, ◌/◌, ◌%◌, ◌<◌, ◌==◌, ◌&&◌, ◌||◌, nat_le, if◌then◌else◌, All, Bool, true, false, List, [], ◌∷◌, length, codes, unwrap_or, Option, Some, None}
+use Rattle.std.specs.Prelude.{ℕ, ◌≡◌, ◌+◌, ◌*◌, ◌/◌, ◌%◌, ◌<◌, ◌==◌, ◌&&◌, ◌||◌, nat_le, if◌then◌else◌, All, Bool, true, false, List, [], ◌∷◌, length, codes, unwrap_or, Option, Some, None, Result, Ok, Err}
+use mathlib.Core.Bool.{beq}
 use Rattle.rlp.specs.DecoderError.{DecoderError}
-use Rattle.rlp.specs.Values.ValueReading.{IsCustom}
+use Rattle.rlp.specs.Form.{Fault, custom, fault_of}
 
 -- ---- the encoding
 
@@ -77,16 +78,19 @@ is_empty_extension (first ∷ next ∷ more) = false
 abbrev pub IsPath : Bool → List ℕ → Type 0
 IsPath leaf d = (ends_in_leaf d ≡ Some leaf) × (is_empty_extension d ≡ false)
 
--- Why bytes aren't a path of a leaf, or of an extension: they aren't hex-prefix encoded, or are a path of the other kind, or the path of an extension has no
--- nibbles.
-pub data IsPathFault (leaf : Bool) (d : List ℕ) (e : DecoderError) : Type 0 where
-  not_encoded : ends_in_leaf d ≡ None → IsCustom (codes "path is not hex-prefix encoded") e → IsPathFault leaf d e
-  other_kind : (other : Bool) → ends_in_leaf d ≡ Some other → other ≢ leaf → IsCustom (codes "path is that of another node") e → IsPathFault leaf d e
-  empty_extension : ends_in_leaf d ≡ Some leaf → is_empty_extension d ≡ true → IsCustom (codes "path of an extension is empty") e → IsPathFault leaf d e
+-- what bytes that are a path of this kind, or of none, give as the path of a leaf, or of an extension
+abbrev pub path_of_kind : Bool → List ℕ → Option Bool → Result (List ℕ) Fault
+path_of_kind leaf d None = Err (custom (codes "path is not hex-prefix encoded"))
+path_of_kind leaf d (Some other) =
+    if beq other leaf then (if is_empty_extension d then Err (custom (codes "path of an extension is empty")) else Ok d)
+    else Err (custom (codes "path is that of another node"))
+
+-- What bytes give as the path of a leaf, or of an extension. They fail if they aren't hex-prefix encoded, or are a path of the other kind, or if the path of an
+-- extension has no nibbles.
+abbrev pub path_of : Bool → List ℕ → Result (List ℕ) Fault
+path_of leaf d = path_of_kind leaf d (ends_in_leaf d)
 
 -- Why numbers aren't those of a path of a leaf, or of an extension: one isn't a nibble, or there are none for an extension.
 pub data IsNibbleFault (leaf : Bool) (x : List ℕ) (e : DecoderError) : Type 0 where
-  above_nibbles : ¬ AreNibbles x → IsCustom (codes "nibble is above 15") e → IsNibbleFault leaf x e
-  no_nibbles : leaf ≡ false → x ≡ [] → IsCustom (codes "path of an extension is empty") e → IsNibbleFault leaf x e
-
-pub ruleset path_faults = (not_encoded, other_kind, empty_extension)
+  above_nibbles : ¬ AreNibbles x → fault_of e ≡ custom (codes "nibble is above 15") → IsNibbleFault leaf x e
+  no_nibbles : leaf ≡ false → x ≡ [] → fault_of e ≡ custom (codes "path of an extension is empty") → IsNibbleFault leaf x e

@@ -1,44 +1,41 @@
 -- How paths of leaves and of extensions are written and read.
-use Rattle.std.specs.Prelude.{ℕ, ◌≡◌, ⊤, ◌⊎◌, List}
-use Rattle.std.proofs.Common.{inl, inr, sym, subst, Result, Ok, Err, IfErr}
+use Rattle.std.specs.Prelude.{ℕ, ◌≡◌, ⊤, Bool, true, false, List, Option, Some, None, Ok}
+use Rattle.std.proofs.Common.{refl, ap, ◌∙◌}
 use Rattle.std.specs.Vec.{vec_items}
-use Rattle.rlp.specs.DecoderError.{DecoderError}
-use Rattle.rlp.specs.DecoderError.TheVariants.{OutOfMemory}
-use Rattle.rlp.specs.Format.Item.{string}
-use Rattle.rlp.specs.Values.ValueReading.{FaultsAs, GivesSome, GivesValue, no_string, no_value}
-use Rattle.rlp.specs.Views.View.{View, HoldsString}
+use Rattle.std.proofs.lemmas.Bool.{cond-false}
+use Rattle.rlp_codec.proofs.StringLaws.{ReadsStrings}
 use Rattle.rlp.specs.Codec.{Codec, string_type}
-use Rattle.rlp_trie.specs.HexPrefix.{IsPath, IsPathFault, empty_extension, is_leaf_flag, not_encoded, other_kind}
+use Rattle.rlp_trie.specs.HexPrefix.{ends_in_leaf, is_empty_extension, is_leaf_flag, path_of, path_of_kind}
 use Rattle.rlp_trie.specs.declared.path.Path.{Path}
 
--- a path has no fault
-pub sound_path : (flag : ℕ) (p : Path flag) (e : DecoderError) → ⊤ → ¬ IsPathFault (is_leaf_flag flag) (vec_items p.bytes) e
-sound_path flag p e fit (not_encoded none custom) = let encoded = p.encoded in cc
-sound_path flag p e fit (other_kind found is other custom) = let encoded = p.encoded in other (let same : found ≡ is_leaf_flag flag = cc in same)
-sound_path flag p e fit (empty_extension is none custom) = let some = p.some_nibble in cc
+kind_again : (leaf : Bool) (d : List ℕ) → is_empty_extension d ≡ false → path_of_kind leaf d (Some leaf) ≡ Ok d
+kind_again true d some = cond-false (is_empty_extension d) _ _ some
+kind_again false d some = cond-false (is_empty_extension d) _ _ some
 
--- memory may run out for the copy of a path of this kind
-abbrev pub MayLackAsPath : ℕ → View → Type 0
-MayLackAsPath flag v = GivesSome (GivesValue (IsPath (is_leaf_flag flag)) string) v
+-- a path of the kind is read
+path_again : (leaf : Bool) (d : List ℕ) → ends_in_leaf d ≡ Some leaf → is_empty_extension d ≡ false → path_of leaf d ≡ Ok d
+path_again leaf d is some = ap (path_of_kind leaf d) is ∙ kind_again leaf d some
+
+kind_only : (leaf : Bool) (d x : List ℕ) (o : Option Bool) (empty : Bool) → is_empty_extension d ≡ empty → path_of_kind leaf d o ≡ Ok x → d ≡ x
+kind_only leaf d x None empty none is = absurd (let no : ⊥ = cc in no)
+kind_only true d x (Some false) empty none is = absurd (let no : ⊥ = cc in no)
+kind_only false d x (Some true) empty none is = absurd (let no : ⊥ = cc in no)
+kind_only true d x (Some true) true none is = absurd (let no : ⊥ = cc in no)
+kind_only true d x (Some true) false none is = cc
+kind_only false d x (Some false) true none is = absurd (let no : ⊥ = cc in no)
+kind_only false d x (Some false) false none is = cc
+
+-- the bytes of a path are read back, and no others
+pub path_strings : (flag : ℕ) → ReadsStrings (λ (p : Path flag). ⊤) (λ p. vec_items p.bytes) (λ p. vec_items p.bytes) (λ d. d) (path_of (is_leaf_flag flag))
+path_strings flag = record {
+  back = λ p fit short. path_again (is_leaf_flag flag) (vec_items p.bytes) p.encoded p.some_nibble;
+  only = λ d p bytes short is.
+      (tt, kind_only (is_leaf_flag flag) d (vec_items p.bytes) (ends_in_leaf d) (is_empty_extension d) refl is);
+  fits = λ p q same fit. tt;
+  same = λ p. refl;
+}
 
 -- the string of the bytes
 abbrev pub path : (flag : ℕ) → Codec (Path flag)
-path flag = record (string_type (λ (p : Path flag). ⊤) (λ p. vec_items p.bytes) (IsPathFault (is_leaf_flag flag)) (sound_path flag)) {
-  may_lack = λ v. MayLackAsPath flag v;
-}
-
--- ---- rules for bodies
-
--- the path that is made from the string of a view
-pub path_given : (flag : ℕ) (v : View) (d : List ℕ) (p : Path flag) → HoldsString v d → vec_items p.bytes ≡ d → (path flag).gives v p
-path_given flag v d p holds is = record { fits = tt; begins = subst (HoldsString v) (sym is) holds }
-
--- why no path is made from the string of a view
-pub path_fails : {R : Type 0} (flag : ℕ) (v : View) (d : List ℕ) (r : Result R DecoderError) → HoldsString v d
-    → IfErr r (λ e. IsPathFault (is_leaf_flag flag) d e ⊎ ((e ≡ OutOfMemory) × IsPath (is_leaf_flag flag) d))
-    → IfErr r (λ e. FaultsAs (IsPathFault (is_leaf_flag flag)) v e ⊎ ((e ≡ OutOfMemory) × MayLackAsPath flag v))
-path_fails flag v d (Ok p) holds h = tt
-path_fails flag v d (Err e) holds (inl bad) = inl (no_value d e holds bad)
-path_fails flag v d (Err e) holds (inr (lacks, encoded)) = inr (lacks, (d, record { fits = encoded; begins = holds }))
-
-pub ruleset path_reading = (no_string, path_given)
+path flag =
+    string_type (λ (p : Path flag). ⊤) (λ p. vec_items p.bytes) (λ p. vec_items p.bytes) (λ d. d) (path_of (is_leaf_flag flag)) true (path_strings flag)

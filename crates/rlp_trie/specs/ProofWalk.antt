@@ -7,6 +7,7 @@ use Rattle.rlp.specs.Format.Encoding.{encoding}
 use Rattle.rlp.specs.Format.Item.{Item, list, string}
 use Rattle.rlp.specs.Views.Text.{error_name}
 use Rattle.rlp.specs.Views.View.{strict_view_of}
+use Rattle.rlp.specs.Form.{Faults}
 use Rattle.rlp_trie.specs.HexPrefix.{nibbles_of}
 use Rattle.rlp_trie.specs.Lookup.{Encodes, ends, goes, step}
 use Rattle.rlp_trie.specs.TrieNodeLaws.{trie_node}
@@ -45,7 +46,7 @@ pub record TakesNode (reference : Item) (nodes : List (List ℕ)) (n : TrieNode)
 
 -- why bytes aren't the encoding of a node
 pub data IsUnread (b : List ℕ) : ProofFault → Type 0 where
-  unread : (e : DecoderError) → trie_node.faults (strict_view_of b) e → IsUnread b (FaultyNode e)
+  unread : (e : DecoderError) → Faults trie_node.reading (strict_view_of b) e → IsUnread b (FaultyNode e)
 
 -- Why a proof gives no node for a reference: it has no encoding for it, or that isn't the encoding of a node.
 pub data IsNoNode (reference : Item) (nodes : List (List ℕ)) (e : ProofFault) : Type 0 where

@@ -1,12 +1,12 @@
 -- How nodes of the trie of every kind are written and read.
-use Rattle.std.specs.Prelude.{ℕ, ◌≡◌, ◌≢◌, ⊤, Bool, true, false, List, [], Result, Ok, Err}
+use Rattle.std.specs.Prelude.{ℕ, ⊤, ◌⊎◌, ◌==◌, if◌then◌else◌, Bool, false, List, [], Result, Ok, Err}
+use Rattle.std.proofs.Common.{inl, inr}
 use Rattle.rlp.specs.DecoderError.{DecoderError}
-use Rattle.rlp.specs.DecoderError.TheVariants.{RlpIncorrectListLen}
-use Rattle.rlp.specs.Format.Encoding.{encoding}
 use Rattle.rlp.specs.Format.Item.{Item, string}
-use Rattle.rlp.specs.Format.WrittenHeader.{AreBytes}
-use Rattle.rlp.specs.Values.RawItem.{view_frame}
+use Rattle.rlp.specs.Values.Sums.{sum_item}
 use Rattle.rlp.specs.Views.View.{View, item_at, item_count, strict_view_of, view_string}
+use Rattle.rlp.specs.Form.{Answer, Fault, go_on, here, incorrect_list_len, map_answer, seen_fault}
+use Rattle.rlp_trie.specs.EmptyString.{is_empty_string}
 use Rattle.rlp_trie.specs.HexPrefix.{is_leaf_path}
 use Rattle.rlp_trie.specs.Trie.{branch, extension, leaf}
 use Rattle.rlp_trie.specs.declared.trie_node.TrieNode.{TrieNode}
@@ -28,13 +28,19 @@ IsTrieNode (Leaf l) = leaf.Fits l
 IsTrieNode (Extension e) = extension.Fits e
 IsTrieNode (Branch b) = branch.Fits b
 
--- The two nodes are the same: both are the empty trie, or both are leaves, extensions or branches, and each field of them is the same.
-abbrev pub SameNode : TrieNode → TrieNode → Type 0
-SameNode Empty Empty = ⊤
-SameNode (Leaf l) (Leaf m) = leaf.Same l m
-SameNode (Extension e) (Extension f) = extension.Same e f
-SameNode (Branch b) (Branch c) = branch.Same b c
-SameNode _ _ = ⊥
+-- What contracts see of a node: of the empty trie that it is empty, and else what they see of the leaf, the extension or the branch.
+abbrev pub SeenNode : Type 0
+SeenNode = ⊤ ⊎ (leaf.reading.M ⊎ (extension.reading.M ⊎ branch.reading.M))
+
+abbrev pub seen_node : TrieNode → SeenNode
+seen_node Empty = inl tt
+seen_node (Leaf l) = inr (inl (leaf.reading.seen l))
+seen_node (Extension e) = inr (inr (inl (extension.reading.seen e)))
+seen_node (Branch b) = inr (inr (inr (branch.reading.seen b)))
+
+-- the item of a node, by what contracts see of the node
+abbrev pub written_node : SeenNode → Item
+written_node = sum_item (λ empty. string []) (sum_item leaf.reading.item (sum_item extension.reading.item branch.reading.item))
 
 -- ---- reading
 
@@ -52,29 +58,19 @@ is_leaf_item (Err e) = false
 abbrev pub begins_as_leaf : List ℕ → Bool
 begins_as_leaf b = is_leaf_item (item_at (strict_view_of b) 0)
 
--- Why bytes that are an item aren't a node: they aren't the empty string or a list, or are a list of a length other than 2 and 17. A list of 17 items has a fault of a
--- branch. A list of two has a fault of a leaf if it begins with the path of a leaf, and else one of an extension.
-pub data IsNodeFault (b : List ℕ) : DecoderError → Type 0 where
-  no_list : (e : DecoderError) → b ≢ encoding (string []) → item_count (strict_view_of b) ≡ Err e → IsNodeFault b e
-  other_length : (n : ℕ) → item_count (strict_view_of b) ≡ Ok n → n ≢ 2 → n ≢ 17 → IsNodeFault b RlpIncorrectListLen
-  faulty_branch : (e : DecoderError) → item_count (strict_view_of b) ≡ Ok 17 → branch.faults (strict_view_of b) e → IsNodeFault b e
-  faulty_leaf : (e : DecoderError) → item_count (strict_view_of b) ≡ Ok 2 → begins_as_leaf b ≡ true → leaf.faults (strict_view_of b) e → IsNodeFault b e
-  faulty_extension : (e : DecoderError) → item_count (strict_view_of b) ≡ Ok 2 → begins_as_leaf b ≡ false → extension.faults (strict_view_of b) e
-      → IsNodeFault b e
+-- What a list of two items gives: a leaf if the list begins with the path of a leaf, and else an extension.
+abbrev pub pair_of : List ℕ → Answer SeenNode Fault
+pair_of b =
+    if begins_as_leaf b then map_answer (λ l. inr (inl l)) (leaf.reading.read (strict_view_of b))
+    else map_answer (λ e. inr (inr (inl e))) (extension.reading.read (strict_view_of b))
 
--- Why a view gives no node: it doesn't begin with a framed item, or the bytes of that item aren't a node.
-pub data FaultsAsNode (v : View) (e : DecoderError) : Type 0 where
-  unframed_node : view_frame v ≡ Err e → FaultsAsNode v e
-  faulty_node : (b : List ℕ) → view_frame v ≡ Ok b → AreBytes b → IsNodeFault b e → FaultsAsNode v e
+-- What a list gives that has this number of items: a leaf or an extension for 2, a branch for 17, and a fault for any other number.
+abbrev pub list_of_len : List ℕ → ℕ → Answer SeenNode Fault
+list_of_len b n =
+    if n == 2 then pair_of b
+    else if n == 17 then map_answer (λ c. inr (inr (inr c))) (branch.reading.read (strict_view_of b))
+    else here (Err incorrect_list_len)
 
--- memory may run out for a node that bytes are: it may for the branch, the leaf or the extension
-pub data MayLackInNode (b : List ℕ) : Type 0 where
-  lacks_branch : branch.may_lack (strict_view_of b) → MayLackInNode b
-  lacks_leaf : begins_as_leaf b ≡ true → leaf.may_lack (strict_view_of b) → MayLackInNode b
-  lacks_extension : begins_as_leaf b ≡ false → extension.may_lack (strict_view_of b) → MayLackInNode b
-
--- memory may run out for the node that a view begins with
-pub record MayLackAsNode (v : View) : Type 0 where
-  pub bytes : List ℕ
-  pub framed : view_frame v ≡ Ok bytes
-  pub may : MayLackInNode bytes
+-- What the bytes of an item give, read strictly: the empty trie for the empty string, and for a list a node of another kind.
+abbrev pub node_of : List ℕ → Answer SeenNode Fault
+node_of b = if is_empty_string b then here (Ok (inl tt)) else go_on (here (seen_fault (item_count (strict_view_of b)))) (list_of_len b)

@@ -1,29 +1,24 @@
--- Nodes of the trie are given exactly by their encodings.
-use Rattle.std.proofs.Common.{◌≡◌, ◌<◌, ◌^◌, ◌⊎◌, inl, inr, ℕ, true, false, List, [], length, refl, sym, ap, ◌∙◌, subst, arith, Ok, Err, Result, IsOkAnd, unwrap_or}
+-- Nodes of the trie are read back, and from nothing else.
+use Rattle.std.proofs.Common.{◌≡◌, ◌≢◌, ◌<◌, ◌^◌, ◌==◌, inl, inr, ℕ, Bool, true, false, List, [], ◌∷◌, length, refl, sym, ap, ◌∙◌, Ok, Err, Result, unwrap_or}
+use Rattle.std.proofs.lemmas.Bool.{cond-true, cond-false}
 use Rattle.std.specs.Vec.{vec_items}
-use Rattle.rlp.specs.DecoderError.{DecoderError}
-use Rattle.rlp.specs.DecoderError.TheVariants.{OutOfMemory, RlpExpectedToBeList}
-use Rattle.rlp.specs.Format.Encoding.{encoding}
-use Rattle.rlp.specs.Format.Item.{string}
+use Rattle.rlp.specs.Format.Encoding.{IsSized, encoding}
+use Rattle.rlp.specs.Format.Item.{Item, list_of, string}
 use Rattle.rlp.specs.Format.WrittenHeader.{AreBytes}
-use Rattle.rlp.specs.Values.RawItem.{view_frame}
-use Rattle.rlp.specs.Values.ValueReading.{GivesValue}
-use Rattle.rlp.specs.Views.View.{View, Holds, HoldsItem, item_at, item_count, items_fault, strict_view_of}
-use Rattle.rlp.specs.Codec.{Codec}
-use Rattle.rlp.specs.Codecs.Exact.{exact_type}
-use Rattle.rlp.specs.Lemmas.Encodings.{front_sized}
-use Rattle.rlp.specs.Lemmas.Numbered.{item_count-fault}
-use Rattle.rlp.specs.Lemmas.RawItems.{view_frame-held}
-use Rattle.rlp.specs.Lemmas.Reading.{bytes_held}
-use Rattle.rlp.specs.Lemmas.Slices.{part_of_items}
-use Rattle.rlp.specs.Lemmas.StringsHeld.{held_begins, held_only}
-use Rattle.rlp_trie.specs.EmptyString.{empty_string}
+use Rattle.rlp_reading.proofs.Lemmas.StringsHeld.{held_only}
+use Rattle.rlp_reading.proofs.Lemmas.WholeLists.{strict_first, strict_item_count, strict_items, strict_list_told}
+use Rattle.rlp.specs.Views.View.{item_at, item_count, strict_view_of}
+use Rattle.rlp_codec.specs.FirstItems.{item_type}
+use Rattle.rlp.specs.Form.{Answer, Fault, and_then, incorrect_list_len, map_value, seen_fault}
+use Rattle.rlp_codec.proofs.FirstItemLaws.{ReadsItems, items_lawful}
+use Rattle.rlp_codec.proofs.ListLaws.{goes_on, is_mapped, items_sized}
+use Rattle.rlp.specs.Codec.{Codec, lawful}
+use Rattle.rlp_trie.specs.Child.{child_item}
+use Rattle.rlp_trie.specs.EmptyString.{empty_found, empty_only, is_empty_string, other_item}
 use Rattle.rlp_trie.specs.HexPrefix.{is_leaf_flag}
 use Rattle.rlp_trie.specs.Path.{path}
-use Rattle.rlp_trie.specs.Trie.{branch, extension, leaf}
-use Rattle.rlp_trie.specs.TrieNode.{FaultsAsNode, IsNodeFault, IsTrieNode, MayLackAsNode, MayLackInNode, SameNode, begins_as_leaf, faulty_branch, faulty_extension}
-use Rattle.rlp_trie.specs.TrieNode.{faulty_leaf, faulty_node, is_leaf_item, is_leaf_string, lacks_branch, lacks_extension, lacks_leaf, no_list, node_item}
-use Rattle.rlp_trie.specs.TrieNode.{other_length, unframed_node}
+use Rattle.rlp_trie.specs.Trie.{branch, branch_fields, extension, extension_fields, leaf, leaf_fields}
+use Rattle.rlp_trie.specs.TrieNode.{IsTrieNode, SeenNode, begins_as_leaf, is_leaf_item, is_leaf_string, list_of_len, node_item, node_of, pair_of, seen_node, written_node}
 use Rattle.rlp_trie.specs.declared.branch.Branch.{Branch}
 use Rattle.rlp_trie.specs.declared.extension.Extension.{Extension}
 use Rattle.rlp_trie.specs.declared.leaf.Leaf.{Leaf}
@@ -31,78 +26,156 @@ use Rattle.rlp_trie.specs.declared.path.Path.{Path}
 use Rattle.rlp_trie.specs.declared.trie_node.TrieNode.{TrieNode}
 use Rattle.rlp_trie.specs.declared.trie_node.TrieNode.TheVariants as node
 
+-- answers that are equal have equal results
+whole : {M : Type 0} {a b : Answer M Fault} → a ≡ b → a.result ≡ b.result
+whole {M} same = ap (λ (a : Answer M Fault). a.result) same
+
+-- ---- what is written is read
+
+module _ (xs : List Item) (sized : IsSized (list_of xs)) where
+  abbrev whole_list : List ℕ
+  whole_list = encoding (list_of xs)
+
+  -- a list is read by the number of the items
+  by_len : list_of xs ≢ string [] → (node_of whole_list).result ≡ (list_of_len whole_list (length xs)).result
+  by_len other =
+      whole (cond-false (is_empty_string whole_list) _ _ (other_item (list_of xs) sized other))
+      ∙ ap (λ r. and_then (seen_fault r) (λ n. (list_of_len whole_list n).result)) (strict_item_count xs whole_list sized refl)
+
+-- a list that begins with a path begins with the path of a leaf or of an extension, as the path says
+begins_by : (flag : ℕ) (p : Path flag) (x : Item) → IsSized (list_of (string (vec_items p.bytes) ∷ x ∷ []))
+    → begins_as_leaf (encoding (list_of (string (vec_items p.bytes) ∷ x ∷ []))) ≡ is_leaf_flag flag
+begins_by flag p x sized =
+    let first = string (vec_items p.bytes) in
+    let xs = first ∷ x ∷ [] in
+    let b = encoding (list_of xs) in
+    let parts = items_sized true b xs sized refl in
+    ap is_leaf_item (strict_first b (encoding first) (encoding x ∷ []) (strict_list_told xs b sized refl) (strict_items xs b sized refl))
+    ∙ ap is_leaf_string (held_only (strict_view_of (encoding first)) (vec_items p.bytes) parts.0 refl)
+    ∙ ap (λ leaf. unwrap_or leaf false) p.encoded
+
+leaf_back : (l : Leaf) → leaf.Fits l → IsSized (leaf.item l) → (node_of (encoding (leaf.item l))).result ≡ Ok (seen_node (node.Leaf l))
+leaf_back l fit sized =
+    by_len (leaf_fields.items l) sized (λ same. let no : ⊥ = cc in no)
+    ∙ whole (cond-true (begins_as_leaf (encoding (leaf.item l))) _ _ (begins_by 2 l.path (string (vec_items l.value)) sized))
+    ∙ ap (map_value (λ m. inr (inl m))) ((leaf.reads_strictly.back true).back (encoding (leaf.item l)) l sized fit refl)
+
+extension_back : (e : Extension) → extension.Fits e → IsSized (extension.item e) → (node_of (encoding (extension.item e))).result ≡ Ok (seen_node (node.Extension e))
+extension_back e fit sized =
+    by_len (extension_fields.items e) sized (λ same. let no : ⊥ = cc in no)
+    ∙ whole (cond-false (begins_as_leaf (encoding (extension.item e))) _ _ (begins_by 0 e.path (child_item e.child) sized))
+    ∙ ap (map_value (λ m. inr (inr (inl m)))) ((extension.reads_strictly.back true).back (encoding (extension.item e)) e sized fit refl)
+
+branch_back : (x : Branch) → branch.Fits x → IsSized (branch.item x) → (node_of (encoding (branch.item x))).result ≡ Ok (seen_node (node.Branch x))
+branch_back x fit sized =
+    by_len (branch_fields.items x) sized (λ same. let no : ⊥ = cc in no)
+    ∙ ap (map_value (λ m. inr (inr (inr m)))) ((branch.reads_strictly.back true).back (encoding (branch.item x)) x sized fit refl)
+
+node_back : (n : TrieNode) → IsTrieNode n → IsSized (node_item n) → (node_of (encoding (node_item n))).result ≡ Ok (seen_node n)
+node_back node.Empty fit sized = whole (cond-true (is_empty_string (encoding (string []))) _ _ empty_found)
+node_back (node.Leaf l) fit sized = leaf_back l fit sized
+node_back (node.Extension e) fit sized = extension_back e fit sized
+node_back (node.Branch x) fit sized = branch_back x fit sized
+
+-- ---- and nothing else
+
+abbrev as_leaf : leaf.reading.M → SeenNode
+as_leaf m = inr (inl m)
+
+abbrev as_extension : extension.reading.M → SeenNode
+as_extension m = inr (inr (inl m))
+
+abbrev as_branch : branch.reading.M → SeenNode
+as_branch m = inr (inr (inr m))
+
 module _ (b : List ℕ) (bytes : AreBytes b) (fits : length b < 2 ^ 64) where
-  -- the first item is the path that it gives
-  path_by : (flag : ℕ) (p : Path flag) (r : Result View DecoderError) → item_at (strict_view_of b) 0 ≡ r → IsOkAnd r (λ item. (path flag).gives item p)
-      → is_leaf_item r ≡ is_leaf_flag flag
-  path_by flag p (Ok item) is given =
-      let (held, short) = part_of_items (strict_view_of b) item 0 bytes fits is in
-      ap is_leaf_string (held_only item (vec_items p.bytes) short given.begins) ∙ ap (λ leaf. unwrap_or leaf false) p.encoded
-  path_by flag p (Err e) is given = absurd given
+  abbrev IsNode : TrieNode → Type 0
+  IsNode n = IsTrieNode n × (b ≡ encoding (node_item n))
 
-  leaf_told : (l : Leaf) (e : DecoderError) → leaf.Fits l → b ≡ encoding (leaf.item l) → ¬ IsNodeFault b e
-  leaf_told l e fit is bad =
-      let (many, (path_at, value_at)) = (leaf.reads_strictly b l bytes fits).exact.1 (fit, is) in
-      leaf_by e bad many (path_by 2 l.path (item_at (strict_view_of b) 0) refl path_at)
-    where
-      leaf_by : (e : DecoderError) → IsNodeFault b e → item_count (strict_view_of b) ≡ Ok 2 → begins_as_leaf b ≡ true → ⊥
-      leaf_by e (no_list f other none) many is_leaf = cc
-      leaf_by e (other_length n same not_two not_many) many is_leaf = not_two (let two : n ≡ 2 = cc in two)
-      leaf_by e (faulty_branch f same bad) many is_leaf = cc
-      leaf_by e (faulty_leaf f same kind bad) many is_leaf = (leaf.reads_strictly b l bytes fits).sound fit is f bad
-      leaf_by e (faulty_extension f same kind bad) many is_leaf = cc
+  leaf_only : (n : TrieNode) (m : leaf.reading.M) → (leaf.reading.read (strict_view_of b)).result ≡ Ok m → as_leaf m ≡ seen_node n → IsNode n
+  leaf_only node.Empty m is same = absurd (let no : ⊥ = cc in no)
+  leaf_only (node.Leaf l) m is same = leaf.reads_strictly.exact.only b l bytes fits (is ∙ ap Ok (let one : m ≡ leaf.reading.seen l = cc in one))
+  leaf_only (node.Extension e) m is same = absurd (let no : ⊥ = cc in no)
+  leaf_only (node.Branch x) m is same = absurd (let no : ⊥ = cc in no)
 
-  extension_told : (x : Extension) (e : DecoderError) → extension.Fits x → b ≡ encoding (extension.item x) → ¬ IsNodeFault b e
-  extension_told x e fit is bad =
-      let (many, (path_at, child_at)) = (extension.reads_strictly b x bytes fits).exact.1 (fit, is) in
-      extension_by e bad many (path_by 0 x.path (item_at (strict_view_of b) 0) refl path_at)
-    where
-      extension_by : (e : DecoderError) → IsNodeFault b e → item_count (strict_view_of b) ≡ Ok 2 → begins_as_leaf b ≡ false → ⊥
-      extension_by e (no_list f other none) many is_extension = cc
-      extension_by e (other_length n same not_two not_many) many is_extension = not_two (let two : n ≡ 2 = cc in two)
-      extension_by e (faulty_branch f same bad) many is_extension = cc
-      extension_by e (faulty_leaf f same kind bad) many is_extension = cc
-      extension_by e (faulty_extension f same kind bad) many is_extension = (extension.reads_strictly b x bytes fits).sound fit is f bad
+  extension_only : (n : TrieNode) (m : extension.reading.M) → (extension.reading.read (strict_view_of b)).result ≡ Ok m → as_extension m ≡ seen_node n → IsNode n
+  extension_only node.Empty m is same = absurd (let no : ⊥ = cc in no)
+  extension_only (node.Leaf l) m is same = absurd (let no : ⊥ = cc in no)
+  extension_only (node.Extension e) m is same =
+      extension.reads_strictly.exact.only b e bytes fits (is ∙ ap Ok (let one : m ≡ extension.reading.seen e = cc in one))
+  extension_only (node.Branch x) m is same = absurd (let no : ⊥ = cc in no)
 
-  branch_told : (x : Branch) (e : DecoderError) → branch.Fits x → b ≡ encoding (branch.item x) → ¬ IsNodeFault b e
-  branch_told x e fit is bad = branch_by e bad ((branch.reads_strictly b x bytes fits).exact.1 (fit, is)).0
-    where
-      branch_by : (e : DecoderError) → IsNodeFault b e → item_count (strict_view_of b) ≡ Ok 17 → ⊥
-      branch_by e (no_list f other none) many = cc
-      branch_by e (other_length n same not_two not_many) many = not_many (let all : n ≡ 17 = cc in all)
-      branch_by e (faulty_branch f same bad) many = (branch.reads_strictly b x bytes fits).sound fit is f bad
-      branch_by e (faulty_leaf f same kind bad) many = cc
-      branch_by e (faulty_extension f same kind bad) many = cc
+  branch_only : (n : TrieNode) (m : branch.reading.M) → (branch.reading.read (strict_view_of b)).result ≡ Ok m → as_branch m ≡ seen_node n → IsNode n
+  branch_only node.Empty m is same = absurd (let no : ⊥ = cc in no)
+  branch_only (node.Leaf l) m is same = absurd (let no : ⊥ = cc in no)
+  branch_only (node.Extension e) m is same = absurd (let no : ⊥ = cc in no)
+  branch_only (node.Branch x) m is same = branch.reads_strictly.exact.only b x bytes fits (is ∙ ap Ok (let one : m ≡ branch.reading.seen x = cc in one))
 
-  empty_told : (e : DecoderError) → b ≡ encoding (string []) → ¬ IsNodeFault b e
-  empty_told e whole bad =
-      let no_items : item_count (strict_view_of b) ≡ Err RlpExpectedToBeList = item_count-fault (strict_view_of b) RlpExpectedToBeList
-      (ap (λ b. items_fault (strict_view_of b)) (whole ∙ empty_string)) in
-      empty_by e bad no_items
-    where
-      empty_by : (e : DecoderError) → IsNodeFault b e → item_count (strict_view_of b) ≡ Err RlpExpectedToBeList → ⊥
-      empty_by e (no_list f other none) no_items = other whole
-      empty_by e (other_length n same not_two not_many) no_items = cc
-      empty_by e (faulty_branch f same bad) no_items = cc
-      empty_by e (faulty_leaf f same kind bad) no_items = cc
-      empty_by e (faulty_extension f same kind bad) no_items = cc
+  pair_only : (n : TrieNode) (kind : Bool) → begins_as_leaf b ≡ kind → (pair_of b).result ≡ Ok (seen_node n) → IsNode n
+  pair_only n true kind is =
+      let m = is_mapped (leaf.reading.read (strict_view_of b)).result as_leaf (seen_node n) (sym (whole (cond-true (begins_as_leaf b) _ _ kind)) ∙ is) in
+      leaf_only n m.value m.is m.then
+  pair_only n false kind is =
+      let m = is_mapped (extension.reading.read (strict_view_of b)).result as_extension (seen_node n) (sym (whole (cond-false (begins_as_leaf b) _ _ kind)) ∙ is) in
+      extension_only n m.value m.is m.then
 
-  -- the encoding of a node has no fault
-  node_told : (n : TrieNode) (e : DecoderError) → IsTrieNode n → b ≡ encoding (node_item n) → ¬ IsNodeFault b e
-  node_told node.Empty e is whole = empty_told e whole
-  node_told (node.Leaf l) e is whole = leaf_told l e is whole
-  node_told (node.Extension x) e is whole = extension_told x e is whole
-  node_told (node.Branch x) e is whole = branch_told x e is whole
+  many_only : (n : TrieNode) (k : ℕ) (two many : Bool) → (k == 2) ≡ two → (k == 17) ≡ many → (list_of_len b k).result ≡ Ok (seen_node n) → IsNode n
+  many_only n k true many two all is = pair_only n (begins_as_leaf b) refl (sym (whole (cond-true (k == 2) _ _ two)) ∙ is)
+  many_only n k false true two all is =
+      let m = is_mapped (branch.reading.read (strict_view_of b)).result as_branch (seen_node n)
+      (sym (whole (cond-false (k == 2) _ _ two) ∙ whole (cond-true (k == 17) _ _ all)) ∙ is) in
+      branch_only n m.value m.is m.then
+  many_only n k false false two all is =
+      let r : (list_of_len b k).result ≡ Err incorrect_list_len = whole (cond-false (k == 2) _ _ two) ∙ whole (cond-false (k == 17) _ _ all) in
+      absurd (let no : ⊥ = cc in no)
 
--- a view that holds the encoding of a node has no fault
-pub node_sound : (v : View) (n : TrieNode) → length v.bytes < 2 ^ 64 → IsTrieNode n → HoldsItem v (node_item n) → (e : DecoderError) → ¬ FaultsAsNode v e
-node_sound v n fits is holds e (unframed_node none) = let framed = view_frame-held v (node_item n) fits holds in cc
-node_sound v n fits is holds e (faulty_node b framed bytes bad) =
-    let whole : view_frame v ≡ Ok (encoding (node_item n)) = view_frame-held v (node_item n) fits holds in
-    let same : b ≡ encoding (node_item n) = cc in
-    let (more, begins) = held_begins v (node_item n) holds in
-    let sized : length (encoding (node_item n)) < 2 ^ 64 = front_sized (node_item n) v.bytes more fits begins in
-    node_told b bytes (let few : length b < 2 ^ 64 = omega (arith, sized, ap length same) in few) n e is same bad
+  empty_by : (n : TrieNode) → (let s : Result SeenNode Fault = Ok (inl tt) in s) ≡ Ok (seen_node n) → b ≡ encoding (string []) → IsNode n
+  empty_by node.Empty same is = (tt, is)
+  empty_by (node.Leaf l) same is = absurd (let no : ⊥ = cc in no)
+  empty_by (node.Extension e) same is = absurd (let no : ⊥ = cc in no)
+  empty_by (node.Branch x) same is = absurd (let no : ⊥ = cc in no)
+
+  node_by : (n : TrieNode) (empty : Bool) → is_empty_string b ≡ empty → (node_of b).result ≡ Ok (seen_node n) → IsNode n
+  node_by n true empty is = empty_by n (sym (whole (cond-true (is_empty_string b) _ _ empty)) ∙ is) (empty_only b empty)
+  node_by n false empty is =
+      let g = goes_on (seen_fault (item_count (strict_view_of b))) (λ k. (list_of_len b k).result) (seen_node n)
+      (sym (whole (cond-false (is_empty_string b) _ _ empty)) ∙ is) in
+      many_only n g.value (g.value == 2) (g.value == 17) refl refl g.then
+
+pub node_only : (b : List ℕ) (n : TrieNode) → AreBytes b → length b < 2 ^ 64 → (node_of b).result ≡ Ok (seen_node n) → IsTrieNode n × (b ≡ encoding (node_item n))
+node_only b n bytes fits is = node_by b bytes fits n (is_empty_string b) refl is
+
+-- if two nodes are seen alike and one of the two fits, both fit
+node_fits : (n m : TrieNode) → seen_node n ≡ seen_node m → IsTrieNode n → IsTrieNode m
+node_fits n node.Empty same fit = tt
+node_fits node.Empty (node.Leaf m) same fit = absurd (let no : ⊥ = cc in no)
+node_fits node.Empty (node.Extension f) same fit = absurd (let no : ⊥ = cc in no)
+node_fits node.Empty (node.Branch c) same fit = absurd (let no : ⊥ = cc in no)
+node_fits (node.Leaf l) (node.Leaf m) same fit = leaf.reads_strictly.told.fits l m (let one : leaf.reading.seen l ≡ leaf.reading.seen m = cc in one) fit
+node_fits (node.Leaf l) (node.Extension f) same fit = absurd (let no : ⊥ = cc in no)
+node_fits (node.Leaf l) (node.Branch c) same fit = absurd (let no : ⊥ = cc in no)
+node_fits (node.Extension e) (node.Leaf m) same fit = absurd (let no : ⊥ = cc in no)
+node_fits (node.Extension e) (node.Extension f) same fit =
+    extension.reads_strictly.told.fits e f (let one : extension.reading.seen e ≡ extension.reading.seen f = cc in one) fit
+node_fits (node.Extension e) (node.Branch c) same fit = absurd (let no : ⊥ = cc in no)
+node_fits (node.Branch b) (node.Leaf m) same fit = absurd (let no : ⊥ = cc in no)
+node_fits (node.Branch b) (node.Extension f) same fit = absurd (let no : ⊥ = cc in no)
+node_fits (node.Branch b) (node.Branch c) same fit = branch.reads_strictly.told.fits b c (let one : branch.reading.seen b ≡ branch.reading.seen c = cc in one) fit
+
+node_same : (n : TrieNode) → written_node (seen_node n) ≡ node_item n
+node_same node.Empty = refl
+node_same (node.Leaf l) = leaf.reads_strictly.told.written l
+node_same (node.Extension e) = extension.reads_strictly.told.written e
+node_same (node.Branch b) = branch.reads_strictly.told.written b
+
+pub node_items : ReadsItems IsTrieNode node_item seen_node written_node node_of
+node_items = record { back = node_back; only = node_only; fits = node_fits; same = node_same }
+
+-- the first item
+abbrev pub trie_node : Codec TrieNode
+trie_node = lawful (item_type IsTrieNode node_item seen_node written_node node_of true) (items_lawful _ _ _ _ _ true node_items)
+
+-- ---- what nodes are written as
 
 -- no leaf is written as an extension is
 pub leaf_apart : (l : Leaf) (e : Extension) → leaf.item l ≡ extension.item e → ⊥
@@ -111,64 +184,3 @@ leaf_apart l e same =
     let is_extension = e.path.encoded in
     let paths : vec_items l.path.bytes ≡ vec_items e.path.bytes = cc in
     cc
-
--- nodes that are written as one item are the same
-pub same_node : (n m : TrieNode) → IsTrieNode n → IsTrieNode m → node_item n ≡ node_item m → SameNode n m
-same_node node.Empty node.Empty fit other same = tt
-same_node node.Empty (node.Leaf m) fit other same = absurd (let no : ⊥ = cc in no)
-same_node node.Empty (node.Extension f) fit other same = absurd (let no : ⊥ = cc in no)
-same_node node.Empty (node.Branch c) fit other same = absurd (let no : ⊥ = cc in no)
-same_node (node.Leaf l) node.Empty fit other same = absurd (let no : ⊥ = cc in no)
-same_node (node.Leaf l) (node.Leaf m) fit other same = leaf.told l m fit other same
-same_node (node.Leaf l) (node.Extension f) fit other same = absurd (leaf_apart l f same)
-same_node (node.Leaf l) (node.Branch c) fit other same = absurd (let no : ⊥ = cc in no)
-same_node (node.Extension e) node.Empty fit other same = absurd (let no : ⊥ = cc in no)
-same_node (node.Extension e) (node.Leaf m) fit other same = absurd (leaf_apart m e (sym same))
-same_node (node.Extension e) (node.Extension f) fit other same = extension.told e f fit other same
-same_node (node.Extension e) (node.Branch c) fit other same = absurd (let no : ⊥ = cc in no)
-same_node (node.Branch b) node.Empty fit other same = absurd (let no : ⊥ = cc in no)
-same_node (node.Branch b) (node.Leaf m) fit other same = absurd (let no : ⊥ = cc in no)
-same_node (node.Branch b) (node.Extension f) fit other same = absurd (let no : ⊥ = cc in no)
-same_node (node.Branch b) (node.Branch c) fit other same = branch.told b c fit other same
-
--- A node is given exactly by its encoding. Two nodes agree if they are the same.
-abbrev pub trie_node : Codec TrieNode
-trie_node = record (exact_type IsTrieNode node_item FaultsAsNode MayLackAsNode node_sound) {
-  Same = λ n m. SameNode n m;
-  told = same_node;
-}
-
--- ---- rules for bodies
-
--- the node that is read from the first item
-pub node_given : (v : View) (b : List ℕ) (n : TrieNode) → Holds v.is_strict v.bytes b → IsTrieNode n → b ≡ encoding (node_item n)
-    → GivesValue IsTrieNode node_item v n
-node_given v b n holds is whole = record { fits = is; begins = subst (λ a. Holds v.is_strict v.bytes a) whole holds }
-
--- why no node is read from the first item
-pub node_fails : (v : View) (b c : List ℕ) (e : DecoderError) → view_frame v ≡ Ok b → c ≡ b → AreBytes c
-    → IsNodeFault c e ⊎ ((e ≡ OutOfMemory) × MayLackInNode c)
-    → FaultsAsNode v e ⊎ ((e ≡ OutOfMemory) × MayLackAsNode v)
-node_fails v b c e framed same bytes (inl bad) = inl (faulty_node c (framed ∙ ap Ok (sym same)) bytes bad)
-node_fails v b c e framed same bytes (inr (lacks, may)) = inr (lacks, record { bytes = c; framed = framed ∙ ap Ok (sym same); may = may })
-
--- a fault of a branch, a leaf or an extension is one of the node
-pub branch_fails : (b : List ℕ) (e : DecoderError) → item_count (strict_view_of b) ≡ Ok 17
-    → (AreBytes b × branch.faults (strict_view_of b) e) ⊎ ((e ≡ OutOfMemory) × branch.may_lack (strict_view_of b))
-    → IsNodeFault b e ⊎ ((e ≡ OutOfMemory) × MayLackInNode b)
-branch_fails b e many (inl (bytes, bad)) = inl (faulty_branch e many bad)
-branch_fails b e many (inr (lacks, may)) = inr (lacks, lacks_branch may)
-
-pub leaf_fails : (b : List ℕ) (e : DecoderError) → item_count (strict_view_of b) ≡ Ok 2 → begins_as_leaf b ≡ true
-    → (AreBytes b × leaf.faults (strict_view_of b) e) ⊎ ((e ≡ OutOfMemory) × leaf.may_lack (strict_view_of b))
-    → IsNodeFault b e ⊎ ((e ≡ OutOfMemory) × MayLackInNode b)
-leaf_fails b e many kind (inl (bytes, bad)) = inl (faulty_leaf e many kind bad)
-leaf_fails b e many kind (inr (lacks, may)) = inr (lacks, lacks_leaf kind may)
-
-pub extension_fails : (b : List ℕ) (e : DecoderError) → item_count (strict_view_of b) ≡ Ok 2 → begins_as_leaf b ≡ false
-    → (AreBytes b × extension.faults (strict_view_of b) e) ⊎ ((e ≡ OutOfMemory) × extension.may_lack (strict_view_of b))
-    → IsNodeFault b e ⊎ ((e ≡ OutOfMemory) × MayLackInNode b)
-extension_fails b e many kind (inl (bytes, bad)) = inl (faulty_extension e many kind bad)
-extension_fails b e many kind (inr (lacks, may)) = inr (lacks, lacks_extension kind may)
-
-pub ruleset node_reading = (no_list, other_length, node_given, node_fails, branch_fails, leaf_fails, extension_fails, unframed_node, bytes_held)

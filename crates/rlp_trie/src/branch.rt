@@ -35,11 +35,7 @@ impl Encodable for Branch {
 }
 
 impl Decodable for Branch {
-    ghost gives = { branch.gives };
-
-    ghost faults = { branch.faults };
-
-    ghost may_lack_memory = { branch.may_lack };
+    ghost reading = { branch.reading };
 
     fn decode(alloc: Global, rlp: &Rlp<'_>) -> Result<Branch, DecoderError> {
         rlp::decode_fields!(

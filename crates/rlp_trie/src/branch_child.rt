@@ -31,13 +31,8 @@ impl Encodable for BranchChild {
 /// Reads the first item as a [`Child`] is read, or the empty string as none. Fails as reading a
 /// child does.
 impl Decodable for BranchChild {
-    ghost gives = { branch_child.gives };
+    ghost reading = { branch_child.reading };
 
-    ghost faults = { branch_child.faults };
-
-    ghost may_lack_memory = { branch_child.may_lack };
-
-    #[tactic(auto, using(crate::specs::BranchChild::place_reading))]
     fn decode(alloc: Global, rlp: &Rlp<'_>) -> Result<BranchChild, DecoderError> {
         let (item, _) = rlp.split_first()?;
         if is_empty_string(item.as_raw()) {

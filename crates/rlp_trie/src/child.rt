@@ -1,11 +1,10 @@
 //! Children of nodes of the trie.
 
-ghost use Rattle.std.specs.Prelude.{◌≡◌, ◌⊎◌, IfErr, IfOk};
+ghost use Rattle.std.specs.Prelude.{◌≡◌, ◌⊎◌, Err, IfErr, IfOk, Ok};
 ghost use Rattle.rlp.specs.DecoderError.TheVariants.{OutOfMemory};
-ghost use Rattle.rlp.specs.Format.Encoding.{encoding};
-ghost use Rattle.rlp_trie.specs.Child.{IsChild, IsChildFault, child_item};
+ghost use Rattle.rlp.specs.Form.{fault_of};
+ghost use Rattle.rlp_trie.specs.Child.{child_of, seen_child};
 ghost use Rattle.rlp_trie.specs.ChildLaws.{child};
-ghost use Rattle.rlp_trie.specs.Inline.{IsInlineNode};
 
 use crate::InlineNode;
 use rlp::{Decodable, DecoderError, Encodable, RawItem, Rlp, RlpStream, RoundTrip, StrictRead};
@@ -46,19 +45,11 @@ impl Encodable for Child {
 /// with `RlpIsTooBig` for a string of more than 32 bytes or a list of 32 bytes or more, and as
 /// [`RawItem::new`] does.
 impl Decodable for Child {
-    ghost gives = { child.gives };
+    ghost reading = { child.reading };
 
-    ghost faults = { child.faults };
-
-    ghost may_lack_memory = { child.may_lack };
-
-    #[tactic(auto, using(crate::specs::ChildLaws::child_reading))]
     fn decode(alloc: Global, rlp: &Rlp<'_>) -> Result<Child, DecoderError> {
         let (item, _) = rlp.split_first()?;
-        match child_of(alloc, item.as_raw()) {
-            Ok(child) => Ok(child),
-            Err(fault) => Err(fault),
-        }
+        child_of(alloc, item.as_raw())
     }
 }
 
@@ -71,11 +62,10 @@ impl StrictRead for Child {
 }
 
 /// Reads a child from bytes that are one item.
-#[tactic(auto, using(crate::specs::ChildLaws::child_reading))]
 pub(crate) fn child_of(alloc: Global, bytes: &[u8]) -> Result<Child, DecoderError>
-    ensures value { IfOk result (λ c. IsChild c × (bytes.now ≡ encoding (child_item c))) }
-    ensures fault { IfErr result (λ e. IsChildFault bytes.now e
-        ⊎ ((e ≡ OutOfMemory) × IsInlineNode bytes.now)) }
+    ensures value { IfOk result (λ c. child_of bytes.now ≡ Ok (seen_child c)) }
+    ensures fault { IfErr result
+        (λ e. (child_of bytes.now ≡ Err (fault_of e)) ⊎ (e ≡ OutOfMemory)) }
 {
     let view = Rlp::new_strict(bytes);
     if view.is_list() {

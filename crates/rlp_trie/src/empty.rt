@@ -1,13 +1,11 @@
 //! The empty string, which is written in the place of a node.
 
-ghost use Rattle.std.specs.Prelude.{◌≡◌, ◌↔◌, [], IsTrue};
-ghost use Rattle.rlp.specs.Format.Encoding.{encoding};
-ghost use Rattle.rlp.specs.Format.Item.{string};
+ghost use Rattle.std.specs.Prelude.{◌≡◌};
+ghost use Rattle.rlp_trie.specs.EmptyString.{is_empty_string};
 
 /// Returns whether bytes are the encoding of the empty string.
-#[tactic(auto, using(crate::proofs::EmptyString::told_by_byte))]
 pub(crate) fn is_empty_string(bytes: &[u8]) -> bool
-    ensures { IsTrue result ↔ (bytes.now ≡ encoding (string [])) }
+    ensures { result ≡ is_empty_string bytes.now }
 {
     matches!(bytes, [0x80])
 }

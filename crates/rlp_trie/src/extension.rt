@@ -28,11 +28,7 @@ impl Encodable for Extension {
 }
 
 impl Decodable for Extension {
-    ghost gives = { extension.gives };
-
-    ghost faults = { extension.faults };
-
-    ghost may_lack_memory = { extension.may_lack };
+    ghost reading = { extension.reading };
 
     fn decode(alloc: Global, rlp: &Rlp<'_>) -> Result<Extension, DecoderError> {
         rlp::decode_fields!(alloc, rlp, Extension { path, child })

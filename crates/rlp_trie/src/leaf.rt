@@ -28,11 +28,7 @@ impl Encodable for Leaf {
 }
 
 impl Decodable for Leaf {
-    ghost gives = { leaf.gives };
-
-    ghost faults = { leaf.faults };
-
-    ghost may_lack_memory = { leaf.may_lack };
+    ghost reading = { leaf.reading };
 
     fn decode(alloc: Global, rlp: &Rlp<'_>) -> Result<Leaf, DecoderError> {
         rlp::decode_fields!(alloc, rlp, Leaf { path, value })

@@ -13,7 +13,6 @@ mod leaf;
 mod path;
 mod proof;
 mod proof_fault;
-mod record;
 mod step;
 mod trie_node;
 mod walk;

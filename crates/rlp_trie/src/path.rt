@@ -1,8 +1,9 @@
 //! Paths of leaves and of extensions of the trie.
 
-ghost use Rattle.std.specs.Prelude.{◌≡◌, ◌≢◌, ◌⊎◌, [], IfErr, IfOk, Some, false};
+ghost use Rattle.std.specs.Prelude.{◌≡◌, ◌≢◌, ◌⊎◌, [], Err, IfErr, IfOk, Ok, Some, false};
 ghost use Rattle.rlp.specs.DecoderError.TheVariants.{OutOfMemory};
-ghost use Rattle.rlp_trie.specs.HexPrefix.{AreNibbles, IsNibbleFault, IsPath, IsPathFault, ends_in_leaf, hex_prefix, is_empty_extension, is_leaf_flag, path_nibbles};
+ghost use Rattle.rlp.specs.Form.{fault_of};
+ghost use Rattle.rlp_trie.specs.HexPrefix.{AreNibbles, IsNibbleFault, IsPath, ends_in_leaf, hex_prefix, is_empty_extension, is_leaf_flag, path_nibbles, path_of};
 
 use crate::hex_prefix::{are_nibbles, ends_in_leaf, hex_prefix, is_empty_extension, path_nibbles};
 use rlp::{Decodable, DecoderError, Encodable, Rlp, RlpStream, RoundTrip, StrictRead};
@@ -32,10 +33,10 @@ impl<const FLAG: u8> Path<FLAG> {
     /// `Custom("path is that of another node")` if they are one of the other kind. Fails with
     /// `Custom("path of an extension is empty")` if they are the path of an extension with no nibbles,
     /// and with `OutOfMemory` if memory is refused.
-    #[tactic(auto, using(crate::specs::HexPrefix::path_faults))]
     pub fn new(alloc: Global, bytes: &[u8]) -> Result<Path<FLAG>, DecoderError>
-        ensures value { IfOk result (λ p. p.bytes.items ≡ bytes.now) }
-        ensures fault { IfErr result (λ e. IsPathFault (is_leaf_flag FLAG) bytes.now e
+        ensures value { IfOk result (λ p. path_of (is_leaf_flag FLAG) bytes.now ≡ Ok p.bytes.items) }
+        ensures bytes { IfOk result (λ p. p.bytes.items ≡ bytes.now) }
+        ensures fault { IfErr result (λ e. (path_of (is_leaf_flag FLAG) bytes.now ≡ Err (fault_of e))
             ⊎ ((e ≡ OutOfMemory) × IsPath (is_leaf_flag FLAG) bytes.now)) }
     {
         let Some(leaf) = ends_in_leaf(bytes) else {
@@ -107,13 +108,8 @@ impl<const FLAG: u8> Encodable for Path<FLAG> {
 impl<const FLAG: u8> Decodable for Path<FLAG> {
     ghost use Rattle.rlp_trie.specs.Path.{path};
 
-    ghost gives = { (path FLAG).gives };
+    ghost reading = { (path FLAG).reading };
 
-    ghost faults = { (path FLAG).faults };
-
-    ghost may_lack_memory = { (path FLAG).may_lack };
-
-    #[tactic(auto, using(crate::specs::Path::path_reading))]
     fn decode(alloc: Global, rlp: &Rlp<'_>) -> Result<Path<FLAG>, DecoderError> {
         match rlp.decoder().string() {
             Ok(string) => Path::new(alloc, string),

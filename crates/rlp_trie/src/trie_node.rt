@@ -1,11 +1,11 @@
 //! Nodes of the trie of every kind: leaves, extensions and branches.
 
-ghost use Rattle.std.specs.Prelude.{◌≡◌, ◌⊎◌, IfErr, IfOk, OnOk};
+ghost use Rattle.std.specs.Prelude.{◌≡◌, ◌⊎◌, Err, IfErr, IfOk, Ok, OnOk};
 ghost use Rattle.rlp.specs.DecoderError.TheVariants.{OutOfMemory};
 ghost use Rattle.rlp.specs.Format.Encoding.{encoding};
-ghost use Rattle.rlp.specs.Format.WrittenHeader.{AreBytes};
+ghost use Rattle.rlp.specs.Form.{fault_of};
 ghost use Rattle.rlp_records.specs.Hashing.{IsHashOf};
-ghost use Rattle.rlp_trie.specs.TrieNode.{IsNodeFault, IsTrieNode, MayLackInNode, begins_as_leaf, node_item};
+ghost use Rattle.rlp_trie.specs.TrieNode.{begins_as_leaf, node_of, seen_node};
 ghost use Rattle.rlp_trie.specs.TrieNodeLaws.{trie_node};
 
 use crate::empty::is_empty_string;
@@ -55,19 +55,11 @@ impl Encodable for TrieNode {
 /// else with the strict fault of the branch, the leaf or the extension. A list of two items is a leaf
 /// if it begins with the path of a leaf.
 impl Decodable for TrieNode {
-    ghost gives = { trie_node.gives };
+    ghost reading = { trie_node.reading };
 
-    ghost faults = { trie_node.faults };
-
-    ghost may_lack_memory = { trie_node.may_lack };
-
-    #[tactic(auto, using(crate::specs::TrieNodeLaws::node_reading))]
     fn decode(alloc: Global, rlp: &Rlp<'_>) -> Result<TrieNode, DecoderError> {
         let (item, _) = rlp.split_first()?;
-        match node_of(alloc, item.as_raw()) {
-            Ok(node) => Ok(node),
-            Err(fault) => Err(fault),
-        }
+        node_of(alloc, item.as_raw())
     }
 }
 
@@ -80,20 +72,18 @@ impl StrictRead for TrieNode {
 }
 
 /// Reads a node from bytes that are one item.
-#[tactic(auto, using(crate::specs::TrieNodeLaws::node_reading))]
 fn node_of(alloc: Global, bytes: &[u8]) -> Result<TrieNode, DecoderError>
-    ensures bytes { AreBytes bytes.now }
-    ensures value { IfOk result (λ n. IsTrieNode n × (bytes.now ≡ encoding (node_item n))) }
-    ensures fault { IfErr result (λ e. (IsNodeFault bytes.now e) ⊎ ((e ≡ OutOfMemory)
-        × MayLackInNode bytes.now)) }
+    ensures value { IfOk result (λ n. (node_of bytes.now).result ≡ Ok (seen_node n)) }
+    ensures fault { IfErr result
+        (λ e. ((node_of bytes.now).result ≡ Err (fault_of e)) ⊎ (e ≡ OutOfMemory)) }
 {
     if is_empty_string(bytes) {
         return Ok(TrieNode::Empty);
     }
     match Rlp::new_strict(bytes).item_count()? {
-        2 if is_leaf(bytes) => Ok(TrieNode::Leaf(rlp::decode_whole(alloc, bytes)?)),
-        2 => Ok(TrieNode::Extension(rlp::decode_whole(alloc, bytes)?)),
-        17 => Ok(TrieNode::Branch(rlp::decode_whole(alloc, bytes)?)),
+        2 if is_leaf(bytes) => Ok(TrieNode::Leaf(rlp::decode_strict(alloc, bytes)?)),
+        2 => Ok(TrieNode::Extension(rlp::decode_strict(alloc, bytes)?)),
+        17 => Ok(TrieNode::Branch(rlp::decode_strict(alloc, bytes)?)),
         _ => Err(DecoderError::RlpIncorrectListLen),
     }
 }

@@ -1,13 +1,13 @@
 //! Calls each law of `rlp::laws` once, to show that it can be called. What a law says is proved.
 
-use rlp::{Field, Rlp, Uint, laws};
+use rlp::{Rlp, Uint, laws};
 use std::alloc::Global;
 
 /// The encoding of the list of 1 and 2.
 const LIST: [u8; 3] = [0xc2, 0x01, 0x02];
 
 /// The fields of a struct of two numbers.
-type TwoNumbers = (Field<u64>, (Field<u64>, ()));
+type TwoNumbers = (u64, (u64, ()));
 
 #[test]
 fn laws_of_the_format() {
@@ -41,6 +41,7 @@ fn laws_of_views_and_values() {
     laws::view_of_list_has_its_items(&Rlp::new(&LIST));
     laws::view_of_list_has_its_items(&Rlp::new_strict(&LIST));
     laws::string_is_read(&LIST);
+    laws::one_reading::<u64>(&Rlp::new(&LIST));
     laws::number_is_read(&LIST);
     laws::bytes_are_read(&LIST);
     laws::arrays_are_read(&LIST);
@@ -55,6 +56,9 @@ fn laws_of_views_and_values() {
     laws::lenient_views_ignore_what_follows(&LIST);
     laws::strict_values_are_read(&LIST);
     laws::strict_option_is_read::<u64>(&LIST);
+    laws::whole_encoding_is_read::<u64>(&LIST);
+    laws::encoding_is_read_back::<u64>(&LIST);
+    laws::scalar_is_read::<u64>(&LIST);
     laws::list_is_read_back::<u64>(&LIST);
     laws::encodings_are_raw_items(&LIST);
     laws::equal_numbers_are_equal_uints(&Uint { bytes: [0, 1] }, &Uint { bytes: [0, 1] });

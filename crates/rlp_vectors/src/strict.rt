@@ -29,8 +29,11 @@ pub(crate) const ROWS: &str = "
     c105 | Ok(Some(5))
     c0 | Ok(None)
     c5 | Err(RlpIsTooShort)
+    c182 | Err(RlpIsTooShort)
     c20582 | Err(RlpIsTooShort)
+    c305b800 | Err(RlpDataLenWithZeroPrefix)
     c20506 | Err(RlpIncorrectListLen)
+    c3810506 | Err(RlpIncorrectListLen)
 
     A list is read only if it is exactly one list of framed items.
     strict list u8:

@@ -32,9 +32,10 @@ uint32 820400 = 00*30+0400
 uint32 9101+00*16 = 00*15+01+00*16";
 
 /// A number of a custom type, and strings that aren't such a number. A struct alone, with a byte after
-/// it, and with a number that isn't in its shortest form; and two that are read though bytes may follow
-/// them. A struct of 32 fields, eight times the number 5, a hash, no bytes, and an array
-/// of eight bytes; and one of one field, which isn't a `Row`.
+/// it, and with a number that isn't in its shortest form; lists of one item and of three, also with
+/// such a number in them, since the number of items is tested first; and two that are read though
+/// bytes may follow them. A struct of 32 fields, eight times the number 5, a hash, no bytes, and an
+/// array of eight bytes; the same with an item after them, and lists of one item, which aren't a `Row`.
 const CUSTOM: &str = "\
 nonce 8401000000 = 8401000000
 nonce 8100 = RlpInvalidIndirection
@@ -42,10 +43,26 @@ nonce 89000000000000000000 = RlpIsTooBig
 pair c20580 = c20580
 pair c2058000 = RlpIsTooBig
 pair c3810580 = RlpInvalidIndirection
+pair c105 = RlpIncorrectListLen
+pair c28105 = RlpIncorrectListLen
+pair c3058080 = RlpIncorrectListLen
+pair c481058080 = RlpIncorrectListLen
 lenient_pair c405828081ff = c405828081
 lenient_pair c20580 = c20580
 row f90160+05a0010101010101010101010101010101010101010101010101010101010101010180880202020202020202*8
-row c105 = RlpIncorrectListLen";
+row f90161+05a0010101010101010101010101010101010101010101010101010101010101010180880202020202020202*8+80 = RlpIncorrectListLen
+row c105 = RlpIncorrectListLen
+row c28105 = RlpIncorrectListLen";
+
+/// Nests of no pairs and of one, and bytes that are no nest of pairs: a list of no lists and of two, a
+/// pair with a number that isn't in its shortest form, and a pair of one such number.
+const NESTS: &str = "\
+any_nest c1c0 = c1c0
+any_nest c4c3c20102 = c4c3c20102
+any_nest c0 = RlpIncorrectListLen
+any_nest c2c0c0 = RlpIncorrectListLen
+any_nest c5c4c3810501 = RlpInvalidIndirection
+any_nest c4c3c28105 = RlpIncorrectListLen";
 
 /// Messages: kind 1 with 0 and with 1024, kind 2 with no bytes and with the bytes `ca fe`. And bytes
 /// that are no message: no list, one item and three, a number of two bytes in front, kind 3, a list
@@ -75,6 +92,7 @@ fn is_as(alloc: Global, kind: &str, bytes: &[u8], want: &str) -> bool {
         "lenient_pair" => is_read(alloc, rlp::decode::<Pair>(alloc, bytes), want),
         "message" => is_read(alloc, rlp::decode_strict::<Message>(alloc, bytes), want),
         "row" => is_row(alloc, rlp::decode_strict::<Row>(alloc, bytes), bytes, want),
+        "any_nest" => is_read(alloc, rlp::decode::<Nest<Inner>>(alloc, bytes), want),
         "nest" => is_nest(alloc, bytes),
         "nests" => are_nests(alloc, bytes),
         "uint32" => is_number(alloc, rlp::decode::<Uint<32>>(alloc, bytes), bytes, want),
@@ -167,7 +185,7 @@ pub(crate) fn all_met(alloc: Global, tables: &[&str]) -> Result<(), Fail> {
 #[test]
 fn types_go_both_ways(rt: HostRuntime) -> Result<(), Fail> {
     let alloc = rt.alloc();
-    all_met(alloc, &[VALUES, NUMBERS, CUSTOM, MESSAGES])?;
+    all_met(alloc, &[VALUES, NUMBERS, CUSTOM, NESTS, MESSAGES])?;
     assert!(rt; slices_are_fields(alloc)?, "slices");
     Ok(())
 }

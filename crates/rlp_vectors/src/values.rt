@@ -72,8 +72,11 @@ pub(crate) const OTHERS: &str = "
     lenient value Option u8:
     c5 | Ok(None)
     c0ff | Ok(None)
+    c182 | Ok(None)
     c20582 | Ok(Some(5))
+    c305b800 | Ok(Some(5))
     c20506 | Err(RlpIncorrectListLen)
+    c3810506 | Err(RlpIncorrectListLen)
     05 | Err(RlpExpectedToBeList)
     c100 | Err(RlpInvalidIndirection)
 
@@ -82,9 +85,11 @@ pub(crate) const OTHERS: &str = "
     c1c0 | Ok(Some(None))
     c2c105 | Ok(Some(Some(5)))
 
-    An option holds a box.
+    An option holds a box, which has the fault of its value.
     lenient value Option Box u8:
     c105 | Ok(Some(5))
+    c100 | Err(RlpInvalidIndirection)
+    c1c0 | Err(RlpExpectedToBeData)
 
     An option has the fault of its value.
     lenient value Option Odd:

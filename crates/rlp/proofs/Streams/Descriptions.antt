@@ -13,8 +13,8 @@ use Rattle.rlp.specs.Streams.Described.{Step, one_list, items_after, items_after
 use Rattle.rlp.specs.Streams.Described.{by_refused_raw, by_empty_list, by_list, by_unbounded_list, by_finalize, by_internal_list, by_clear}
 use Rattle.rlp.specs.Streams.Described.{AreDescribed, IsDescribed, DescribesWhere, AreDescribedWhere, IsDescribedWhere, joined_stack, joined_list}
 use Rattle.rlp.specs.Streams.Described.{FinishAs}
-use Rattle.rlp_format.specs.Lemmas.Encodings.{encoding_list, join_same}
-use Rattle.rlp_values.specs.Lemmas.Views.{sized_items}
+use Rattle.rlp_format.proofs.Lemmas.Encodings.{encoding_list, join_same}
+use Rattle.rlp_reading.proofs.Lemmas.Views.{sized_items}
 
 one_list_joined : (xs : List Item) → list_encoding (join xs) ≡ join (one_list xs)
 one_list_joined xs = sym (encoding_list xs) ∙ sym (append-nil (encoding (list_of xs)))

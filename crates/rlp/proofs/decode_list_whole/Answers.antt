@@ -1,25 +1,25 @@
 use Rattle.std.proofs.Common.{arith}
 use Rattle.std.specs.Vec.{vec_items}
-use Rattle.rlp_format.specs.Lemmas.Digits.{bytes_held}
-use Rattle.rlp_values.proofs.Values.StrictDecoding.{strict_list_alike, strict_list_fault_of, strict_list_memory, strict_list_only, strict_list_whole}
+use Rattle.rlp_format.proofs.Lemmas.Digits.{bytes_held}
+use Rattle.rlp_codec.specs.Laws.{form_of}
+use Rattle.rlp_codec.proofs.Corollaries.{strict_list_alike, strict_list_memory, strict_list_only, strict_list_whole}
 use Rattle.rlp.proofs.decode_list_whole.Goals as goal
 
 pub returns-clause-whole : goal.returns-clause-whole
 returns-clause-whole g c =
-    strict_list_whole _ _ _ _ g.met.T.StrictRead.strict _ (bytes_held _ c.type_inv.bytes) (omega arith) vec_items _ c.decode_list_strict.ensures.value
-
-pub returns-clause-fault : goal.returns-clause-fault
-returns-clause-fault g c =
-    strict_list_fault_of _ _ _ _ g.met.T.StrictRead.strict _ (bytes_held _ c.type_inv.bytes) (omega arith) _ _ c.decode_list_strict.ensures.fault
+    let codec = form_of g.T.Encodable.fits g.T.Encodable.item g.T.Decodable.reading in
+    strict_list_whole codec vec_items g.met.T.StrictRead.strict _ _ (bytes_held _ c.type_inv.bytes) (omega arith) c.decode_list_strict.ensures.value
 
 pub returns-clause-only : goal.returns-clause-only
 returns-clause-only g c = λ vs same.
-    strict_list_only _ _ _ _ g.met.T.StrictRead.strict _ (bytes_held _ c.type_inv.bytes) (omega arith) vec_items _ vs c.decode_list_strict.ensures.value same
+    let codec = form_of g.T.Encodable.fits g.T.Encodable.item g.T.Decodable.reading in
+    strict_list_only codec vec_items c.args.bytes.now vs _
+    (strict_list_whole codec vec_items g.met.T.StrictRead.strict _ _ (bytes_held _ c.type_inv.bytes) (omega arith) c.decode_list_strict.ensures.value) same
 
 pub returns-clause-alike : goal.returns-clause-alike
 returns-clause-alike g c = λ vs all whole.
-    strict_list_alike _ _ _ _ g.met.T.StrictRead.strict _ (bytes_held _ c.type_inv.bytes) (omega arith) vec_items _ vs whole c.decode_list_strict.ensures.value
+    strict_list_alike (form_of _ _ _) vec_items g.met.T.StrictRead.strict _ vs _ (omega arith) all whole c.decode_list_strict.ensures.value
 
 pub returns-clause-memory : goal.returns-clause-memory
 returns-clause-memory g c = λ vs all whole.
-    strict_list_memory _ _ _ _ g.met.T.StrictRead.strict _ (bytes_held _ c.type_inv.bytes) (omega arith) _ _ vs all whole c.decode_list_strict.ensures.fault
+    strict_list_memory (form_of _ _ _) g.met.T.StrictRead.strict _ vs _ (omega arith) all whole c.decode_list_strict.ensures.fault

@@ -1,24 +1,19 @@
 //! `bool`: written as the numbers 0 and 1.
 
-ghost use Rattle.rlp_values.specs.Values.ValueReading.{GivesBool, FaultsAsBool};
-ghost use Rattle.rlp_values.specs.Lemmas.RoundTrips.{bool_reads_back, bool_exact};
-ghost use Rattle.rlp_values.specs.Lemmas.StrictReads.{bool_strict};
+ghost use Rattle.rlp_codec.proofs.StringLaws.{truth_scalar};
+ghost use Rattle.rlp.specs.Codec.{truth_value};
 
 use crate::rlpin::Rlp;
 use crate::traits::{Decodable, RoundTrip, Scalar, StrictRead};
-use rlp_values::error::DecoderError;
+use rlp_reading::error::DecoderError;
 use std::alloc::Global;
 
 /// Reads a number as `u8` does: 0 is `false` and 1 is `true`. Fails with
 /// `Custom("invalid boolean value")` for other numbers. It doesn't allocate.
 impl Decodable for bool {
-    ghost gives = { GivesBool };
+    ghost reading = { truth_value.reading };
 
-    ghost faults = { FaultsAsBool };
-
-    ghost may_lack_memory = { λ v. ⊥ };
-
-    #[tactic(auto, using(rlp_values::specs::Lemmas::RoundTrips::bool_faults))]
+    #[tactic(auto, using(rlp_codec::proofs::StringLaws::other_bool))]
     fn decode(alloc: Global, rlp: &Rlp<'_>) -> Result<bool, DecoderError> {
         match u8::decode(alloc, rlp) {
             Ok(0) => Ok(false),
@@ -30,13 +25,13 @@ impl Decodable for bool {
 }
 
 impl RoundTrip for bool {
-    ghost round_trip = { λ bytes b fits fit begins. bool_reads_back bytes b fits begins };
+    ghost round_trip = { truth_value.reads_back };
 }
 
 impl Scalar for bool {
-    ghost exact = { bool_exact };
+    ghost exact = { truth_scalar };
 }
 
 impl StrictRead for bool {
-    ghost strict = { bool_strict };
+    ghost strict = { truth_value.reads_strictly };
 }

@@ -2,26 +2,21 @@
 
 ghost use Rattle.std.specs.Prelude.{◌≡◌, ◌≤◌, ◌<◌, length, Ok, Err, IfOk, IfErr, IfSome};
 ghost use Rattle.std.specs.Int.Digits.{number_from_digits};
-ghost use Rattle.rlp_format.specs.Format.WrittenHeader.{big_endian};
 ghost use Rattle.rlp_format.specs.Values.Value.{FitsBytes};
-ghost use Rattle.rlp_values.specs.Values.ValueReading.{IsDigitsFault, GivesNumber, FaultsAsNumber};
-ghost use Rattle.rlp_values.specs.Lemmas.RoundTrips.{number_reads_back, itself};
-ghost use Rattle.rlp_values.specs.Lemmas.StrictReads.{number_strict};
+ghost use Rattle.rlp_codec.specs.Form.{and_then, fault_of, number_of, string_of};
+ghost use Rattle.rlp_codec.proofs.StringLaws.{number_scalar};
+ghost use Rattle.rlp.specs.Codec.{number};
 
 use crate::rlpin::{Rlp, may_end_at, short_string};
 use crate::traits::{Decodable, RoundTrip, Scalar, StrictRead};
 use rlp_format::digits::{number_of, wide_number_of};
-use rlp_values::error::DecoderError;
-use rlp_values::numbers::{check_digits, few_digits};
+use rlp_reading::error::DecoderError;
+use rlp_reading::numbers::few_digits;
 use std::alloc::Global;
 
 /// Reads a number of at most one byte. Fails with the same errors as for `u64`.
 impl Decodable for u8 {
-    ghost gives = { λ v n. GivesNumber 1 v n };
-
-    ghost faults = { λ v e. FaultsAsNumber 1 v e };
-
-    ghost may_lack_memory = { λ v. ⊥ };
+    ghost reading = { (number 1).reading };
 
     fn decode(_alloc: Global, rlp: &Rlp<'_>) -> Result<u8, DecoderError> {
         Ok(number_within::<1>(rlp)? as u8)
@@ -30,11 +25,7 @@ impl Decodable for u8 {
 
 /// Reads a number of at most two bytes. Fails with the same errors as for `u64`.
 impl Decodable for u16 {
-    ghost gives = { λ v n. GivesNumber 2 v n };
-
-    ghost faults = { λ v e. FaultsAsNumber 2 v e };
-
-    ghost may_lack_memory = { λ v. ⊥ };
+    ghost reading = { (number 2).reading };
 
     fn decode(_alloc: Global, rlp: &Rlp<'_>) -> Result<u16, DecoderError> {
         Ok(number_within::<2>(rlp)? as u16)
@@ -43,11 +34,7 @@ impl Decodable for u16 {
 
 /// Reads a number of at most four bytes. Fails with the same errors as for `u64`.
 impl Decodable for u32 {
-    ghost gives = { λ v n. GivesNumber 4 v n };
-
-    ghost faults = { λ v e. FaultsAsNumber 4 v e };
-
-    ghost may_lack_memory = { λ v. ⊥ };
+    ghost reading = { (number 4).reading };
 
     fn decode(_alloc: Global, rlp: &Rlp<'_>) -> Result<u32, DecoderError> {
         Ok(number_within::<4>(rlp)? as u32)
@@ -59,11 +46,7 @@ impl Decodable for u32 {
 /// Fails with `RlpIsTooBig` if the string has more bytes, and with `RlpInvalidIndirection` if it
 /// begins with a zero byte. The number zero is the empty string.
 impl Decodable for u64 {
-    ghost gives = { λ v n. GivesNumber 8 v n };
-
-    ghost faults = { λ v e. FaultsAsNumber 8 v e };
-
-    ghost may_lack_memory = { λ v. ⊥ };
+    ghost reading = { (number 8).reading };
 
     fn decode(_alloc: Global, rlp: &Rlp<'_>) -> Result<u64, DecoderError> {
         Ok(number_within::<8>(rlp)? as u64)
@@ -72,11 +55,7 @@ impl Decodable for u64 {
 
 /// Reads a number as `u64` does.
 impl Decodable for usize {
-    ghost gives = { λ v n. GivesNumber 8 v n };
-
-    ghost faults = { λ v e. FaultsAsNumber 8 v e };
-
-    ghost may_lack_memory = { λ v. ⊥ };
+    ghost reading = { (number 8).reading };
 
     fn decode(_alloc: Global, rlp: &Rlp<'_>) -> Result<usize, DecoderError> {
         number_within::<8>(rlp)
@@ -85,11 +64,7 @@ impl Decodable for usize {
 
 /// Reads a number of at most sixteen bytes. Fails with the same errors as for `u64`.
 impl Decodable for u128 {
-    ghost gives = { λ v n. GivesNumber 16 v n };
-
-    ghost faults = { λ v e. FaultsAsNumber 16 v e };
-
-    ghost may_lack_memory = { λ v. ⊥ };
+    ghost reading = { (number 16).reading };
 
     fn decode(_alloc: Global, rlp: &Rlp<'_>) -> Result<u128, DecoderError> {
         Ok(wide_number_of(number_digits(rlp, 16)?))
@@ -102,8 +77,10 @@ impl Decodable for u128 {
 fn number_within<const WIDTH: usize>(rlp: &Rlp<'_>) -> Result<usize, DecoderError>
     requires some { 1 ≤ WIDTH }
     requires few { WIDTH ≤ 8 }
-    ensures value { IfOk result (λ n. GivesNumber WIDTH rlp.now n) }
-    ensures fault { IfErr result (λ e. FaultsAsNumber WIDTH rlp.now e) }
+    ensures fits { IfOk result (λ n. FitsBytes WIDTH n) }
+    ensures value { IfOk result (λ n. and_then (string_of rlp.now) (number_of WIDTH) ≡ Ok n) }
+    ensures fault { IfErr result
+        (λ e. and_then (string_of rlp.now) (number_of WIDTH) ≡ Err (fault_of e)) }
 {
     let (bytes, is_strict) = (rlp.as_raw(), rlp.is_strict());
     match bytes {
@@ -119,8 +96,10 @@ fn number_within<const WIDTH: usize>(rlp: &Rlp<'_>) -> Result<usize, DecoderErro
 /// wrong with it. `None` says nothing about the bytes. It is compiled for each width.
 #[inline(never)]
 fn short_number<const WIDTH: usize>(bytes: &[u8], is_strict: bool) -> Option<usize>
-    ensures { IfSome result (λ n. GivesNumber WIDTH
-        (record { bytes = bytes.now; is_strict = is_strict }) n) }
+    ensures fits { IfSome result (λ n. FitsBytes WIDTH n) }
+    ensures value { IfSome result (λ n.
+        and_then (string_of (record { bytes = bytes.now; is_strict = is_strict })) (number_of WIDTH)
+        ≡ Ok n) }
 {
     let digits = short_string(bytes, is_strict)?;
     match check_digits(digits, WIDTH) {
@@ -133,95 +112,119 @@ fn short_number<const WIDTH: usize>(bytes: &[u8], is_strict: bool) -> Option<usi
 #[inline(never)]
 fn any_number(bytes: &[u8], is_strict: bool, width: usize) -> Result<usize, DecoderError>
     requires { width ≤ 8 }
-    ensures value { IfOk result (λ n. GivesNumber width
-        (record { bytes = bytes.now; is_strict = is_strict }) n) }
-    ensures fault { IfErr result (λ e. FaultsAsNumber width
-        (record { bytes = bytes.now; is_strict = is_strict }) e) }
+    ensures fits { IfOk result (λ n. FitsBytes width n) }
+    ensures value { IfOk result (λ n.
+        and_then (string_of (record { bytes = bytes.now; is_strict = is_strict })) (number_of width)
+        ≡ Ok n) }
+    ensures fault { IfErr result (λ e.
+        and_then (string_of (record { bytes = bytes.now; is_strict = is_strict })) (number_of width)
+        ≡ Err (fault_of e)) }
 {
     let digits = number_digits(&Rlp::of_kind(bytes, is_strict), width)?;
     Ok(number_of(digits))
 }
 
 /// Returns the digits of the number of at most `width` bytes that the view begins with.
-#[tactic(auto, using(rlp_values::specs::Lemmas::Numbers::number_answers))]
 pub(crate) fn number_digits<'a>(rlp: &Rlp<'a>, width: usize) -> Result<&'a [u8], DecoderError>
     ensures few { IfOk result (λ d. length d.now ≤ width) }
-    ensures value { IfOk result (λ d. GivesNumber width rlp.now (number_from_digits 256 d.now)) }
-    ensures fault { IfErr result (λ e. FaultsAsNumber width rlp.now e) }
+    ensures fits { IfOk result (λ d. FitsBytes width (number_from_digits 256 d.now)) }
+    ensures value { IfOk result (λ d. and_then (string_of rlp.now) (number_of width)
+        ≡ Ok (number_from_digits 256 d.now)) }
+    ensures fault { IfErr result (λ e. and_then (string_of rlp.now) (number_of width)
+        ≡ Err (fault_of e)) }
 {
     let digits = rlp.decoder().string_in_line()?;
     check_digits(digits, width)?;
     Ok(digits)
 }
 
+/// Tests whether these are the digits of a number of at most `width` bytes: first their number, and
+/// then the first digit.
+#[inline(always)]
+fn check_digits(digits: &[u8], width: usize) -> Result<(), DecoderError>
+    ensures few { IfOk result (λ _. length digits.now ≤ width) }
+    ensures fits { IfOk result (λ _. FitsBytes width (number_from_digits 256 digits.now)) }
+    ensures value { IfOk result (λ _. number_of width digits.now
+        ≡ Ok (number_from_digits 256 digits.now)) }
+    ensures fault { IfErr result (λ e. number_of width digits.now ≡ Err (fault_of e)) }
+{
+    if digits.len() > width {
+        return Err(DecoderError::RlpIsTooBig);
+    }
+    if let [0, ..] = digits {
+        return Err(DecoderError::RlpInvalidIndirection);
+    }
+    Ok(())
+}
+
 impl RoundTrip for u8 {
-    ghost round_trip = { number_reads_back 1 };
+    ghost round_trip = { (number 1).reads_back };
 }
 
 impl Scalar for u8 {
-    ghost exact = { λ b v. itself };
+    ghost exact = { number_scalar 1 };
 }
 
 impl StrictRead for u8 {
-    ghost strict = { number_strict 1 };
+    ghost strict = { (number 1).reads_strictly };
 }
 
 impl RoundTrip for u16 {
-    ghost round_trip = { number_reads_back 2 };
+    ghost round_trip = { (number 2).reads_back };
 }
 
 impl Scalar for u16 {
-    ghost exact = { λ b v. itself };
+    ghost exact = { number_scalar 2 };
 }
 
 impl StrictRead for u16 {
-    ghost strict = { number_strict 2 };
+    ghost strict = { (number 2).reads_strictly };
 }
 
 impl RoundTrip for u32 {
-    ghost round_trip = { number_reads_back 4 };
+    ghost round_trip = { (number 4).reads_back };
 }
 
 impl Scalar for u32 {
-    ghost exact = { λ b v. itself };
+    ghost exact = { number_scalar 4 };
 }
 
 impl StrictRead for u32 {
-    ghost strict = { number_strict 4 };
+    ghost strict = { (number 4).reads_strictly };
 }
 
 impl RoundTrip for u64 {
-    ghost round_trip = { number_reads_back 8 };
+    ghost round_trip = { (number 8).reads_back };
 }
 
 impl Scalar for u64 {
-    ghost exact = { λ b v. itself };
+    ghost exact = { number_scalar 8 };
 }
 
 impl StrictRead for u64 {
-    ghost strict = { number_strict 8 };
+    ghost strict = { (number 8).reads_strictly };
 }
 
 impl RoundTrip for usize {
-    ghost round_trip = { number_reads_back 8 };
+    ghost round_trip = { (number 8).reads_back };
 }
 
 impl Scalar for usize {
-    ghost exact = { λ b v. itself };
+    ghost exact = { number_scalar 8 };
 }
 
 impl StrictRead for usize {
-    ghost strict = { number_strict 8 };
+    ghost strict = { (number 8).reads_strictly };
 }
 
 impl RoundTrip for u128 {
-    ghost round_trip = { number_reads_back 16 };
+    ghost round_trip = { (number 16).reads_back };
 }
 
 impl Scalar for u128 {
-    ghost exact = { λ b v. itself };
+    ghost exact = { number_scalar 16 };
 }
 
 impl StrictRead for u128 {
-    ghost strict = { number_strict 16 };
+    ghost strict = { (number 16).reads_strictly };
 }

@@ -1,20 +1,21 @@
 //! Items of any kind, kept as the bytes of their encodings.
 
-ghost use Rattle.std.specs.Prelude.{◌≡◌, ◌⊎◌, IfOk, IfErr, nat_eq};
+ghost use Rattle.std.specs.Prelude.{◌≡◌, ◌⊎◌, Ok, Err, IfOk, IfErr, false, nat_eq};
 ghost use Rattle.std.specs.Cmp.{partial_equiv_from_equiv};
 ghost use Rattle.std.specs.Cmp.Lexicographic.{nat_list_eq_equiv, pointwise};
-ghost use Rattle.rlp_values.specs.declared.error.DecoderError.TheVariants.{OutOfMemory};
-ghost use Rattle.rlp_values.specs.Views.View.{strict_view_of};
+ghost use Rattle.rlp_reading.specs.declared.error.DecoderError.TheVariants.{OutOfMemory};
+ghost use Rattle.rlp_reading.specs.Views.View.{strict_view_of};
 ghost use Rattle.rlp_format.specs.Format.Encoding.{encoding};
-ghost use Rattle.rlp_values.specs.Format.Strict.{IsCanonicalWithin};
-ghost use Rattle.rlp_values.specs.Values.RawItem.{IsRawFault, IsRawItem, deepest_raw_item, raw_item_of};
-ghost use Rattle.rlp_values.specs.Codecs.RawItem.{raw_item};
-ghost use Rattle.rlp_values.specs.Lemmas.RoundTrips.{itself};
+ghost use Rattle.rlp_reading.specs.Format.Strict.{IsCanonicalWithin};
+ghost use Rattle.rlp_reading.specs.Values.RawItem.{IsRawItem, deepest_raw_item, raw_item_of};
+ghost use Rattle.rlp_codec.specs.Form.{fault_of, raw_of};
+ghost use Rattle.rlp_codec.proofs.RawLaws.{raw_only};
+ghost use Rattle.rlp.specs.Codec.{raw_item};
 
 use crate::rlpin::Rlp;
 use crate::traits::{Decodable, RoundTrip, Scalar, StrictRead};
 use bytes::BytesMut;
-use rlp_values::error::DecoderError;
+use rlp_reading::error::DecoderError;
 use rlp_write::{Encodable, RlpStream, append_list_encoding};
 use std::alloc::{AllocError, Global};
 use std::marker::Model;
@@ -36,7 +37,7 @@ pub struct RawItem {
 
 impl Model for RawItem {
     ghost use Rattle.std.specs.Prelude.{List, ℕ};
-    ghost use Rattle.rlp_values.specs.Values.RawItem.{IsRawItem};
+    ghost use Rattle.rlp_reading.specs.Values.RawItem.{IsRawItem};
 
     ghost Value = { List ℕ };
 
@@ -60,11 +61,12 @@ impl RawItem {
     /// let item = rlp::RawItem::new(alloc, &[0xc1, 0x05])?;
     /// assert!(rt; rlp::RawItem::new(alloc, &[0x81, 0x05]).is_err());
     /// ```
-    #[tactic(auto, using(rlp_values::specs::Lemmas::RawItems::raw_faults))]
+    #[tactic(auto, using(rlp_codec::proofs::RawLaws::raw_readings, rlp_reading::proofs::Lemmas::RawItems::raw_if))]
     pub fn new(alloc: Global, bytes: &[u8]) -> Result<RawItem, DecoderError>
         ensures value { IfOk result (λ r. (r ≡ bytes.now) × IsRawItem bytes.now) }
-        ensures fault { IfErr result (λ e. IsRawFault bytes.now e
-            ⊎ ((e ≡ OutOfMemory) × IsRawItem bytes.now)) }
+        ensures read { IfOk result (λ r. raw_of bytes.now ≡ Ok r) }
+        ensures fault { IfErr result (λ e. (raw_of bytes.now ≡ Err (fault_of e))
+            ⊎ ((e ≡ OutOfMemory) × (raw_of bytes.now ≡ Ok bytes.now))) }
     {
         let view = Rlp::new(bytes);
         if !view.is_canonical(RawItem::MAX_DEPTH) {
@@ -73,14 +75,12 @@ impl RawItem {
             }
             return Err(DecoderError::Custom("item nests too deep"));
         }
-        match Vec::from_slice(alloc, bytes) {
-            Ok(bytes) => Ok(RawItem { bytes }),
-            Err(_) => Err(DecoderError::OutOfMemory),
-        }
+        let bytes = Vec::from_slice(alloc, bytes)?;
+        Ok(RawItem { bytes })
     }
 
     /// The bytes: the encoding of the item.
-    #[tactic(auto, using(rlp_values::specs::Lemmas::RawItems::raw_bytes))]
+    #[tactic(auto, using(rlp_reading::proofs::Lemmas::RawItems::raw_bytes))]
     pub fn as_bytes(&self) -> &[u8]
         ensures bytes { result.now ≡ self.now }
         ensures canonical { IsRawItem self.now × IsCanonicalWithin deepest_raw_item self.now }
@@ -142,21 +142,11 @@ impl Encodable for RawItem {
 /// as [`RawItem::new`] does if that isn't canonical or nests too deep. This holds for a lenient
 /// view too, which ignores only the bytes that follow the item.
 impl Decodable for RawItem {
-    ghost gives = { raw_item.gives };
+    ghost reading = { raw_item.reading };
 
-    ghost faults = { raw_item.faults };
-
-    ghost may_lack_memory = { raw_item.may_lack };
-
-    #[tactic(auto, using(rlp_values::specs::Lemmas::RawItems::raw_reading))]
     fn decode(alloc: Global, rlp: &Rlp<'_>) -> Result<RawItem, DecoderError> {
-        match rlp.split_first() {
-            Ok((item, _)) => match RawItem::new(alloc, item.as_raw()) {
-                Ok(item) => Ok(item),
-                Err(fault) => Err(fault),
-            },
-            Err(fault) => Err(fault),
-        }
+        let (item, _) = rlp.split_first()?;
+        RawItem::new(alloc, item.as_raw())
     }
 }
 
@@ -165,7 +155,7 @@ impl RoundTrip for RawItem {
 }
 
 impl Scalar for RawItem {
-    ghost exact = { λ b v. itself };
+    ghost exact = { raw_only false };
 }
 
 impl StrictRead for RawItem {

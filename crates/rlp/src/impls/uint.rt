@@ -1,26 +1,22 @@
 //! Numbers of any width, kept as their bytes.
 
-ghost use Rattle.std.specs.Prelude.{◌≡◌, ◌≤◌, length};
+ghost use Rattle.std.specs.Prelude.{◌≡◌, ◌≤◌, false, length};
 ghost use Rattle.std.specs.Int.Digits.{number_from_digits};
-ghost use Rattle.rlp_format.specs.Values.Value.{FitsBytes, number_item};
-ghost use Rattle.rlp_values.specs.Values.ValueReading.{FaultsAsNumber, GivesNumber};
-ghost use Rattle.rlp_values.specs.Codec.{uint};
-ghost use Rattle.rlp_values.specs.Lemmas.RoundTrips.{given_through};
+ghost use Rattle.rlp_codec.proofs.ListLaws.{newtype_only};
+ghost use Rattle.rlp_codec.proofs.StringLaws.{number_scalar};
+ghost use Rattle.rlp_codec.specs.Form.{number};
+ghost use Rattle.rlp.specs.Codec.{uint};
 
 use crate::impls::number::number_digits;
 use crate::rlpin::Rlp;
 use crate::traits::{Decodable, RoundTrip, Scalar, StrictRead};
 use rlp_format::Uint;
-use rlp_values::error::DecoderError;
+use rlp_reading::error::DecoderError;
 use std::alloc::Global;
 
 /// Reads a number of at most `N` bytes. Fails with the same errors as for `u64`.
 impl<const N: usize> Decodable for Uint<N> {
-    ghost gives = { λ v n. GivesNumber N v (number_from_digits 256 n.bytes) };
-
-    ghost faults = { λ v e. FaultsAsNumber N v e };
-
-    ghost may_lack_memory = { λ v. ⊥ };
+    ghost reading = { (uint N).reading };
 
     #[inline(always)]
     fn decode(_alloc: Global, rlp: &Rlp<'_>) -> Result<Uint<N>, DecoderError> {
@@ -45,8 +41,8 @@ impl<const N: usize> RoundTrip for Uint<N> {
 }
 
 impl<const N: usize> Scalar for Uint<N> {
-    ghost exact = { given_through (FitsBytes N) number_item
-        (λ (n : Self). number_from_digits 256 n.bytes) };
+    ghost exact = { newtype_only (number N) (λ (n : Self). number_from_digits 256 n.bytes) false
+        (number_scalar N) };
 }
 
 impl<const N: usize> StrictRead for Uint<N> {

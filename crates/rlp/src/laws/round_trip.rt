@@ -1,18 +1,33 @@
 //! Encodings are read back, for every type with the law of `RoundTrip`.
 
-ghost use Rattle.std.specs.Prelude.{◌≡◌, ◌↔◌, ◌++◌, ◌∷◌, ℕ, List, All, IfErr, IfOk, IsOkAnd, length, map};
-ghost use Rattle.rlp_values.specs.declared.error.DecoderError.TheVariants.{OutOfMemory};
+ghost use Rattle.std.specs.Prelude.{◌≡◌, ◌↔◌, ◌++◌, ◌∷◌, ℕ, List, All, IfErr, IfOk, IsOkAnd, IsTrue, length, map};
+ghost use Rattle.rlp_reading.specs.declared.error.DecoderError.TheVariants.{OutOfMemory};
 ghost use Rattle.rlp_format.specs.Format.Encoding.{BeginsWith, encoding};
 ghost use Rattle.rlp_format.specs.Format.Item.{list_of};
-ghost use Rattle.rlp_values.specs.Values.ListReading.{FaultsAt, GivesAt, GivesList, MayLackAsList};
-ghost use Rattle.rlp_values.specs.Values.RoundTrip.{ReadsBack};
-ghost use Rattle.rlp_values.specs.Format.Split.{items};
+ghost use Rattle.rlp_reading.specs.Values.RoundTrip.{ReadsBack};
+ghost use Rattle.rlp_reading.specs.Values.ValueReading.{GivesValue};
+ghost use Rattle.rlp_reading.specs.Format.Split.{items};
 ghost use Rattle.rlp_format.specs.Values.Value.{AreAlike};
-ghost use Rattle.rlp_values.specs.Views.View.{view_of};
+ghost use Rattle.rlp_reading.specs.Views.View.{HoldsItem, view_of};
+ghost use Rattle.rlp_codec.specs.Form.{Faults, Gives, list_reading, reading_at};
 
 use crate::traits::{RoundTrip, Scalar};
-use rlp_values::error::DecoderError;
+use rlp_reading::error::DecoderError;
 use std::alloc::Global;
+
+/// A slice that begins with the encoding of a value that fits gives exactly the values that fit and
+/// are alike to it, and has no fault.
+pub fn encoding_is_read_back<T: RoundTrip>(bytes: &[u8])
+    ensures { (v : T) → T.fits v → HoldsItem (view_of bytes.now) (T.item v)
+        → ReadsBack T.fits T.item (Gives T.reading) (Faults T.reading) (view_of bytes.now) v }
+{}
+
+/// Bytes give a value of a type with [`Scalar`] if and only if the value fits and the bytes begin with
+/// its encoding.
+pub fn scalar_is_read<T: Scalar>(bytes: &[u8])
+    ensures { (v : T) → Gives T.reading (view_of bytes.now) v
+        ↔ GivesValue T.fits T.item (view_of bytes.now) v }
+{}
 
 /// If bytes begin with the encoding of a list of values, the items are the encodings of the values,
 /// in order. Each item gives the values that fit and are alike to the value in its place, no
@@ -22,11 +37,11 @@ pub fn list_is_read_back<T: RoundTrip>(bytes: &[u8])
         → items bytes.now ≡ map (λ v. encoding (T.item v)) vs }
     ensures each { (before after : List T) (v : T)
         → BeginsWith bytes.now (encoding (list_of (map T.item (before ++ v ∷ after))))
-        → T.fits v → ReadsBack T.fits T.item (λ w x. GivesAt T.gives w (length before) x)
-        (λ w e. FaultsAt T.faults w (length before) e) (view_of bytes.now) v }
+        → T.fits v → ReadsBack T.fits T.item (Gives (reading_at (length before) T.reading))
+        (Faults (reading_at (length before) T.reading)) (view_of bytes.now) v }
     ensures all { (vs : List T) → All T.fits vs
         → BeginsWith bytes.now (encoding (list_of (map T.item vs)))
-        → GivesList T.gives (view_of bytes.now) vs }
+        → Gives (list_reading (λ xs. xs) T.reading) (view_of bytes.now) vs }
 {}
 
 /// The value that bytes begin with. If they begin with the encoding of a value that fits, the
@@ -35,7 +50,7 @@ pub fn encoding_is_decoded<T: RoundTrip>(alloc: Global, bytes: &[u8]) -> Result<
     ensures alike { (v : T) → T.fits v → BeginsWith bytes.now (encoding (T.item v))
         → IfOk result (λ w. T.fits w × AreAlike T.item w v) }
     ensures memory { (v : T) → T.fits v → BeginsWith bytes.now (encoding (T.item v))
-        → IfErr result (λ e. (e ≡ OutOfMemory) × T.may_lack_memory (view_of bytes.now)) }
+        → IfErr result (λ e. (e ≡ OutOfMemory) × IsTrue T.reading.takes_memory) }
 {
     crate::decode(alloc, bytes)
 }
@@ -48,7 +63,7 @@ pub fn scalar_is_decoded<T: Scalar>(alloc: Global, bytes: &[u8]) -> Result<T, De
     ensures alike { (v : T) → T.fits v → BeginsWith bytes.now (encoding (T.item v))
         → IfOk result (λ w. T.fits w × AreAlike T.item w v) }
     ensures memory { (v : T) → T.fits v → BeginsWith bytes.now (encoding (T.item v))
-        → IfErr result (λ e. (e ≡ OutOfMemory) × T.may_lack_memory (view_of bytes.now)) }
+        → IfErr result (λ e. (e ≡ OutOfMemory) × IsTrue T.reading.takes_memory) }
 {
     crate::decode(alloc, bytes)
 }
@@ -62,8 +77,7 @@ pub fn list_is_decoded<T: RoundTrip>(alloc: Global, bytes: &[u8]) -> Result<Vec<
         → IfOk result (λ ws. All T.fits ws.items × (map T.item ws.items ≡ map T.item vs)) }
     ensures memory { (vs : List T) → All T.fits vs
         → BeginsWith bytes.now (encoding (list_of (map T.item vs)))
-        → IfErr result (λ e. (e ≡ OutOfMemory)
-        × MayLackAsList T.gives T.may_lack_memory (view_of bytes.now)) }
+        → IfErr result (λ e. e ≡ OutOfMemory) }
 {
     crate::decode_list(alloc, bytes)
 }

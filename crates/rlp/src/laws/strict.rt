@@ -1,28 +1,29 @@
 //! Views of both kinds, and what strict views give.
 
 ghost use Rattle.std.specs.Prelude.{◌≡◌, ◌+◌, ◌<◌, ◌^◌, ◌↔◌, ◌⊎◌, ℕ, List, All, if◌then◌else◌, length, Ok, Err, Some, None, IfErr, IfOk, IsOkAnd, map};
-ghost use Rattle.rlp_values.specs.declared.error.DecoderError.TheVariants.{OutOfMemory, RlpExpectedToBeList, RlpIsTooBig};
+ghost use Rattle.rlp_reading.specs.declared.error.DecoderError.TheVariants.{OutOfMemory, RlpExpectedToBeList, RlpIsTooBig};
 ghost use Rattle.rlp_format.specs.Format.Encoding.{BeginsWith, encoding};
 ghost use Rattle.rlp_format.specs.Format.WrittenHeader.{AreBytes};
-ghost use Rattle.rlp_values.specs.Format.Header.{HasHeader};
-ghost use Rattle.rlp_values.specs.Format.Framing.{IsFramed, fault, framing, value};
-ghost use Rattle.rlp_values.specs.Format.Split.{begins_as_list, items};
-ghost use Rattle.rlp_values.specs.Format.StringReading.{read_string};
-ghost use Rattle.rlp_values.specs.Format.Strict.{IsCanonical, strict_fault};
+ghost use Rattle.rlp_reading.specs.Format.Header.{HasHeader};
+ghost use Rattle.rlp_reading.specs.Format.Framing.{IsFramed, fault, framing, value};
+ghost use Rattle.rlp_reading.specs.Format.Split.{begins_as_list, items};
+ghost use Rattle.rlp_reading.specs.Format.StringReading.{read_string};
+ghost use Rattle.rlp_reading.specs.Format.Strict.{IsCanonical, strict_fault};
 ghost use Rattle.rlp_format.specs.Format.Item.{Item, list_of, string};
-ghost use Rattle.rlp_values.specs.Values.ListReading.{FaultsAsOption, GivesOption, MayLackAsList};
-ghost use Rattle.rlp_values.specs.Values.ValueReading.{FaultsAs, FaultsAsBool, FaultsAsBytes, FaultsAsNumber, FaultsAsText, GivesBool, GivesBytes, GivesNumber, GivesText, GivesValue, HasOneReading, IsLengthFault};
+ghost use Rattle.rlp_reading.specs.Values.RoundTrip.{ReadsStrictly};
+ghost use Rattle.rlp_reading.specs.Values.ValueReading.{HasOneReading};
+ghost use Rattle.rlp_codec.specs.Form.{Faults, Gives, byte_array, byte_string, number, option_reading, text, truth_value};
 ghost use Rattle.rlp_format.specs.Values.Value.{AreAlike, bit, number_item, option_item};
-ghost use Rattle.rlp_values.specs.Views.View.{HoldsItem, View, item_by, item_count, item_with_place, list_fault, strict_view_of, view_header, view_of, view_string, view_value};
+ghost use Rattle.rlp_reading.specs.Views.View.{HoldsItem, View, item_by, item_count, item_with_place, list_fault, strict_view_of, view_header, view_of, view_string, view_value};
 
 use crate::traits::{Decodable, StrictRead};
-use rlp_values::error::DecoderError;
+use rlp_reading::error::DecoderError;
 use rlp_write::Encodable;
 use std::alloc::Global;
 
 /// Why bytes aren't exactly one framed item: they aren't framed, or bytes follow the framed item.
 /// Canonical bytes have no such fault.
-#[tactic(auto, using(rlp_format::specs::Lemmas::Digits::bytes_held, rlp_values::proofs::Views::ViewKinds::strict_canonical, rlp_values::proofs::Views::ViewKinds::strict_followed, rlp_values::proofs::Views::ViewKinds::strict_unframed, rlp_values::proofs::Views::ViewKinds::strict_whole))]
+#[tactic(auto, using(rlp_format::proofs::Lemmas::Digits::bytes_held, rlp_reading::proofs::Views::ViewKinds::strict_canonical, rlp_reading::proofs::Views::ViewKinds::strict_followed, rlp_reading::proofs::Views::ViewKinds::strict_unframed, rlp_reading::proofs::Views::ViewKinds::strict_whole))]
 pub fn strict_fault_is_read(bytes: &[u8])
     ensures whole { (h n : ℕ) → HasHeader bytes.now h n → h + n ≡ length bytes.now
         → strict_fault bytes.now ≡ None }
@@ -34,7 +35,7 @@ pub fn strict_fault_is_read(bytes: &[u8])
 
 /// Each definition over a lenient view equals the one over its bytes, whatever follows the first
 /// item.
-#[tactic(auto, using(rlp_values::proofs::Views::ViewKinds::lenient_count, rlp_values::proofs::Views::ViewKinds::lenient_place))]
+#[tactic(auto, using(rlp_reading::proofs::Views::ViewKinds::lenient_count, rlp_reading::proofs::Views::ViewKinds::lenient_place))]
 pub fn lenient_views_ignore_what_follows(bytes: &[u8])
     ensures header { view_header (view_of bytes.now) ≡ framing bytes.now }
     ensures value { view_value (view_of bytes.now) ≡ value bytes.now }
@@ -50,31 +51,40 @@ pub fn lenient_views_ignore_what_follows(bytes: &[u8])
         else Err RlpExpectedToBeList) }
 {}
 
+/// A strict view gives a value of a type with [`StrictRead`] if and only if the value fits and the
+/// bytes are its encoding. The view has no fault then.
+pub fn whole_encoding_is_read<T: StrictRead>(bytes: &[u8])
+    ensures { (v : T) → ReadsStrictly T.fits T.item (Gives T.reading) (Faults T.reading) bytes.now v }
+{}
+
 /// A strict view gives one value of a number of each width, of a `bool`, of a byte string, of
 /// a text or of an array of each length, and has no fault, or gives none and has one fault. The
 /// numbers of `N` bytes are those of `Uint<N>` too. See also [`crate::laws::raw_item_is_read`] and
 /// [`strict_option_is_read`].
 pub fn strict_values_are_read(bytes: &[u8])
     ensures numbers { (width : ℕ)
-        → HasOneReading number_item (GivesNumber width (strict_view_of bytes.now))
-        (FaultsAsNumber width (strict_view_of bytes.now)) }
+        → HasOneReading number_item (Gives (number width).reading (strict_view_of bytes.now))
+        (Faults (number width).reading (strict_view_of bytes.now)) }
     ensures truth_values { HasOneReading (λ b. number_item (bit b))
-        (λ b. GivesBool (strict_view_of bytes.now) b)
-        (λ e. FaultsAsBool (strict_view_of bytes.now) e) }
-    ensures strings { HasOneReading string (GivesBytes (strict_view_of bytes.now))
-        (FaultsAsBytes (strict_view_of bytes.now)) }
-    ensures texts { HasOneReading string (GivesText (strict_view_of bytes.now))
-        (FaultsAsText (strict_view_of bytes.now)) }
+        (Gives truth_value.reading (strict_view_of bytes.now))
+        (Faults truth_value.reading (strict_view_of bytes.now)) }
+    ensures strings { HasOneReading string
+        (Gives (byte_string (λ d. d)).reading (strict_view_of bytes.now))
+        (Faults (byte_string {B = List ℕ} (λ d. d)).reading (strict_view_of bytes.now)) }
+    ensures texts { HasOneReading string
+        (Gives (text (λ d. d)).reading (strict_view_of bytes.now))
+        (Faults (text {B = List ℕ} (λ d. d)).reading (strict_view_of bytes.now)) }
     ensures arrays { (n : ℕ) → HasOneReading string
-        (λ a. GivesValue (λ a. length a ≡ n) string (strict_view_of bytes.now) a)
-        (λ e. FaultsAs (IsLengthFault n) (strict_view_of bytes.now) e) }
+        (Gives (byte_array n).reading (strict_view_of bytes.now))
+        (Faults (byte_array n).reading (strict_view_of bytes.now)) }
 {}
 
 /// If each item gives one value of a type or has one fault, a strict view gives one option of it or
 /// has one fault.
 pub fn strict_option_is_read<T: Encodable + Decodable>(bytes: &[u8])
     ensures { ((item : View) → AreBytes item.bytes → length item.bytes < 2 ^ 64
-        → HasOneReading T.item (T.gives item) (T.faults item))
-        → HasOneReading (option_item T.item) (λ o. GivesOption T.gives (strict_view_of bytes.now) o)
-        (λ e. FaultsAsOption T.faults (strict_view_of bytes.now) e) }
+        → HasOneReading T.item (Gives T.reading item) (Faults T.reading item))
+        → HasOneReading (option_item T.item)
+        (Gives (option_reading T.reading) (strict_view_of bytes.now))
+        (Faults (option_reading T.reading) (strict_view_of bytes.now)) }
 {}

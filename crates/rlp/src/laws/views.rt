@@ -4,12 +4,12 @@ ghost use Rattle.std.specs.Prelude.{◌≡◌, ◌≤◌, ◌+◌, ◌↔◌, �
 ghost use Rattle.std.specs.Iterator.{Yields};
 ghost use Rattle.rlp_format.specs.Format.Item.{Item, list_of};
 ghost use Rattle.rlp_format.specs.Format.Encoding.{encoding, join};
-ghost use Rattle.rlp_values.specs.declared.error.DecoderError.{DecoderError};
-ghost use Rattle.rlp_values.specs.declared.error.DecoderError.TheVariants.{RlpIsTooShort};
-ghost use Rattle.rlp_values.specs.Views.View.{HoldsItem, IsStep, Remaining, View, item_at, item_count, item_views, list_fault};
+ghost use Rattle.rlp_reading.specs.declared.error.DecoderError.{DecoderError};
+ghost use Rattle.rlp_reading.specs.declared.error.DecoderError.TheVariants.{RlpIsTooShort};
+ghost use Rattle.rlp_reading.specs.Views.View.{HoldsItem, IsStep, Remaining, View, item_at, item_count, item_views, list_fault};
 
 use crate::rlpin::Rlp;
-use rlp_values::error::DecoderError;
+use rlp_reading::error::DecoderError;
 
 /// Item number i of a view, lenient or strict, is the i-th of its items, counted from 0, if the view
 /// can be read as a list. All numbers past the last item have the same fault.

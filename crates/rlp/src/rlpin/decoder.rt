@@ -2,11 +2,11 @@
 
 ghost use Rattle.std.specs.Prelude.{◌≡◌, ◌+◌, ◌-◌, length, IsTrue, Ok, Err, IfOk, IfErr, IfSome, IsErrAnd, MatchResult};
 ghost use Rattle.std.specs.Fn.{FnReturnsAt};
-ghost use Rattle.rlp_values.specs.Views.View.{HoldsNoString, HoldsString, view_of, view_string, View};
+ghost use Rattle.rlp_reading.specs.Views.View.{HoldsNoString, HoldsString, view_of, view_string, View};
 
-use rlp_values::error::DecoderError;
-use rlp_values::framed::is_followed;
-use rlp_values::string_reading::string_in;
+use rlp_reading::error::DecoderError;
+use rlp_reading::framed::is_followed;
+use rlp_reading::string_reading::string_in;
 use std::marker::Model;
 
 /// A decoder of the string that bytes begin with. Contracts see it as the record `View` of its
@@ -81,7 +81,7 @@ impl<'a> BasicDecoder<'a> {
     /// let decoder = rlp::BasicDecoder::new(&[0x83, b'c', b'a', b't']);
     /// assert_eq!(rt; decoder.string()?, b"cat".as_slice());
     /// ```
-    #[tactic(auto, using(rlp_values::specs::Lemmas::StringsHeld::held_too_big, rlp_values::specs::Lemmas::StringsHeld::held_whole, rlp_values::specs::Lemmas::StringsHeld::held_front, rlp_values::specs::Lemmas::StringsHeld::held_fault))]
+    #[tactic(auto, using(rlp_reading::proofs::Lemmas::StringsHeld::held_too_big, rlp_reading::proofs::Lemmas::StringsHeld::held_whole, rlp_reading::proofs::Lemmas::StringsHeld::held_front, rlp_reading::proofs::Lemmas::StringsHeld::held_fault))]
     pub fn string(&self) -> Result<&'a [u8], DecoderError>
         ensures exact { MatchResult result (λ d. view_string self.now ≡ Ok d.now)
             (λ e. view_string self.now ≡ Err e) }
@@ -126,7 +126,10 @@ pub(crate) fn may_end_at(bytes: &[u8], strict: bool, len: usize) -> bool
 /// then stay in registers.
 #[inline(always)]
 pub(crate) fn short_string(bytes: &[u8], strict: bool) -> Option<&[u8]>
-    ensures { IfSome result (λ d. HoldsString (record { bytes = bytes.now; is_strict = strict }) d.now) }
+    ensures held { IfSome result
+        (λ d. HoldsString (record { bytes = bytes.now; is_strict = strict }) d.now) }
+    ensures exact { IfSome result
+        (λ d. view_string (record { bytes = bytes.now; is_strict = strict }) ≡ Ok d.now) }
 {
     match bytes {
         [0x00..=0x7f, ..] if may_end_at(bytes, strict, 1) => Some(&bytes[..1]),

@@ -3,14 +3,14 @@
 ghost use Rattle.std.specs.Prelude.{Some};
 
 use crate::rlpin::rlp::Rlp;
-use rlp_values::text::write_text;
+use rlp_reading::text::write_text;
 use std::fmt;
 
 /// Prints `null` for no bytes, `"0x..."` for a string, and `[.., ..]` for a list. Bytes that aren't
 /// framed print the name of their fault, the one of [`Rlp::payload_info`]. The formatter's flags
 /// change nothing.
 impl fmt::Display for Rlp<'_> {
-    ghost use Rattle.rlp_values.specs.Views.Text.{text};
+    ghost use Rattle.rlp_reading.specs.Views.Text.{text};
 
     ghost output = { λ v. Some (text v.bytes) };
 

@@ -1,16 +1,15 @@
 //! Strings that hold a tag and the encoding of a payload.
 
-ghost use Rattle.std.specs.Prelude.{◌≡◌, ◌∷◌, ◌⊎◌, [], IfErr, IfOk};
-ghost use Rattle.rlp_values.specs.declared.error.DecoderError.TheVariants.{OutOfMemory, RlpIsTooShort};
+ghost use Rattle.std.specs.Prelude.{◌≡◌, ◌∷◌, ◌⊎◌, [], Err, IfErr, IfOk, IsTrue, Ok};
+ghost use Rattle.rlp_reading.specs.declared.error.DecoderError.TheVariants.{OutOfMemory, RlpIsTooShort};
 ghost use Rattle.rlp_format.specs.Format.Encoding.{encoding};
-ghost use Rattle.rlp_format.specs.Format.WrittenHeader.{AreBytes};
-ghost use Rattle.rlp_values.specs.Views.View.{HoldsString, strict_view_of};
-ghost use Rattle.rlp_values.specs.Values.ValueReading.{FaultsAs};
+ghost use Rattle.rlp_reading.specs.Views.View.{strict_view_of};
+ghost use Rattle.rlp_codec.specs.Form.{Faults, fault_of, string_of};
 
 use crate::decode_whole;
 use crate::rlpin::Rlp;
 use crate::traits::StrictRead;
-use rlp_values::error::DecoderError;
+use rlp_reading::error::DecoderError;
 use std::alloc::Global;
 
 /// A string whose first byte is a tag: the tag, and the bytes after it, which should be the
@@ -29,11 +28,10 @@ impl<'a> Envelope<'a> {
     ///
     /// Fails as [`crate::BasicDecoder::string`] does, or with `RlpIsTooShort` if the string is
     /// empty.
-    #[tactic(auto, using(rlp_values::proofs::OneString::one_string))]
     pub fn of(rlp: &Rlp<'a>) -> Result<Envelope<'a>, DecoderError>
-        ensures value { IfOk result (λ x. HoldsString rlp.now (x.tag ∷ x.payload.now)) }
-        ensures fault { IfErr result
-            (λ e. FaultsAs (λ d e. (d ≡ []) × (e ≡ RlpIsTooShort)) rlp.now e) }
+        ensures value { IfOk result (λ x. string_of rlp.now ≡ Ok (x.tag ∷ x.payload.now)) }
+        ensures fault { IfErr result (λ e. (string_of rlp.now ≡ Err (fault_of e))
+            ⊎ ((string_of rlp.now ≡ Ok []) × (e ≡ RlpIsTooShort))) }
     {
         match rlp.decoder().string() {
             Ok([tag, payload @ ..]) => Ok(Envelope { tag: *tag, payload }),
@@ -58,9 +56,9 @@ impl<'a> Envelope<'a> {
     pub fn decode<T: StrictRead>(&self, alloc: Global) -> Result<T, DecoderError>
         ensures value { IfOk result
             (λ v. T.fits v × (self.now.payload.now ≡ encoding (T.item v))) }
-        ensures fault { IfErr result (λ e. (AreBytes self.now.payload.now
-            × T.faults (strict_view_of self.now.payload.now) e) ⊎ ((e ≡ OutOfMemory)
-            × T.may_lack_memory (strict_view_of self.now.payload.now))) }
+        ensures fault { IfErr result (λ e.
+            Faults T.reading (strict_view_of self.now.payload.now) e
+            ⊎ ((e ≡ OutOfMemory) × IsTrue T.reading.takes_memory)) }
     {
         decode_whole(alloc, self.payload)
     }

@@ -1,24 +1,24 @@
 //! The items of a list, read in order as values.
 
-ghost use Rattle.std.specs.Vec.{vec_items};
-ghost use Rattle.std.specs.declared.alloc.Global.{Global};
-ghost use Rattle.std.specs.Prelude.{◌≡◌, ◌+◌, ◌<◌, ◌⊎◌, None, Some, Ok, Err, IfOk, IfErr, IsOkAnd, MatchResult, OnOk, OnErr};
-ghost use Rattle.rlp_values.specs.declared.error.DecoderError.TheVariants.{OutOfMemory, RlpIncorrectListLen};
-ghost use Rattle.rlp_values.specs.Views.View.{item_at, item_count, items_fault};
-ghost use Rattle.rlp_values.specs.Values.FieldPlace.{IsAtPlace, FieldPlace};
-ghost use Rattle.rlp_values.specs.Values.ListReading.{FaultsAsFields, FaultsAsList, FaultsAt, GivesAt, GivesList, GivesSomeAt, MayLackAsList, MayLackAt, ReadsValue};
+ghost use Rattle.std.specs.Prelude.{◌≡◌, ◌≢◌, ◌≤◌, ◌∷◌, ◌⊎◌, ◌↔◌, [], ℕ, length, map, None, Ok, Err, Some, IfOk, IfErr, IsOkAnd, IsTrue, MatchOption, MatchResult, OnOk};
+ghost use Rattle.rlp_reading.specs.declared.error.DecoderError.TheVariants.{OutOfMemory, RlpIncorrectListLen};
+ghost use Rattle.rlp_reading.specs.Format.Framing.{fault};
+ghost use Rattle.rlp_reading.specs.Format.Split.{split};
+ghost use Rattle.rlp_reading.specs.Format.Strict.{after_items};
+ghost use Rattle.rlp_reading.specs.Views.View.{View, item_at, item_count, item_views, items_fault};
+ghost use Rattle.rlp_codec.specs.Form.{and_then, fault_of, items_of, list_of_views, list_reading, seen_fault};
+ghost use Rattle.rlp.specs.Left.{AreCounted, ItemsLeft, after_next, next_item};
 
 use crate::rlpin::rlp::Rlp;
 use crate::traits::Decodable;
-use rlp_format::count::Count;
-use rlp_values::error::DecoderError;
-use rlp_values::framed::first_framed;
-use rlp_values::items::ItemReader;
+use rlp_reading::error::DecoderError;
+use rlp_reading::framed::first_framed;
+use rlp_reading::items::{ItemReader, count_items};
 use std::alloc::Global;
 use std::marker::Model;
 
-/// A reader of the items of a list, one after another. Contracts see it as the record `FieldPlace`
-/// of the view and the number of taken items.
+/// A reader of the items of a list, one after another. Contracts see it as the record `ItemsLeft` of
+/// the views of the items that are left, and of the error past the last item.
 ///
 /// It keeps its place, so it reads the header of each item once. [`Rlp::val_at`] begins at the
 /// start of the list each time. Each call returns what [`Rlp::val_at`], [`Rlp::list_at`] or
@@ -32,42 +32,49 @@ use std::marker::Model;
 /// ```
 #[derive(Drop)]
 pub struct Fields<'a> {
-    rlp: Rlp<'a>,
     items: ItemReader<'a>,
-    // The number of taken items.
-    taken: Count,
+    strict: bool,
+    // At least the number of items that are left, and just that number if they were counted.
+    left: usize,
+    counted: bool,
 }
 
 impl<'a> Model for Fields<'a> {
-    ghost Value = { FieldPlace };
+    ghost Value = { ItemsLeft };
 
-    ghost view = { λ f. record { view = f.rlp; place = f.taken.total } };
+    ghost view = { λ f. record {
+      views = map (λ b. record { bytes = b; is_strict = f.strict }) (split f.items.rest);
+      past = fault (after_items f.items.rest);
+    } };
 
-    ghost invariant = { λ f. IsAtPlace f.rlp f.taken.total f.items.rest };
+    ghost invariant = { λ f. AreCounted f.counted f.left (split f.items.rest) };
 }
 
 impl<'a> Rlp<'a> {
     /// A reader of the items of the list that the view begins with, in order.
     ///
     /// Fails as [`Rlp::item_count`] does.
+    #[tactic(auto, using(rlp_codec::proofs::ListLaws::items_told))]
     pub fn fields(&self) -> Result<Fields<'a>, DecoderError>
-        ensures read { IfOk result (λ f. f ≡ record { view = self.now; place = 0 }) }
-        ensures fault { MatchResult result (λ _. items_fault self.now ≡ None)
-            (λ e. items_fault self.now ≡ Some e) }
+        ensures items { IfOk result (λ f. items_of self.now ≡ Ok f.views) }
+        ensures past { IfOk result (λ f. (i : ℕ) → length f.views ≤ i
+            → item_at self.now i ≡ Err f.past) }
+        ensures fault { IfErr result (λ e. items_fault self.now ≡ Some e) }
     {
-        match self.check_items() {
-            Ok(()) => Ok(Fields::over(self)),
-            Err(fault) => Err(fault),
-        }
+        self.check_items()?;
+        Ok(Fields::over(self))
     }
 
     /// The same as [`Rlp::fields`] for a list of `len` items. Fails with `RlpIncorrectListLen` if
     /// the list has a different number of items.
-    #[tactic(auto, using(rlp_values::proofs::Views::InOrder::counted_fields))]
+    #[tactic(auto, using(rlp_codec::proofs::ListLaws::items_told, rlp_reading::proofs::Views::InOrder::counted_told))]
     pub fn fields_of(&self, len: usize) -> Result<Fields<'a>, DecoderError>
-        ensures read { IfOk result (λ f. f ≡ record { view = self.now; place = 0 }) }
+        ensures items { IfOk result (λ f. items_of self.now ≡ Ok f.views) }
+        ensures past { IfOk result (λ f. (i : ℕ) → length f.views ≤ i
+            → item_at self.now i ≡ Err f.past) }
         ensures count { OnOk result (item_count self.now ≡ Ok len) }
-        ensures fault { IfErr result (λ e. FaultsAsFields len self.now e) }
+        ensures fault { IfErr result (λ e. (item_count self.now ≡ Err e)
+            ⊎ ((e ≡ RlpIncorrectListLen) × IsOkAnd (item_count self.now) (λ n. n ≢ len))) }
     {
         if self.item_count()? != len {
             return Err(DecoderError::RlpIncorrectListLen);
@@ -77,28 +84,76 @@ impl<'a> Rlp<'a> {
 }
 
 impl<'a> Fields<'a> {
-    /// A reader before the first item of a view.
+    /// A reader of the items of the list that the view begins with. Fails as [`Rlp::item_count`]
+    /// does. It walks over the items of a strict view, but not over those of a lenient view.
     #[inline(always)]
-    pub(crate) fn over(rlp: &Rlp<'a>) -> Fields<'a>
-        requires { items_fault rlp.now ≡ None }
-        ensures { result ≡ record { view = rlp.now; place = 0 } }
+    #[tactic(auto, using(rlp_codec::proofs::ListLaws::items_told))]
+    pub fn of(rlp: &Rlp<'a>) -> Result<Fields<'a>, DecoderError>
+        ensures { MatchResult result (λ f. items_of rlp.now ≡ Ok f.views)
+            (λ e. items_of rlp.now ≡ Err (fault_of e)) }
     {
-        match first_framed(rlp.as_raw()) {
-            Ok((list, _)) => Fields::before(rlp, list.content),
-            Err(_) => Fields::before(rlp, rlp.as_raw()),
+        match rlp.check_items() {
+            Ok(()) => Ok(Fields::over(rlp)),
+            Err(fault) => Err(fault),
         }
     }
 
-    /// A reader before the items that these bytes begin with, which are the items of the view.
+    /// A reader of the items of a view that is read as a list. A strict view fails as
+    /// [`Rlp::item_count`] does. A lenient view never fails: it has no items if it isn't a list.
+    pub fn of_list(rlp: &Rlp<'a>) -> Result<Fields<'a>, DecoderError>
+        ensures { MatchResult result (λ f. list_of_views rlp.now ≡ Ok f.views)
+            (λ e. list_of_views rlp.now ≡ Err (fault_of e)) }
+    {
+        if rlp.is_strict() {
+            return Fields::of(rlp);
+        }
+        Ok(Fields::over(rlp))
+    }
+
+    /// The same as [`Fields::of`], with the items counted.
     #[inline(always)]
-    fn before(rlp: &Rlp<'a>, left: &'a [u8]) -> Fields<'a>
-        requires { IsAtPlace rlp.now 0 left.now }
-        ensures { result ≡ record { view = rlp.now; place = 0 } }
+    #[tactic(auto, using(crate::proofs::Readers::reader_starts))]
+    pub(crate) fn counted(rlp: &Rlp<'a>) -> Result<Fields<'a>, DecoderError>
+        ensures { MatchResult result (λ f. items_of rlp.now ≡ Ok f.views)
+            (λ e. items_of rlp.now ≡ Err (fault_of e)) }
+    {
+        let (items, count) = rlp.counted_items()?;
+        Ok(Fields {
+            items: ItemReader::new(items),
+            strict: rlp.is_strict(),
+            left: count,
+            counted: true,
+        })
+    }
+
+    /// A reader of the items of a view, or of no items if the view isn't a list.
+    #[inline(always)]
+    #[tactic(auto, using(crate::proofs::Readers::reader_starts))]
+    pub(crate) fn over(rlp: &Rlp<'a>) -> Fields<'a>
+        ensures views { result.views ≡ item_views rlp.now }
+        ensures past { items_fault rlp.now ≡ None → (i : ℕ) → length result.views ≤ i
+            → item_at rlp.now i ≡ Err result.past }
     {
         Fields {
-            rlp: rlp.clone(),
-            items: ItemReader::new(left),
-            taken: Count::new(),
+            items: ItemReader::new(rlp.items()),
+            strict: rlp.is_strict(),
+            left: usize::MAX,
+            counted: false,
+        }
+    }
+
+    /// The next item, or `None` if no item is left.
+    #[inline(always)]
+    pub fn next(&mut self) -> Option<Rlp<'a>>
+        ensures { MatchOption result ((self.old.views ≡ []) × (self.new.views ≡ []))
+            (λ item. self.old.views ≡ item ∷ self.new.views) }
+    {
+        match self.items.next_framed() {
+            Ok(framed) => {
+                self.left -= 1;
+                Some(Rlp::of_kind(framed.item, self.strict))
+            }
+            Err(_) => None,
         }
     }
 
@@ -106,15 +161,15 @@ impl<'a> Fields<'a> {
     ///
     /// After the last item it fails as [`Rlp::at`] does, and takes no item.
     #[inline(always)]
+    #[tactic(auto, using(crate::proofs::Readers::one_taken))]
     pub fn next_view(&mut self) -> Result<Rlp<'a>, DecoderError>
-        ensures exact { result ≡ item_at self.old.view self.old.place }
-        ensures next { OnOk result (self.new ≡ record self.old { place = self.old.place + 1 }) }
-        ensures stays { OnErr result (self.new ≡ self.old) }
+        ensures exact { result ≡ next_item self.old }
+        ensures next { self.new ≡ after_next self.old }
     {
         match self.items.next_framed() {
             Ok(framed) => {
-                self.taken.add(1);
-                Ok(self.rlp.with_bytes(framed.item))
+                self.left -= 1;
+                Ok(Rlp::of_kind(framed.item, self.strict))
             }
             Err(fault) => Err(fault),
         }
@@ -122,63 +177,63 @@ impl<'a> Fields<'a> {
 
     /// The value of the next item, as [`Rlp::val_at`] reads it.
     pub fn next_value<T: Decodable>(&mut self, alloc: Global) -> Result<T, DecoderError>
-        ensures exact { MatchResult (item_at self.old.view self.old.place)
-            (λ item. ReadsValue T.gives T.faults T.may_lack_memory item result)
-            (λ e. result ≡ Err e) }
-        ensures value { IfOk result (λ x. GivesAt T.gives self.old.view self.old.place x) }
-        ensures some { OnOk result (GivesSomeAt T.gives self.old.view self.old.place) }
-        ensures fault { IfErr result (λ e. (FaultsAt T.faults self.old.view self.old.place e)
-            ⊎ ((e ≡ OutOfMemory) × MayLackAt T.may_lack_memory self.old.view self.old.place)) }
-        ensures next { OnOk result (self.new ≡ record self.old { place = self.old.place + 1 }) }
-        ensures taken { MatchResult (item_at self.old.view self.old.place)
-            (λ _. self.new ≡ record self.old { place = self.old.place + 1 })
-            (λ _. self.new ≡ self.old) }
-        ensures same_view { self.new.view ≡ self.old.view }
+        ensures value { IfOk result (λ x. and_then (seen_fault (next_item self.old))
+            (λ item. (T.reading.read item).result) ≡ Ok (T.reading.seen x)) }
+        ensures fault { IfErr result (λ e. (and_then (seen_fault (next_item self.old))
+            (λ item. (T.reading.read item).result) ≡ Err (fault_of e))
+            ⊎ ((e ≡ OutOfMemory) × IsTrue T.reading.takes_memory)) }
+        ensures none { IfErr (next_item self.old) (λ e. result ≡ Err e) }
+        ensures next { self.new ≡ after_next self.old }
     {
-        match self.next_view() {
-            Ok(item) => item.as_val(alloc),
-            Err(fault) => Err(fault),
-        }
+        let item = self.next_view()?;
+        item.as_val(alloc)
     }
 
     /// The values of the items of the next item, as [`Rlp::list_at`] reads them.
     pub fn next_list<T: Decodable>(&mut self, alloc: Global) -> Result<Vec<T>, DecoderError>
-        ensures exact { MatchResult (item_at self.old.view self.old.place)
-            (λ item. MatchResult result (λ values. GivesList T.gives item values.items)
-            (λ e. (FaultsAsList T.gives T.faults item e)
-            ⊎ ((e ≡ OutOfMemory) × MayLackAsList T.gives T.may_lack_memory item)))
-            (λ e. result ≡ Err e) }
-        ensures value { IfOk result (λ values. GivesAt (λ item xs. GivesList T.gives item xs)
-            self.old.view self.old.place values.items) }
-        ensures some { OnOk result (GivesSomeAt (λ item values. GivesList T.gives item
-            (vec_items {X = T} {Z = Global} values)) self.old.view self.old.place) }
-        ensures fault { IfErr result (λ e.
-            (FaultsAt (λ item f. FaultsAsList T.gives T.faults item f)
-            self.old.view self.old.place e)
-            ⊎ ((e ≡ OutOfMemory) × MayLackAt (λ item. MayLackAsList T.gives T.may_lack_memory item)
-            self.old.view self.old.place)) }
-        ensures next { OnOk result (self.new ≡ record self.old { place = self.old.place + 1 }) }
-        ensures taken { MatchResult (item_at self.old.view self.old.place)
-            (λ _. self.new ≡ record self.old { place = self.old.place + 1 })
-            (λ _. self.new ≡ self.old) }
-        ensures same_view { self.new.view ≡ self.old.view }
+        ensures value { IfOk result (λ values. and_then (seen_fault (next_item self.old))
+            (λ item. ((list_reading (λ xs. xs) T.reading).read item).result)
+            ≡ Ok (map T.reading.seen values.items)) }
+        ensures fault { IfErr result (λ e. (and_then (seen_fault (next_item self.old))
+            (λ item. ((list_reading (λ xs. xs) T.reading).read item).result) ≡ Err (fault_of e))
+            ⊎ (e ≡ OutOfMemory)) }
+        ensures none { IfErr (next_item self.old) (λ e. result ≡ Err e) }
+        ensures next { self.new ≡ after_next self.old }
     {
-        match self.next_view() {
-            Ok(item) => item.as_list(alloc),
-            Err(fault) => Err(fault),
-        }
+        let item = self.next_view()?;
+        item.as_list(alloc)
     }
 
     /// Tests that all items were taken. Fails with `RlpIncorrectListLen` if one is left.
     pub fn finish(self) -> Result<(), DecoderError>
-        ensures all { OnOk result (item_count self.entry.view ≡ Ok self.entry.place) }
-        ensures fault { IfErr result (λ e. e ≡ RlpIncorrectListLen) }
-        ensures left { OnErr result (IsOkAnd (item_count self.entry.view)
-            (λ count. self.entry.place < count)) }
+        ensures { MatchResult result (λ _. self.entry.views ≡ [])
+            (λ e. (self.entry.views ≢ []) × (e ≡ RlpIncorrectListLen)) }
     {
-        match first_framed(self.items.rest()) {
-            Ok(_) => Err(DecoderError::RlpIncorrectListLen),
-            Err(_) => Ok(()),
+        if self.is_empty() {
+            return Ok(());
         }
+        Err(DecoderError::RlpIncorrectListLen)
+    }
+
+    /// The number of items that are left. It walks them if they weren't counted before.
+    #[inline(always)]
+    pub fn count_left(&self) -> usize
+        ensures { result ≡ length self.now.views }
+    {
+        if self.counted {
+            return self.left;
+        }
+        count_items(self.items.rest())
+    }
+
+    /// Whether no item is left.
+    #[inline(always)]
+    pub fn is_empty(&self) -> bool
+        ensures { IsTrue result ↔ (self.now.views ≡ []) }
+    {
+        if self.counted {
+            return self.left == 0;
+        }
+        first_framed(self.items.rest()).is_err()
     }
 }

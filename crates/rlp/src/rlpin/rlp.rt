@@ -1,29 +1,29 @@
 //! A view of bytes, and its methods on their first item.
 
 ghost use Rattle.std.specs.Vec.{vec_items};
-ghost use Rattle.std.specs.declared.alloc.Global.{Global};
-ghost use Rattle.std.specs.Prelude.{◌≡◌, ◌≤◌, ◌<◌, ◌^◌, ◌↔◌, ◌⊎◌, List, [], length, true, false, IsTrue, IsOk, None, Some, Ok, Err, IfOk, IfErr, MatchResult, OnOk};
-ghost use Rattle.rlp_values.specs.declared.error.DecoderError.TheVariants.{OutOfMemory};
-ghost use Rattle.rlp_values.specs.Format.Flat.{IsFlat};
-ghost use Rattle.rlp_values.specs.Format.Split.{begins_as_list, items};
-ghost use Rattle.rlp_values.specs.Format.Framing.{framing, total_len};
-ghost use Rattle.rlp_values.specs.Format.Strict.{IsCanonicalWithin, strict_list_fault};
-ghost use Rattle.rlp_values.specs.Format.TreeFaults.{IsFlatFault};
-ghost use Rattle.rlp_values.specs.Views.Depth.{depth};
-ghost use Rattle.rlp_values.specs.Views.View.{begins_as_data, begins_as_empty, begins_as_int, data_size, has_nonzero_at, item_at, item_count, item_views, item_with_place, items_fault, list_fault, prototype_of, strict_view_of, view_header, view_of, view_value, View};
-ghost use Rattle.rlp_values.specs.Values.ListReading.{FaultsAsList, FaultsAt, GivesAt, GivesList, MayLackAsList, MayLackAt, ReadsValue, GivesSomeAt};
+ghost use Rattle.std.specs.Prelude.{◌≡◌, ◌≤◌, ◌<◌, ◌^◌, ◌↔◌, ◌⊎◌, ℕ, List, [], length, true, false, IsTrue, IsOk, None, Some, Ok, Err, IfOk, IfErr, MatchResult};
+ghost use Rattle.rlp_reading.specs.declared.error.DecoderError.TheVariants.{OutOfMemory};
+ghost use Rattle.rlp_reading.specs.Format.Flat.{IsFlat};
+ghost use Rattle.rlp_reading.specs.Format.Split.{begins_as_list, items, split};
+ghost use Rattle.rlp_reading.specs.Format.Framing.{fault, framing, total_len};
+ghost use Rattle.rlp_reading.specs.Format.Strict.{IsCanonicalWithin, after_items, strict_list_fault};
+ghost use Rattle.rlp_reading.specs.Format.TreeFaults.{IsFlatFault};
+ghost use Rattle.rlp_reading.specs.Views.Depth.{depth};
+ghost use Rattle.rlp_reading.specs.Views.View.{begins_as_data, begins_as_empty, begins_as_int, data_size, has_nonzero_at, item_at, item_count, item_views, item_with_place, items_fault, list_fault, prototype_of, strict_view_of, view_header, view_of, view_value, View};
+ghost use Rattle.rlp_codec.specs.Form.{Faults, Gives, list_reading, reading_at};
 
 use crate::rlpin::decoder::BasicDecoder;
+use crate::rlpin::fields::Fields;
 use crate::rlpin::iter::RlpIterator;
 use crate::traits::Decodable;
-use rlp_values::Prototype;
-use rlp_values::depth::is_nested_within;
-use rlp_values::error::DecoderError;
-use rlp_values::flat::{FlatItem, TreeFault};
-use rlp_values::framed::{first_framed, framing_of, whole_framed, whole_framing};
-use rlp_values::header::PayloadInfo;
-use rlp_values::items::{ItemReader, try_count_items};
-use rlp_values::walking::{flatten, is_canonical};
+use rlp_reading::Prototype;
+use rlp_reading::depth::is_nested_within;
+use rlp_reading::error::DecoderError;
+use rlp_reading::flat::{FlatItem, TreeFault};
+use rlp_reading::framed::{first_framed, framing_of, whole_framed, whole_framing};
+use rlp_reading::header::PayloadInfo;
+use rlp_reading::items::{ItemReader, count_items, try_count_items};
+use rlp_reading::walking::{flatten, is_canonical};
 use std::alloc::Global;
 use std::marker::Model;
 
@@ -92,7 +92,7 @@ impl<'a> Rlp<'a> {
     /// What the view begins with: no bytes, a string with its [`Rlp::size`], or a list with the
     /// number of its items. It never fails. Bytes that aren't framed are a string of size 0 or a
     /// list of no items, depending on their first byte.
-    #[tactic(auto, unfolding(rlp_values::specs::Format::Split::items))]
+    #[tactic(auto, unfolding(rlp_reading::specs::Format::Split::items))]
     pub fn prototype(&self) -> Result<Prototype, DecoderError>
         ensures { result ≡ Ok (prototype_of self.now.bytes) }
     {
@@ -138,12 +138,12 @@ impl<'a> Rlp<'a> {
     /// Fails with `RlpExpectedToBeList` if there is no byte, or the first byte begins a string. A
     /// list that isn't framed has no items. A strict view must be exactly one list. After the first
     /// fault come those of [`Rlp::payload_info`] and of bytes that follow the items in the list.
-    #[tactic(auto, unfolding(rlp_values::specs::Views::View::item_count, rlp_values::specs::Format::Split::items))]
+    #[tactic(auto, unfolding(rlp_reading::specs::Views::View::item_count, rlp_reading::specs::Format::Split::items))]
     pub fn item_count(&self) -> Result<usize, DecoderError>
         ensures { result ≡ item_count self.now }
     {
         if self.strict {
-            return self.strict_count();
+            return self.walked_count();
         }
         if !self.is_list() {
             return Err(DecoderError::RlpExpectedToBeList);
@@ -285,9 +285,9 @@ impl<'a> Rlp<'a> {
 
     /// The value that the view begins with, read by [`Decodable::decode`] of its type.
     pub fn as_val<T: Decodable>(&self, alloc: Global) -> Result<T, DecoderError>
-        ensures value { IfOk result (λ v. T.gives self.now v) }
-        ensures fault { IfErr result (λ e. (T.faults self.now e) ⊎ ((e ≡ OutOfMemory)
-            × T.may_lack_memory self.now)) }
+        ensures value { IfOk result (λ x. Gives T.reading self.now x) }
+        ensures fault { IfErr result (λ e. Faults T.reading self.now e
+            ⊎ ((e ≡ OutOfMemory) × IsTrue T.reading.takes_memory)) }
     {
         T::decode(alloc, self)
     }
@@ -303,22 +303,18 @@ impl<'a> Rlp<'a> {
     /// let list = rlp::Rlp::new(&[0xc2, 0x05, 0x06]);
     /// assert_eq!(rt; list.as_list::<u64>(alloc)?.as_slice(), [5, 6].as_slice());
     /// ```
+    #[tactic(auto, using(rlp_codec::proofs::ListLaws::pushed, rlp_codec::proofs::ListLaws::all_pushed))]
     pub fn as_list<T: Decodable>(&self, alloc: Global) -> Result<Vec<T>, DecoderError>
-        ensures value { IfOk result (λ values. GivesList T.gives self.now values.items) }
-        ensures fault { IfErr result (λ e. (FaultsAsList T.gives T.faults self.now e)
-            ⊎ ((e ≡ OutOfMemory) × MayLackAsList T.gives T.may_lack_memory self.now)) }
+        ensures value { IfOk result
+            (λ values. Gives (list_reading vec_items T.reading) self.now values) }
+        ensures fault { IfErr result (λ e. Faults (list_reading (λ xs. xs) T.reading) self.now e
+            ⊎ (e ≡ OutOfMemory)) }
     {
-        self.check_list()?;
+        let mut items = Fields::of_list(self)?;
         let mut values = Vec::new(alloc);
-        for item in self.iter() {
-            let value = match T::decode(alloc, &item) {
-                Ok(value) => value,
-                Err(fault) => return Err(fault),
-            };
-            match values.push(value) {
-                Ok(()) => {}
-                Err(_) => return Err(DecoderError::OutOfMemory),
-            }
+        while let Some(item) = items.next() {
+            let value = T::decode(alloc, &item)?;
+            values.push(value)?;
         }
         Ok(values)
     }
@@ -327,18 +323,13 @@ impl<'a> Rlp<'a> {
     ///
     /// Fails as either of them does.
     pub fn val_at<T: Decodable>(&self, alloc: Global, index: usize) -> Result<T, DecoderError>
-        ensures exact { MatchResult (item_at self.now index)
-            (λ item. ReadsValue T.gives T.faults T.may_lack_memory item result)
-            (λ e. result ≡ Err e) }
-        ensures value { IfOk result (λ x. GivesAt T.gives self.now index x) }
-        ensures some { OnOk result (GivesSomeAt T.gives self.now index) }
-        ensures fault { IfErr result (λ e. (FaultsAt T.faults self.now index e)
-            ⊎ ((e ≡ OutOfMemory) × MayLackAt T.may_lack_memory self.now index)) }
+        ensures value { IfOk result (λ x. Gives (reading_at index T.reading) self.now x) }
+        ensures fault { IfErr result (λ e. Faults (reading_at index T.reading) self.now e
+            ⊎ ((e ≡ OutOfMemory) × IsTrue T.reading.takes_memory)) }
+        ensures none { IfErr (item_at self.now index) (λ e. result ≡ Err e) }
     {
-        match self.at(index) {
-            Ok(item) => item.as_val(alloc),
-            Err(fault) => Err(fault),
-        }
+        let item = self.at(index)?;
+        item.as_val(alloc)
     }
 
     /// The values of the items of the item at `index`, counted from 0: [`Rlp::at`], and then
@@ -346,24 +337,15 @@ impl<'a> Rlp<'a> {
     ///
     /// Fails as either of them does.
     pub fn list_at<T: Decodable>(&self, alloc: Global, index: usize) -> Result<Vec<T>, DecoderError>
-        ensures exact { MatchResult (item_at self.now index)
-            (λ item. MatchResult result (λ values. GivesList T.gives item values.items)
-            (λ e. (FaultsAsList T.gives T.faults item e)
-            ⊎ ((e ≡ OutOfMemory) × MayLackAsList T.gives T.may_lack_memory item)))
-            (λ e. result ≡ Err e) }
         ensures value { IfOk result (λ values.
-            GivesAt (λ item xs. GivesList T.gives item xs) self.now index values.items) }
-        ensures some { OnOk result (GivesSomeAt (λ item values.
-            GivesList T.gives item (vec_items {X = T} {Z = Global} values)) self.now index) }
+            Gives (reading_at index (list_reading vec_items T.reading)) self.now values) }
         ensures fault { IfErr result (λ e.
-            (FaultsAt (λ item f. FaultsAsList T.gives T.faults item f) self.now index e)
-            ⊎ ((e ≡ OutOfMemory)
-            × MayLackAt (λ item. MayLackAsList T.gives T.may_lack_memory item) self.now index)) }
+            Faults (reading_at index (list_reading (λ xs. xs) T.reading)) self.now e
+            ⊎ (e ≡ OutOfMemory)) }
+        ensures none { IfErr (item_at self.now index) (λ e. result ≡ Err e) }
     {
-        match self.at(index) {
-            Ok(item) => item.as_list(alloc),
-            Err(fault) => Err(fault),
-        }
+        let item = self.at(index)?;
+        item.as_list(alloc)
     }
 
     /// A decoder of the view's bytes, of the same kind. A strict decoder fails with `RlpIsTooBig`
@@ -449,18 +431,69 @@ impl<'a> Rlp<'a> {
         Rlp { bytes, strict }
     }
 
-    /// The number of items of a list that is all of the bytes, by one walk over it.
-    #[tactic(auto, unfolding(rlp_values::specs::Format::Split::items))]
-    fn strict_count(&self) -> Result<usize, DecoderError>
+    /// The bytes that begin with the items of the view: the value of a framed list. A list that isn't
+    /// framed is taken itself, and has no items, as anything else has.
+    #[inline(always)]
+    #[tactic(auto, using(crate::proofs::Readers::items_by_frame))]
+    pub(crate) fn items(&self) -> &'a [u8]
+        ensures items { split result.now ≡ items self.now.bytes }
+        ensures past { items_fault self.now ≡ None → (i : ℕ)
+            → length (items self.now.bytes) ≤ i
+            → item_at self.now i ≡ Err (fault (after_items result.now)) }
+    {
+        if !self.is_list() {
+            return &[];
+        }
+        match first_framed(self.bytes) {
+            Ok((list, _)) => list.content,
+            Err(_) => self.bytes,
+        }
+    }
+
+    /// The bytes that begin with the items of the list that the view begins with, and the number of
+    /// the items, by one walk. Fails as [`Rlp::item_count`] does.
+    #[tactic(auto, using(crate::proofs::Readers::counted_views))]
+    pub(crate) fn counted_items(&self) -> Result<(&'a [u8], usize), DecoderError>
+        ensures items { IfOk result (λ r. split r.0.now ≡ items self.now.bytes) }
+        ensures count { MatchResult result (λ r. item_count self.now ≡ Ok r.1)
+            (λ e. item_count self.now ≡ Err e) }
+        ensures all { IfOk result (λ r. r.1 ≡ length (split r.0.now)) }
+    {
+        if self.strict {
+            return self.strict_items();
+        }
+        if !self.is_list() {
+            return Err(DecoderError::RlpExpectedToBeList);
+        }
+        let items = self.items();
+        Ok((items, count_items(items)))
+    }
+
+    /// The same as [`Rlp::item_count`], out of line.
+    #[inline(never)]
+    fn walked_count(&self) -> Result<usize, DecoderError>
+        ensures { result ≡ item_count self.now }
+    {
+        let (_, count) = self.counted_items()?;
+        Ok(count)
+    }
+
+    /// The items of a list that is all of the bytes, and their number, by one walk over it.
+    #[tactic(auto, unfolding(rlp_reading::specs::Format::Split::items))]
+    fn strict_items(&self) -> Result<(&'a [u8], usize), DecoderError>
         ensures fault { MatchResult result (λ _. strict_list_fault self.now.bytes ≡ None)
             (λ e. strict_list_fault self.now.bytes ≡ Some e) }
-        ensures count { IfOk result (λ n. n ≡ length (items self.now.bytes)) }
+        ensures items { IfOk result (λ r. split r.0.now ≡ items self.now.bytes) }
+        ensures count { IfOk result (λ r. r.1 ≡ length (items self.now.bytes)) }
     {
         if !self.is_list() {
             return Err(DecoderError::RlpExpectedToBeList);
         }
         match whole_framed(self.bytes) {
-            Ok(list) => try_count_items(list.content),
+            Ok(list) => match try_count_items(list.content) {
+                Ok(count) => Ok((list.content, count)),
+                Err(fault) => Err(fault),
+            },
             Err(fault) => Err(fault),
         }
     }
@@ -473,7 +506,7 @@ impl<'a> Rlp<'a> {
         if !self.strict {
             return Ok(());
         }
-        match self.strict_count() {
+        match self.strict_items() {
             Ok(_) => Ok(()),
             Err(fault) => Err(fault),
         }

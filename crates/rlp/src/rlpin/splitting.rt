@@ -1,12 +1,12 @@
 //! The first item of a view, and the bytes after it.
 
 ghost use Rattle.std.specs.Prelude.{◌≡◌, ◌++◌, Ok, Err, IfOk, IfErr};
-ghost use Rattle.rlp_values.specs.Views.View.{Holds, view_header};
-ghost use Rattle.rlp_values.specs.Values.RawItem.{view_frame};
+ghost use Rattle.rlp_reading.specs.Views.View.{Holds, view_header};
+ghost use Rattle.rlp_reading.specs.Values.RawItem.{view_frame};
 
 use crate::rlpin::rlp::Rlp;
-use rlp_values::error::DecoderError;
-use rlp_values::framed::first_framed;
+use rlp_reading::error::DecoderError;
+use rlp_reading::framed::first_framed;
 
 impl<'a> Rlp<'a> {
     /// A view of the item that the view begins with, of the same kind, and the bytes that follow

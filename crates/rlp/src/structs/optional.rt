@@ -1,12 +1,38 @@
 //! Last fields of a struct that may be missing.
 
-ghost use Rattle.rlp_values.specs.Values.FieldReading.{IsCount, NoneOr, optional_fields};
+ghost use Rattle.rlp_codec.specs.Form.{one_field, optional_fields};
 
 use crate::rlpin::Fields;
-use crate::structs::{DecodeFields, FieldFault};
+use crate::structs::DecodeFields;
+use crate::traits::Decodable;
+use rlp_reading::error::DecoderError;
 use std::alloc::Global;
 
+/// A last field that may be missing.
+#[derive(Drop)]
+pub struct OptionalField<T>(pub Option<T>);
+
+impl<T: Decodable> DecodeFields for OptionalField<T> {
+    ghost reading = { optional_fields (λ x. x.0) (one_field T.reading) };
+
+    fn accepts(len: usize) -> bool {
+        len <= 1
+    }
+
+    fn decode_fields(
+        alloc: Global,
+        fields: &mut Fields<'_>,
+    ) -> Result<OptionalField<T>, DecoderError> {
+        let Some(item) = fields.next() else {
+            return Ok(OptionalField(None));
+        };
+        let value = T::decode(alloc, &item)?;
+        Ok(OptionalField(Some(value)))
+    }
+}
+
 /// Fields that are missing together, read from the last items of a list.
+#[derive(Drop)]
 pub struct OptionalGroup<S>(pub Option<S>);
 
 impl<S: DecodeFields> DecodeFields for OptionalGroup<S> {
@@ -19,14 +45,11 @@ impl<S: DecodeFields> DecodeFields for OptionalGroup<S> {
     fn decode_fields(
         alloc: Global,
         fields: &mut Fields<'_>,
-        len: usize,
-    ) -> Result<OptionalGroup<S>, FieldFault> {
-        if len == 0 {
+    ) -> Result<OptionalGroup<S>, DecoderError> {
+        if fields.is_empty() {
             return Ok(OptionalGroup(None));
         }
-        match S::decode_fields(alloc, fields, len) {
-            Ok(values) => Ok(OptionalGroup(Some(values))),
-            Err(fault) => Err(fault),
-        }
+        let values = S::decode_fields(alloc, fields)?;
+        Ok(OptionalGroup(Some(values)))
     }
 }

@@ -1,18 +1,17 @@
 //! Types whose values are read.
 
-ghost use Rattle.std.specs.Prelude.{◌≡◌, IfOk, IfErr, ◌⊎◌};
-ghost use Rattle.rlp_values.specs.declared.error.DecoderError.{DecoderError};
-ghost use Rattle.rlp_values.specs.declared.error.DecoderError.TheVariants.{OutOfMemory};
-ghost use Rattle.rlp_values.specs.Views.View.{View};
+ghost use Rattle.std.specs.Prelude.{◌≡◌, ◌⊎◌, IfOk, IfErr, IsTrue};
+ghost use Rattle.rlp_reading.specs.declared.error.DecoderError.TheVariants.{OutOfMemory};
+ghost use Rattle.rlp_codec.specs.Form.{Faults, Gives, Reading};
 
 use crate::rlpin::Rlp;
-use rlp_values::error::DecoderError;
+use rlp_reading::error::DecoderError;
 use std::alloc::Global;
 
 /// A type whose values are read from the beginning of a view.
 ///
-/// An implementation says which values and which faults each view gives. `decode` returns nothing
-/// else. Most implementations read one string by
+/// An implementation says what each view gives: a value or a fault. `decode` returns nothing else,
+/// but for `OutOfMemory`. Most implementations read one string by
 /// [`BasicDecoder::decode_value`](crate::BasicDecoder::decode_value), or a value of another type by
 /// [`Rlp::as_val`].
 ///
@@ -20,13 +19,9 @@ use std::alloc::Global;
 /// pub struct BlockNumber(pub u64);
 ///
 /// impl Decodable for BlockNumber {
-///     ghost use Rattle.rlp_values.specs.Values.ValueReading.{FaultsAsNumber, GivesNumber};
+///     ghost use Rattle.rlp.specs.Codec.{newtype, number};
 ///
-///     ghost gives = { λ v n. GivesNumber 8 v n.0 };
-///
-///     ghost faults = { λ v e. FaultsAsNumber 8 v e };
-///
-///     ghost may_lack_memory = { λ v. ⊥ };
+///     ghost reading = { (newtype (λ n. n.0) (number 8)).reading };
 ///
 ///     fn decode(alloc: Global, rlp: &Rlp<'_>) -> Result<BlockNumber, DecoderError> {
 ///         Ok(BlockNumber(rlp.as_val(alloc)?))
@@ -34,23 +29,16 @@ use std::alloc::Global;
 /// }
 /// ```
 pub trait Decodable: Sized + Drop {
-    /// The view gives the value.
-    ghost gives: { View → Self → Type 0 };
-
-    /// The view gives no value, and this is the error.
-    ghost faults: { View → DecoderError → Type 0 };
-
-    /// Reading the view can fail with `OutOfMemory`, if memory is refused. This mostly doesn't hold
-    /// for a view that gives no value: reading then fails with the view's fault.
-    ghost may_lack_memory: { View → Type 0 };
+    /// What contracts see of a value, what each view gives, and whether reading takes memory.
+    ghost reading: { Reading Self };
 
     /// Reads the value that the view begins with. The types of this crate ignore bytes that follow
     /// its item.
     ///
-    /// Fails with a fault of the type, or with `OutOfMemory` if reading the view may lack memory
-    /// and memory is refused.
+    /// Fails with the fault that the view gives, or with `OutOfMemory` if the type takes memory and
+    /// memory is refused.
     fn decode(alloc: Global, rlp: &Rlp<'_>) -> Result<Self, DecoderError>
-        ensures value { IfOk result (λ v. gives rlp.now v) }
-        ensures fault { IfErr result (λ e. (faults rlp.now e) ⊎ ((e ≡ OutOfMemory)
-            × may_lack_memory rlp.now)) };
+        ensures value { IfOk result (λ x. Gives reading rlp.now x) }
+        ensures fault { IfErr result (λ e. Faults reading rlp.now e
+            ⊎ ((e ≡ OutOfMemory) × IsTrue reading.takes_memory)) };
 }

@@ -1,35 +1,26 @@
 //! Types whose values are read back from their encodings.
 
-ghost use Rattle.std.specs.Prelude.{◌↔◌, ◌<◌, ◌^◌, ℕ, List, length};
-ghost use Rattle.rlp_format.specs.Format.WrittenHeader.{AreBytes};
-ghost use Rattle.rlp_values.specs.Values.RoundTrip.{ReadsBack, ReadsStrictly};
-ghost use Rattle.rlp_values.specs.Values.ValueReading.{GivesValue};
-ghost use Rattle.rlp_values.specs.Views.View.{HoldsItem, view_of};
+ghost use Rattle.std.specs.Prelude.{false};
+ghost use Rattle.rlp_codec.specs.Laws.{GivesOnly, IsLawful, IsReadBack, form_of};
 
 use crate::traits::decodable::Decodable;
 use rlp_write::Encodable;
 
 /// A type whose values are read back from their encodings, even if other bytes follow.
 pub trait RoundTrip: Encodable + Decodable {
-    /// A slice that begins with the encoding of a value gives exactly the values that fit and are
-    /// alike to it, and has no fault.
-    ghost round_trip: { (b : List ℕ) (v : Self) → length b < 2 ^ 64 → Self.fits v
-        → HoldsItem (view_of b) (Self.item v)
-        → ReadsBack Self.fits Self.item Self.gives Self.faults (view_of b) v };
+    /// A slice that begins with the encoding of a value that fits gives the value, and contracts
+    /// see two values alike only if both have the same item, and fit if one of them does.
+    ghost round_trip: { IsReadBack (form_of Self.fits Self.item Self.reading) };
 }
 
 /// A type whose values are read from bytes that begin with their encodings, and from no others.
 pub trait Scalar: RoundTrip {
-    /// Bytes give a value if and only if it fits and they begin with its encoding. They have no
-    /// fault then, by the law of `RoundTrip`.
-    ghost exact: { (b : List ℕ) (v : Self) → Self.gives (view_of b) v
-        ↔ GivesValue Self.fits Self.item (view_of b) v };
+    /// A lenient view gives a value only if the value fits and the bytes begin with its encoding.
+    ghost exact: { GivesOnly false (form_of Self.fits Self.item Self.reading) };
 }
 
 /// A type whose values a strict view gives if and only if its bytes are the encoding of the value.
 pub trait StrictRead: RoundTrip {
-    /// On a strict view, bytes give a value if and only if it fits and they are the encoding of its
-    /// item. They have no fault then.
-    ghost strict: { (b : List ℕ) (v : Self) → AreBytes b → length b < 2 ^ 64
-        → ReadsStrictly Self.fits Self.item Self.gives Self.faults b v };
+    /// A strict view gives a value if and only if the value fits and the bytes are its encoding.
+    ghost strict: { IsLawful (form_of Self.fits Self.item Self.reading) };
 }

@@ -1,37 +1,39 @@
 //! What C calls for records.
 
-ghost use Rattle.std.specs.Prelude.{◌≡◌, ◌+◌, ◌≤◌, ◌<◌, ◌^◌, length};
+ghost use Rattle.std.specs.Prelude.{◌≡◌, ◌+◌, ◌<◌, ◌^◌, ◌↔◌, IsOk, IsTrue, length};
 ghost use Rattle.rlp_format.specs.Format.Encoding.{encoding};
-ghost use Rattle.rlp_values.specs.Views.View.{strict_view_of};
-ghost use Rattle.rlp_values.specs.declared.error.DecoderError.{DecoderError};
-ghost use Rattle.rlp_records.specs.Alone.{FaultsAlone, bytes_alone, unknown_type};
-ghost use Rattle.rlp_transactions.specs.LegacyTransaction.{signed_legacy_transaction};
-ghost use Rattle.rlp_transactions.specs.Transaction.{transaction, typed_transactions};
+ghost use Rattle.rlp_reading.specs.Format.Split.{items};
+ghost use Rattle.rlp_reading.specs.Views.View.{strict_view_of};
+ghost use Rattle.rlp_records.specs.Alone.{bytes_alone};
+ghost use Rattle.rlp_transactions.specs.Transaction.{transaction};
 ghost use Rattle.rlp_transactions.specs.TransactionParts.{type_of};
 ghost use Rattle.rlp_transactions.specs.declared.transaction.Transaction.{Transaction};
 ghost use Rattle.rlp_headers.specs.Header.{header};
 ghost use Rattle.rlp_headers.specs.declared.header.Header.{Header as BlockHeader};
 ghost use Rattle.rlp_c.specs.declared.records.kinds.Record.TheVariants.{Header};
-ghost use Rattle.rlp_c.specs.Places.{ArePlaced, IsFound, fields_of, place_of};
-ghost use Rattle.rlp_c.specs.Records.{IsRecordRead, IsTransactionRead, record_of_type};
+ghost use Rattle.rlp_c.specs.Fields.{numbered, record_result};
+ghost use Rattle.rlp_c.specs.Kinds.{most_fields};
+ghost use Rattle.rlp_c.specs.Places.{IsFound, fields_in, fields_of, place_of};
+ghost use Rattle.rlp_c.specs.Records.{IsRecordRead, IsTransactionRead, faulty_field, record_of_type, transaction_result};
+ghost use Rattle.rlp_c.specs.Rows.{ArePlaced};
 
-use super::fields::check_fields;
-use super::kinds::Record;
+use super::fields::check_counted;
+use super::kinds::{Record, most_fields};
 use crate::item::RlpItem;
-use crate::split::split_payload;
+use crate::split::split_list;
 use crate::status::{RLP_NO_ROOM, RLP_OK, RLP_UNKNOWN_TYPE, status_of};
 use rlp::DecoderError;
-use rlp_values::framed::{begins_as_list, whole_framed};
+use rlp_reading::framed::begins_as_list;
+use rlp_reading::items::{ItemReader, count_items};
 
 /// Writes a row for each field of the transaction that the bytes are by themselves, as in EIP-2718,
 /// and its type, which is 0 for a legacy transaction. `count` gets the number of fields, or if one
-/// of them has a fault, its number from 1 on, or else 0. The elements of the array behind the fields
-/// stay as they were.
+/// of them has a fault or is missing, its number from 1 on, or else 0. The elements of the array
+/// behind the fields stay as they were.
 ///
-/// The transactions and their fields are those of `rlp_transactions`: if all fields are found, that
-/// crate reads the bytes without a fault. A fault may have another status here than in that crate.
-/// Here it is the first one in the order of the bytes, so a faulty field comes before a missing one,
-/// and a parity of 2 is too big.
+/// The transactions and their fields are those of `rlp_transactions`: the fields are found exactly
+/// if that crate reads the bytes, and else the fault is that crate's. Only an unknown type has a
+/// status of its own.
 #[unsafe(no_mangle)]
 pub extern "C" fn rlp_transaction(
     bytes: &[u8],
@@ -40,13 +42,13 @@ pub extern "C" fn rlp_transaction(
     count: &mut usize,
 ) -> u32
     ensures answer { IsTransactionRead bytes.now out.old out.new
-        transaction_type.old transaction_type.new count.new result }
+        transaction_type.old transaction_type.new count.new result (transaction_result bytes.now) }
+    ensures exact { IsFound result ↔ IsOk (transaction_result bytes.now) }
     ensures written { (t : Transaction) → transaction.Fits t
         → bytes.now ≡ bytes_alone (transaction.item t)
         → (transaction_type.new ≡ type_of t)
-        × ArePlaced (place_of t) (fields_of t) out.old out.new count.new result }
-    ensures sound { IsFound result → (e : DecoderError)
-        → ¬ FaultsAlone signed_legacy_transaction unknown_type typed_transactions bytes.now e }
+        × ArePlaced (place_of t) (encoding (fields_of t)) (fields_in (fields_of t))
+        out.old out.new count.new result }
 {
     read_transaction(bytes, transaction_type, out, count)
 }
@@ -59,7 +61,7 @@ fn read_transaction(
     count: &mut usize,
 ) -> u32
     ensures { IsTransactionRead bytes.now out.old out.new
-        transaction_type.old transaction_type.new count.new result }
+        transaction_type.old transaction_type.new count.new result (transaction_result bytes.now) }
 {
     let [first, payload @ ..] = bytes else {
         *count = 0;
@@ -85,11 +87,12 @@ fn read_transaction(
 /// `rlp_headers`. Otherwise as [`rlp_transaction`].
 #[unsafe(no_mangle)]
 pub extern "C" fn rlp_header_fields(bytes: &[u8], out: &mut [RlpItem], count: &mut usize) -> u32
-    ensures answer { IsRecordRead Header 0 bytes.now out.old out.new count.new result }
+    ensures answer { IsRecordRead Header 0 bytes.now out.old out.new count.new result
+        (numbered (header.reading.read (strict_view_of bytes.now))) }
+    ensures exact { IsFound result ↔ IsOk (header.reading.read (strict_view_of bytes.now)).result }
     ensures written { (h : BlockHeader) → header.Fits h → bytes.now ≡ encoding (header.item h)
-        → ArePlaced 0 (header.item h) out.old out.new count.new result }
-    ensures sound { IsFound result → (e : DecoderError)
-        → ¬ header.faults (strict_view_of bytes.now) e }
+        → ArePlaced 0 (encoding (header.item h)) (fields_in (header.item h))
+        out.old out.new count.new result }
 {
     read_record(Record::Header, bytes, 0, out, count)
 }
@@ -107,7 +110,7 @@ fn record_of_type(kind: u8) -> Option<Record>
     }
 }
 
-/// Writes a row for each field of the list that these bytes are, which begin at `place`.
+/// Writes a row for each field of the record that these bytes are, which begin at `place`.
 fn read_record(
     list: Record,
     bytes: &[u8],
@@ -116,28 +119,41 @@ fn read_record(
     count: &mut usize,
 ) -> u32
     requires { place + length bytes.now < 2 ^ 64 }
-    ensures { IsRecordRead list place bytes.now out.old out.new count.new result }
+    ensures { IsRecordRead list place bytes.now out.old out.new count.new result
+        (record_result list (strict_view_of bytes.now)) }
 {
-    *count = 0;
-    if !begins_as_list(bytes) {
-        return status_of(&DecoderError::RlpExpectedToBeList);
+    let status = split_list(bytes, place, out, count);
+    if !is_found(status) {
+        *count = faulty_field(list, bytes, 0, status);
+        return status;
     }
-    let framed = match whole_framed(bytes) {
-        Ok(framed) => framed,
-        Err(fault) => return status_of(&fault),
-    };
-    let fields = match split_payload(framed.content, place + framed.header.header_len, out) {
-        Ok(fields) => fields,
-        Err(fault) => return status_of(&fault),
-    };
-    if let Err((index, fault)) = check_fields(list, 4, framed.content) {
-        *count = index + 1;
-        return status_of(&fault);
+    match check_counted(list, *count, bytes) {
+        Ok(()) => status,
+        Err((number, fault)) => {
+            let status = status_of(&fault);
+            *count = faulty_field(list, bytes, number, status);
+            status
+        }
     }
-    *count = fields;
-    if fields <= out.len() {
-        RLP_OK
-    } else {
-        RLP_NO_ROOM
+}
+
+/// Whether the status says that all items were found.
+fn is_found(status: u32) -> bool
+    ensures { IsTrue result ↔ IsFound status }
+{
+    status == RLP_OK || status == RLP_NO_ROOM
+}
+
+/// The number of the field that has the fault of this status, if the number that the fault came with
+/// is `number`.
+#[tactic(auto, unfolding(rlp_reading::specs::Format::Split::items))]
+fn faulty_field(list: Record, bytes: &[u8], number: usize, status: u32) -> usize
+    ensures { result ≡ faulty_field (most_fields list) (length (items bytes.now)) number status }
+{
+    if number > 0 || status != 5 {
+        return number;
     }
+    let mut items = ItemReader::new(bytes);
+    items.enter_list();
+    count_items(items.rest()).min(most_fields(list)) + 1
 }

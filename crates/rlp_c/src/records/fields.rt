@@ -1,123 +1,139 @@
 //! Records that are checked, field by field.
 
-ghost use Rattle.std.specs.Prelude.{◌≡◌, ◌≤◌, length, Ok, None, Some, IfErr, MatchResult};
-ghost use Rattle.rlp_values.specs.Format.Framing.{IsFramedItem};
-ghost use Rattle.rlp_values.specs.Format.StringReading.{read_string};
-ghost use Rattle.rlp_c.specs.Fields.{field_fault, fields_fault, length_fault, number_fault, string_fault, text_fault};
+ghost use Rattle.std.specs.Prelude.{◌≡◌, Ok, Err, MatchResult, OnOk};
+ghost use Rattle.std.specs.Int.Digits.{number_from_digits};
+ghost use Rattle.rlp_format.specs.Format.WrittenHeader.{big_endian};
+ghost use Rattle.rlp_reading.specs.Views.View.{item_count, strict_view_of};
+ghost use Rattle.rlp_codec.specs.Form.{and_then, bit_of, fault_of, fixed_of, number_of, string_of};
+ghost use Rattle.rlp_codec.specs.Kinds.{read_kind};
+ghost use Rattle.rlp_transactions.specs.Recipient.{account_of};
+ghost use Rattle.rlp_c.specs.Fields.{field_result, record_result, without_value};
 
 use super::kinds::{Kind, Record, kind_at, may_end};
-use rlp::DecoderError;
-use rlp_values::framed::{Framed, first_framed};
-use rlp_values::string_reading::string_in;
+use rlp::{DecoderError, Rlp};
+use rlp_reading::items::ItemReader;
 
-/// Tests the fields in the payload of a record, in which at most `left` lists may stand one in the
-/// other. It fails with the first fault, and with the number of fields in front of it.
+/// Tests whether the bytes of an item are a record. It fails with the fault of the codec, and with
+/// the number of the field that has the fault, from 1 on, or 0 for the record as a whole.
 #[cycle(fields)]
-pub(crate) fn check_fields(
-    list: Record,
-    left: u32,
-    payload: &[u8],
-) -> Result<(), (usize, DecoderError)>
-    ensures fault { MatchResult result (λ _. fields_fault left list payload.now ≡ None)
-        (λ e. fields_fault left list payload.now ≡ Some e) }
-    ensures few { IfErr result (λ e. e.0 ≤ length payload.now) }
+#[tactic(auto, using(crate::proofs::Checking::walk))]
+pub(crate) fn check_list(list: Record, bytes: &[u8]) -> Result<(), (usize, DecoderError)>
+    ensures { MatchResult result (λ x. record_result list (strict_view_of bytes.now) ≡ Ok x)
+        (λ e. record_result list (strict_view_of bytes.now) ≡ Err (e.0, fault_of e.1)) }
 {
-    if left == 0 {
-        return Err((0, DecoderError::RlpExpectedToBeData));
+    match Rlp::new_strict(bytes).item_count() {
+        Ok(count) => check_counted(list, count, bytes),
+        Err(fault) => Err((0, fault)),
     }
-    let mut rest = payload;
-    let mut count = 0;
-    while !rest.is_empty() {
-        let (item, others) = match first_framed(rest) {
-            Ok(first) => first,
-            Err(fault) => return Err((count, fault)),
-        };
-        if let Err(fault) = check_field(kind_at(list, count), left - 1, &item) {
-            return Err((count, fault));
-        }
-        count += 1;
-        rest = others;
-    }
+}
+
+/// Does what [`check_list`] does, for a list of `count` items.
+#[cycle(fields)]
+#[tactic(auto, using(crate::proofs::Checking::walk))]
+pub(crate) fn check_counted(
+    list: Record,
+    count: usize,
+    bytes: &[u8],
+) -> Result<(), (usize, DecoderError)>
+    requires { item_count (strict_view_of bytes.now) ≡ Ok count }
+    ensures { MatchResult result (λ x. record_result list (strict_view_of bytes.now) ≡ Ok x)
+        (λ e. record_result list (strict_view_of bytes.now) ≡ Err (e.0, fault_of e.1)) }
+{
     if !may_end(list, count) {
-        return Err((count, DecoderError::RlpIncorrectListLen));
+        return Err((0, DecoderError::RlpIncorrectListLen));
+    }
+    let mut items = ItemReader::new(bytes);
+    items.enter_list();
+    let mut index = 0;
+    while let Ok(item) = items.next_item() {
+        if let Err(fault) = check_field(kind_at(list, index), item) {
+            return Err((index + 1, fault));
+        }
+        index += 1;
     }
     Ok(())
 }
 
 /// Tests one field, of this kind if there is one.
 #[cycle(fields)]
-fn check_field(kind: Option<Kind>, left: u32, item: &Framed<'_>) -> Result<(), DecoderError>
-    ensures { MatchResult result
-        (λ _. field_fault (fields_fault left) kind item.now.item.now ≡ None)
-        (λ e. field_fault (fields_fault left) kind item.now.item.now ≡ Some e) }
+fn check_field(kind: Option<Kind>, item: &[u8]) -> Result<(), DecoderError>
+    ensures { MatchResult result (λ x. field_result kind (strict_view_of item.now) ≡ Ok x)
+        (λ e. field_result kind (strict_view_of item.now) ≡ Err (fault_of e)) }
 {
     match kind {
         None => Err(DecoderError::RlpIncorrectListLen),
-        Some(Kind::List(list)) => {
-            if !item.is_list() {
-                return Err(DecoderError::RlpExpectedToBeList);
-            }
-            match check_fields(list, left, item.content) {
-                Ok(()) => Ok(()),
-                Err((_, fault)) => Err(fault),
-            }
+        Some(Kind::Number(most)) => check_number(string_of(item)?, most),
+        Some(Kind::Parity) => check_parity(string_of(item)?),
+        Some(Kind::Exactly(len)) => check_len(string_of(item)?, len),
+        Some(Kind::Recipient) => check_recipient(string_of(item)?),
+        Some(Kind::Bytes) => {
+            string_of(item)?;
+            Ok(())
         }
-        Some(kind) => check_string(kind, item.item),
-    }
-}
-
-/// Tests a field that has to be a string of this kind.
-fn check_string(kind: Kind, item: &[u8]) -> Result<(), DecoderError>
-    ensures { MatchResult result (λ _. string_fault kind (read_string item.now) ≡ None)
-        (λ e. string_fault kind (read_string item.now) ≡ Some e) }
-{
-    match string_in(item) {
-        Ok(text) => check_text(kind, text),
-        Err(fault) => Err(fault),
-    }
-}
-
-/// Tests the string of a field.
-fn check_text(kind: Kind, text: &[u8]) -> Result<(), DecoderError>
-    ensures { MatchResult result (λ _. text_fault kind text.now ≡ None)
-        (λ e. text_fault kind text.now ≡ Some e) }
-{
-    match kind {
-        Kind::Number(most) => check_number(text, most),
-        Kind::Parity => match text {
-            [first, ..] if *first > 1 => Err(DecoderError::RlpIsTooBig),
-            _ => check_number(text, 1),
+        Some(Kind::List(list)) => match check_list(list, item) {
+            Ok(()) => Ok(()),
+            Err((_, fault)) => Err(fault),
         },
-        Kind::Exactly(len) => check_len(text, len),
-        Kind::Recipient => {
-            if text.is_empty() {
-                return Ok(());
-            }
-            check_len(text, 20)
-        }
-        Kind::Bytes => Ok(()),
-        Kind::List(_) => Err(DecoderError::RlpExpectedToBeList),
     }
+}
+
+/// The string that an item is.
+fn string_of(item: &[u8]) -> Result<&[u8], DecoderError>
+    ensures { MatchResult result (λ d. string_of (strict_view_of item.now) ≡ Ok d.now)
+        (λ e. string_of (strict_view_of item.now) ≡ Err (fault_of e)) }
+{
+    Rlp::new_strict(item).decoder().string()
 }
 
 /// Tests the digits of a number, which may have at most `most` bytes.
-fn check_number(digits: &[u8], most: usize) -> Result<(), DecoderError>
-    ensures { MatchResult result (λ _. number_fault most digits.now ≡ None)
-        (λ e. number_fault most digits.now ≡ Some e) }
+pub(crate) fn check_number(digits: &[u8], most: usize) -> Result<(), DecoderError>
+    ensures number { MatchResult result
+        (λ _. number_of most digits.now ≡ Ok (number_from_digits 256 digits.now))
+        (λ e. number_of most digits.now ≡ Err (fault_of e)) }
+    ensures digits { OnOk result (big_endian (number_from_digits 256 digits.now) ≡ digits.now) }
 {
     if digits.len() > most {
         return Err(DecoderError::RlpIsTooBig);
     }
     match digits {
-        [0, ..] => Err(DecoderError::RlpInvalidIndirection),
-        _ => Ok(()),
+        [] => Ok(()),
+        [first, ..] => {
+            if *first == 0 {
+                return Err(DecoderError::RlpInvalidIndirection);
+            }
+            Ok(())
+        }
     }
+}
+
+/// Tests the digits of the number 0 or 1.
+fn check_parity(digits: &[u8]) -> Result<(), DecoderError>
+    ensures { MatchResult result
+        (λ x. without_value (and_then (number_of 1 digits.now) bit_of) ≡ Ok x)
+        (λ e. without_value (and_then (number_of 1 digits.now) bit_of) ≡ Err (fault_of e)) }
+{
+    check_number(digits, 1)?;
+    match digits {
+        [] | [1] => Ok(()),
+        _ => Err(DecoderError::Custom("invalid boolean value")),
+    }
+}
+
+/// Tests whether a string is the address of an account or empty.
+fn check_recipient(text: &[u8]) -> Result<(), DecoderError>
+    ensures { MatchResult result (λ x. without_value (read_kind account_of text.now) ≡ Ok x)
+        (λ e. without_value (read_kind account_of text.now) ≡ Err (fault_of e)) }
+{
+    if text.is_empty() {
+        return Ok(());
+    }
+    check_len(text, 20)
 }
 
 /// Tests whether a string has this length.
 fn check_len(text: &[u8], len: usize) -> Result<(), DecoderError>
-    ensures { MatchResult result (λ _. length_fault len text.now ≡ None)
-        (λ e. length_fault len text.now ≡ Some e) }
+    ensures { MatchResult result (λ _. fixed_of len text.now ≡ Ok text.now)
+        (λ e. fixed_of len text.now ≡ Err (fault_of e)) }
 {
     if text.len() < len {
         return Err(DecoderError::RlpIsTooShort);

@@ -1,7 +1,7 @@
 //! The kinds of the fields of each record.
 
 ghost use Rattle.std.specs.Prelude.{◌≡◌};
-ghost use Rattle.rlp_c.specs.Kinds.{kind_at, may_end};
+ghost use Rattle.rlp_c.specs.Kinds.{kind_at, may_end, most_fields};
 
 /// What a field is.
 #[derive(Clone, Copy)]
@@ -184,5 +184,22 @@ pub fn may_end(list: Record, count: usize) -> bool
         Record::AccessList => true,
         Record::Hashes => true,
         Record::Authorizations => true,
+    }
+}
+
+/// The most fields that a record has, or 0 for a list of any number of items.
+pub fn most_fields(list: Record) -> usize
+    ensures { result ≡ most_fields list }
+{
+    match list {
+        Record::Legacy => LEGACY.len(),
+        Record::AccessListPayload => ACCESS_LIST.len(),
+        Record::FeeMarketPayload => FEE_MARKET.len(),
+        Record::BlobPayload => BLOB.len(),
+        Record::SetCodePayload => SET_CODE.len(),
+        Record::Header => HEADER.len(),
+        Record::Access => ACCESS.len(),
+        Record::Authorization => AUTHORIZATION.len(),
+        Record::AccessList | Record::Hashes | Record::Authorizations => 0,
     }
 }

@@ -6,7 +6,7 @@
 ghost use Rattle.rlp_headers.specs.Forks.{london_fields, shanghai_fields, cancun_fields};
 
 use rlp::{
-    AppendFields, DecodeFields, Field, FieldFault, Fields, Optional, OptionalGroup,
+    AppendFields, DecodeFields, DecoderError, Fields, Optional, OptionalField, OptionalGroup,
     OptionalGroupOf, RlpStream, Uint,
 };
 use rlp_records::Hash;
@@ -47,18 +47,13 @@ impl DecodeFields for London {
     ghost reading = { london_fields.reading };
 
     fn accepts(len: usize) -> bool {
-        <(Field<Uint<32>>, OptionalGroup<Shanghai>) as DecodeFields>::accepts(len)
+        <(Uint<32>, OptionalGroup<Shanghai>) as DecodeFields>::accepts(len)
     }
 
-    fn decode_fields(
-        alloc: Global,
-        fields: &mut Fields<'_>,
-        len: usize,
-    ) -> Result<London, FieldFault> {
+    fn decode_fields(alloc: Global, fields: &mut Fields<'_>) -> Result<London, DecoderError> {
         rlp::decode_fields!(
-            alloc,
+            fields alloc,
             fields,
-            len,
             London {
                 base_fee_per_gas,
                 since_shanghai: (..)?
@@ -94,18 +89,13 @@ impl DecodeFields for Shanghai {
     ghost reading = { shanghai_fields.reading };
 
     fn accepts(len: usize) -> bool {
-        <(Field<Hash>, OptionalGroup<Cancun>) as DecodeFields>::accepts(len)
+        <(Hash, OptionalGroup<Cancun>) as DecodeFields>::accepts(len)
     }
 
-    fn decode_fields(
-        alloc: Global,
-        fields: &mut Fields<'_>,
-        len: usize,
-    ) -> Result<Shanghai, FieldFault> {
+    fn decode_fields(alloc: Global, fields: &mut Fields<'_>) -> Result<Shanghai, DecoderError> {
         rlp::decode_fields!(
-            alloc,
+            fields alloc,
             fields,
-            len,
             Shanghai {
                 withdrawals_root,
                 since_cancun: (..)?
@@ -157,21 +147,13 @@ impl DecodeFields for Cancun {
     ghost reading = { cancun_fields.reading };
 
     fn accepts(len: usize) -> bool {
-        <(
-            Field<u64>,
-            (Field<u64>, (Field<Hash>, OptionalGroup<(Field<Hash>, ())>)),
-        ) as DecodeFields>::accepts(len)
+        <(u64, (u64, (Hash, OptionalField<Hash>))) as DecodeFields>::accepts(len)
     }
 
-    fn decode_fields(
-        alloc: Global,
-        fields: &mut Fields<'_>,
-        len: usize,
-    ) -> Result<Cancun, FieldFault> {
+    fn decode_fields(alloc: Global, fields: &mut Fields<'_>) -> Result<Cancun, DecoderError> {
         rlp::decode_fields!(
-            alloc,
+            fields alloc,
             fields,
-            len,
             Cancun {
                 blob_gas_used,
                 excess_blob_gas,

@@ -10,8 +10,8 @@ use Rattle.rlp_write.specs.Streams.Stream.{closed_payload_around, State, list_en
 use Rattle.rlp_write.specs.Streams.Placeholders.{begin_of, lists_of, IsLaid, Descends}
 use Rattle.rlp_write.specs.Streams.Closing.{header_len, closed_len, left_of}
 use Rattle.rlp_write.specs.Streams.Layout.{state_of}
-use Rattle.rlp_format.specs.Lemmas.Digits.{big_endian_length}
-use Rattle.rlp_format.specs.Lemmas.Headers.{written_header_short, written_header_long}
+use Rattle.rlp_format.proofs.Lemmas.Digits.{big_endian_length}
+use Rattle.rlp_format.proofs.Lemmas.Headers.{written_header_short, written_header_long}
 use Rattle.rlp_write.proofs.Streams.FlatBuffer.{start_le}
 
 closed_len_is : (start : ℕ) (b x : List ℕ) (ps : List Placeholder) → IsLaid start b ps

@@ -10,7 +10,7 @@ use Rattle.rlp_write.specs.Streams.Stream.{is_last, awaits_after, list_encoding}
 use Rattle.rlp_write.specs.Streams.Placeholders.{Descends, closes, with_innermost, with_awaits, unbounded_innermost}
 use Rattle.rlp_write.specs.Streams.Closing.{filled, counted, closed_bytes, header_len, growth}
 use Rattle.rlp_write.proofs.Streams.MovedBytes.{follows}
-use Rattle.rlp_format.specs.Lemmas.Headers.{written_header_short, written_header_long}
+use Rattle.rlp_format.proofs.Lemmas.Headers.{written_header_short, written_header_long}
 
 -- the first of a list are the last of its reverse
 pub reverse_kept : (n : ℕ) (ps : List Placeholder) → reverse (take n ps) ≡ drop (length (reverse ps) - n) (reverse ps)

@@ -3,7 +3,7 @@ use Rattle.std.proofs.Common.{◌≡◌, ℕ, ◌+◌, ◌<◌, List, [], ◌∷
 use Rattle.std.proofs.lemmas.List.{map_more, flat_map_more}
 use Rattle.rlp_format.specs.Format.Item.{Item, string, list, list_of}
 use Rattle.rlp_format.specs.Format.Encoding.{encoding, join}
-use Rattle.rlp_format.specs.Lemmas.Encodings.{encoding_list}
+use Rattle.rlp_format.proofs.Lemmas.Encodings.{encoding_list}
 use Rattle.rlp_write.specs.Streams.Stream.{Stack, State, IsFinished, list_encoding, put_item}
 use Rattle.rlp_write.proofs.Streams.States.{put_item-finished}
 

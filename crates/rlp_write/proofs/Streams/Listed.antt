@@ -5,7 +5,7 @@ use Rattle.std.proofs.lemmas.Bool.Decides.{nat_tests}
 use Rattle.rlp_format.specs.Format.Item.{Item, list_of, is_list}
 use Rattle.rlp_format.specs.Format.Encoding.{encoding, join}
 use Rattle.rlp_write.specs.Streams.Stream.{State, list_encoding, add, put, put_item, count, with_is_counted, with_list, add_all}
-use Rattle.rlp_format.specs.Lemmas.Encodings.{encoding_list}
+use Rattle.rlp_format.proofs.Lemmas.Encodings.{encoding_list}
 
 -- `b || true` is true
 pub or_true : (b : Bool) → (b || true) ≡ true

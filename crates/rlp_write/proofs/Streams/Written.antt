@@ -10,8 +10,8 @@ use Rattle.rlp_format.specs.Format.WrittenHeader.{big_endian, written_header}
 use Rattle.rlp_format.specs.Format.Encoding.{encoding, is_low_byte, BeginsWith}
 use Rattle.rlp_format.specs.Values.Value.{number_item}
 use Rattle.rlp_write.proofs.Streams.MovedBytes.{follows}
-use Rattle.rlp_format.specs.Lemmas.Digits.{big_endian_step}
-use Rattle.rlp_format.specs.Lemmas.Headers.{written_header_short, written_header_long}
+use Rattle.rlp_format.proofs.Lemmas.Digits.{big_endian_step}
+use Rattle.rlp_format.proofs.Lemmas.Headers.{written_header_short, written_header_long}
 
 -- a string that is its own encoding
 pub encoding_low : (s : List ℕ) → is_low_byte s ≡ true → encoding (string s) ≡ s

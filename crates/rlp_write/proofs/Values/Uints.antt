@@ -3,8 +3,8 @@ use Rattle.std.proofs.Common.{◌≡◌, ◌≢◌, ◌+◌, ◌*◌, ℕ, List,
 use Rattle.std.specs.Int.Digits.{number_from_digits, number_from_digits_after}
 use Rattle.rlp_format.specs.Format.WrittenHeader.{big_endian}
 use Rattle.rlp_format.specs.Values.Value.{FitsBytes}
-use Rattle.rlp_format.specs.Lemmas.Digits.{big_endian_zero, digits_again, digits_fit}
-use Rattle.rlp_format.specs.Lemmas.Digits.{bytes_held}
+use Rattle.rlp_format.proofs.Lemmas.Digits.{big_endian_zero, digits_again, digits_fit}
+use Rattle.rlp_format.proofs.Lemmas.Digits.{bytes_held}
 
 -- a leading zero doesn't change the number
 pub zero_in_front : (ds : List ℕ) → get_or ds 0 0 ≡ 0 → number_from_digits 256 (drop 1 ds) ≡ number_from_digits 256 ds

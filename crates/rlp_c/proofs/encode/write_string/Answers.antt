@@ -2,7 +2,7 @@ use Rattle.std.proofs.Common.{◌≡◌, ◌++◌, [], sym, ap, ◌∙◌, subst
 use Rattle.rlp_format.specs.Format.Item.{string}
 use Rattle.rlp_format.specs.Format.Encoding.{encoding}
 use Rattle.rlp_c.specs.Written.{IsWritten}
-use Rattle.rlp_values.proofs.Trees.Needless.{high_written, low_again}
+use Rattle.rlp_reading.proofs.Trees.Needless.{high_written, low_again}
 use Rattle.rlp_c.proofs.encode.write_string.Goals as goal
 
 pub returns-then-is_low_byte : goal.returns-then-is_low_byte

@@ -1,7 +1,7 @@
 use Rattle.std.proofs.Common.{◌≡◌, Some, refl, arith, subst, min}
-use Rattle.rlp_values.specs.Format.Strict.{IsCanonicalWithin}
-use Rattle.rlp_values.specs.Format.TreeFaults.{tree_fault}
-use Rattle.rlp_values.specs.Format.Walk.{IsWalked}
+use Rattle.rlp_reading.specs.Format.Strict.{IsCanonicalWithin}
+use Rattle.rlp_reading.specs.Format.TreeFaults.{tree_fault}
+use Rattle.rlp_reading.specs.Format.Walk.{IsWalked}
 use Rattle.rlp_c.specs.Flat.{refused, row_of}
 use Rattle.rlp_c.proofs.Flattening.{flattened, lacking}
 use Rattle.rlp_c.proofs.flatten.rlp_flatten.Goals as goal

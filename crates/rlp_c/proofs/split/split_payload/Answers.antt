@@ -1,8 +1,8 @@
 use Rattle.std.proofs.Common.{rules, sym, ap, ◌∙◌}
-use Rattle.rlp_values.specs.Format.Framing.{framing}
-use Rattle.rlp_values.specs.Lemmas.Frames.{item_some}
-use Rattle.rlp_values.proofs.Format.Following.{framing-followed}
-use Rattle.rlp_values.proofs.Format.StrictLists.{no_bytes, some_bytes}
+use Rattle.rlp_reading.specs.Format.Framing.{framing}
+use Rattle.rlp_reading.proofs.Lemmas.Frames.{item_some}
+use Rattle.rlp_reading.proofs.Format.Following.{framing-followed}
+use Rattle.rlp_reading.proofs.Format.StrictLists.{no_bytes, some_bytes}
 use Rattle.rlp_c.proofs.Splitting.{splitting_ends, splitting_fault, splitting_none, splitting_one}
 use Rattle.rlp_c.proofs.split.split_payload.Goals as goal
 

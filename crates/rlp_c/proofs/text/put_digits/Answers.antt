@@ -1,6 +1,6 @@
 use Rattle.std.proofs.Common.{◌≡◌, [], ◌∷◌, ◌++◌, codes, take, ap, ◌∙◌, get_or, arith}
 use Rattle.std.proofs.lemmas.List.{append_assoc, take_all}
-use Rattle.rlp_values.specs.Views.Text.{hex, hex_pair}
+use Rattle.rlp_reading.specs.Views.Text.{hex, hex_pair}
 use Rattle.rlp_c.proofs.Texts.{hex-more, put_as, put_both}
 use Rattle.rlp_c.proofs.text.put_digits.Goals as goal
 

@@ -1,5 +1,5 @@
 use Rattle.std.proofs.Common.{◌++◌, codes, take}
-use Rattle.rlp_values.specs.Views.Text.{hex}
+use Rattle.rlp_reading.specs.Views.Text.{hex}
 use Rattle.rlp_c.specs.Written.{IsPut}
 use Rattle.rlp_c.proofs.text.put_digits.Given as goal
 

@@ -1,5 +1,5 @@
 use Rattle.std.proofs.Common.{◌++◌, codes, sym, ap, ◌∙◌, arith}
-use Rattle.rlp_values.specs.Views.Text.{error_name}
+use Rattle.rlp_reading.specs.Views.Text.{error_name}
 use Rattle.rlp_c.proofs.Texts.{put_as, put_both}
 use Rattle.rlp_c.proofs.text.put_name.Goals as goal
 

@@ -1,4 +1,4 @@
-use Rattle.std.proofs.Common.{arith, sym, ap, ◌+◌, cond, get_or, ◌∙◌}
+use Rattle.std.proofs.Common.{arith, sym, ap, ◌+◌, cond, ◌∙◌}
 use Rattle.rlp_json.proofs.PathLemmas.{shared_in-end, shared_in-other, shared_in-same, shared_in-start}
 use Rattle.rlp_json.proofs.paths.shared_len.Goals as goal
 use Rattle.rlp_json.proofs.paths.shared_len.Goals.{then-is_level, else-is_level}

@@ -1,16 +1,24 @@
-use Rattle.std.proofs.Common.{inl, arith, subst}
-use Rattle.rlp.specs.Lemmas.Reading.{bytes_held}
-use Rattle.rlp_node_record.specs.NodeRecord.{AreRecordKeys, IsKeysFault, faulty_keys}
-use Rattle.rlp_node_record.specs.NodeLaws.{record_fault, record_read}
+use Rattle.std.proofs.Common.{Ok, Err, ap, inl, arith, ◌∙◌, sym}
+use Rattle.rlp_reading.proofs.Lemmas.Reading.{bytes_held}
+use Rattle.rlp.specs.Form.{fault_of}
+use Rattle.rlp_node_record.specs.NodeRecord.{keys_of, test_keys}
+use Rattle.rlp_node_record.specs.NodeLaws.{keys_pass, read_tested, record_only}
 use Rattle.rlp_node_record.proofs.node_record.record_fields.Goals as goal
 
+pub returns-in-Ok-clause-value : goal.returns-in-Ok-clause-value
+returns-in-Ok-clause-value c =
+    let keys = c.in-Ok.ensures.keys in
+    read_tested c.args.bytes.now c.in_ok-fields.fields (Ok tt) (omega arith) c.in_ok-fields.ensures.value
+    (ap (λ pairs. test_keys (keys_of pairs)) (sym c.as_slice.ensures.value) ∙ keys_pass c.as_slice.result.now keys.0 keys.1)
+
+pub returns-in-Ok-clause-record : goal.returns-in-Ok-clause-record
+returns-in-Ok-clause-record c =
+    let keys = c.in-Ok.ensures.keys in
+    (record_only c.args.bytes.now c.in_ok-fields.fields (bytes_held c.args.bytes.now c.type_inv.bytes)
+    (read_tested c.args.bytes.now c.in_ok-fields.fields (Ok tt) (omega arith) c.in_ok-fields.ensures.value
+    (ap (λ pairs. test_keys (keys_of pairs)) (sym c.as_slice.ensures.value) ∙ keys_pass c.as_slice.result.now keys.0 keys.1))).0
+
 pub returns-in-Err-clause-fault : goal.returns-in-Err-clause-fault
-returns-in-Err-clause-fault c = record_fault c.args.bytes.now c.in-Err.fault (bytes_held c.args.bytes.now c.type_inv.bytes) (omega arith) c.in-Err.ensures.fault
-
-pub returns-in-Ok-test_keys-clause-value : goal.returns-in-Ok-test_keys-clause-value
-returns-in-Ok-test_keys-clause-value c = record_read c.args.bytes.now c.in-Ok.fields (bytes_held c.args.bytes.now c.type_inv.bytes) (omega arith)
-    c.in-Ok.ensures.value (subst AreRecordKeys c.as_slice.ensures.value c.in-Ok-test_keys.ensures.keys)
-
-pub returns-in-Err-test_keys-clause-fault : goal.returns-in-Err-test_keys-clause-fault
-returns-in-Err-test_keys-clause-fault c = inl (faulty_keys c.in-Ok.fields _ (bytes_held c.args.bytes.now c.type_inv.bytes) (omega arith) c.in-Ok.ensures.value
-    (subst (λ pairs. IsKeysFault pairs c.in-Err-test_keys.fault) c.as_slice.ensures.value c.in-Err-test_keys.ensures.fault))
+returns-in-Err-clause-fault c =
+    inl (read_tested c.args.bytes.now c.in_ok-fields.fields (Err (fault_of c.in-Err.fault)) (omega arith) c.in_ok-fields.ensures.value
+    (ap (λ pairs. test_keys (keys_of pairs)) (sym c.as_slice.ensures.value) ∙ c.in-Err.ensures.fault))

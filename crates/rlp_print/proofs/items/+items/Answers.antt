@@ -1,8 +1,9 @@
 use Rattle.std.proofs.Common.{◌≡◌, ◌-◌, ap, arith, false, OnOk, subst, sym}
 use Rattle.std.proofs.lemmas.Grind.{common_steps}
 use Rattle.rlp.specs.{Values.RawItem.item_within, Views.View.View, Views.View.item_views}
-use Rattle.rlp_print.specs.{Items.value_by, Steps.after, Value.array, Value.values_of}
 use Rattle.rlp_print.proofs.ItemLemmas.{branch_shown, list_shown, no_pair_shown, node_shown}
+use Rattle.rlp_print.specs.Value.{after, array, values_of}
+use Rattle.rlp_print.specs.Items.{value_by}
 use Rattle.rlp_print.proofs.items.+items.Goals as goal
 
 pub show_node-returns-then-items-eq17 : goal.show_node-returns-then-items-eq17

@@ -1,12 +1,20 @@
-use Rattle.rlp_records.proofs.AfterByte.{rest_fails, rest_only, rest_whole, same_rest, with_first}
+use Rattle.std.proofs.Common.{arith}
+use Rattle.rlp_codec.specs.Laws.{form_of}
+use Rattle.rlp_records.proofs.AfterByte.{rest_fails, rest_given, rest_only, rest_whole, same_rest, with_first}
 use Rattle.rlp_records.proofs.Faults.{fault_first}
 use Rattle.rlp_records.specs.Envelope.{another_type}
 use Rattle.rlp_records.proofs.envelope.from_envelope.Goals as goal
 
+pub returns-in-len1-up-clause-value : goal.returns-in-len1-up-clause-value
+returns-in-len1-up-clause-value g c =
+    rest_given c.args.kind c.args.bytes.now _ (with_first c.args.kind c.args.bytes.now c.in-len1-up.len_at_least c.if-first-kind.true) another_type
+    (form_of g.T.Encodable.fits g.T.Encodable.item g.T.Decodable.reading) g.met.T.StrictRead.strict (omega arith) c.decode_whole.result
+    c.decode_whole.ensures.whole
+
 pub returns-in-len1-up-clause-fault : goal.returns-in-len1-up-clause-fault
 returns-in-len1-up-clause-fault g c =
-    rest_fails c.args.kind another_type g.T.Decodable.faults g.T.Decodable.may_lack_memory c.args.bytes.now _ c.decode_whole.result
-    (with_first c.args.kind c.args.bytes.now c.in-len1-up.len_at_least c.if-first-kind.true) c.decode_whole.ensures.fault
+    rest_fails c.args.kind c.args.bytes.now _ (with_first c.args.kind c.args.bytes.now c.in-len1-up.len_at_least c.if-first-kind.true) another_type
+    (form_of g.T.Encodable.fits g.T.Encodable.item g.T.Decodable.reading) _ c.decode_whole.result c.decode_whole.ensures.fault
 
 pub returns-in-len1-up-clause-whole : goal.returns-in-len1-up-clause-whole
 returns-in-len1-up-clause-whole g c =

@@ -1,6 +1,8 @@
 use Rattle.std.proofs.Common.{ap}
 use Rattle.rlp.specs.Format.Encoding.{encoding}
-use Rattle.rlp.specs.Lemmas.Encodings.{encoding_same}
+use Rattle.rlp_format.proofs.Lemmas.Encodings.{encoding_same}
+use Rattle.rlp_codec.specs.Laws.{form_of}
+use Rattle.rlp_codec.proofs.Corollaries.{told_by_item}
 use Rattle.rlp_records.proofs.laws.encodings_tell_records.Goals as goal
 
 pub returns-clause-alike : goal.returns-clause-alike
@@ -8,4 +10,5 @@ returns-clause-alike g c = λ one other. (encoding_same _ _ one other, ap encodi
 
 pub returns-clause-fields : goal.returns-clause-fields
 returns-clause-fields g c = λ fit other small little same.
-    g.met.R.Record.told c.args.one.now c.args.other.now fit other (encoding_same _ _ small little same)
+    told_by_item (form_of g.R.Encodable.fits g.R.Encodable.item g.R.Decodable.reading) g.met.R.RoundTrip.round_trip c.args.one.now c.args.other.now fit other
+    (encoding_same _ _ small little same) small

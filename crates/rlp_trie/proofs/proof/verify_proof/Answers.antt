@@ -1,7 +1,7 @@
 use Rattle.std.proofs.Common.{◌≡◌, map, rules, subst, sym}
 use Rattle.std.specs.Vec.{vec_items}
 use Rattle.rlp.specs.Format.Item.{string}
-use Rattle.rlp.specs.Lemmas.Reading.{bytes_held}
+use Rattle.rlp_reading.proofs.Lemmas.Reading.{bytes_held}
 use Rattle.rlp_trie.specs.HexPrefix.{AreNibbles, nibbles_of}
 use Rattle.rlp_trie.specs.Next.{IsEnd}
 use Rattle.rlp_trie.proofs.PathLemmas.{nibbles_are}

@@ -1,6 +1,6 @@
 use Rattle.std.proofs.Common.{◌≡◌, length, ap, arith, suc}
 use Rattle.rlp_format.specs.Format.WrittenHeader.{big_endian, written_header}
-use Rattle.rlp_format.specs.Lemmas.Headers.{written_header_long}
+use Rattle.rlp_format.proofs.Lemmas.Headers.{written_header_long}
 use Rattle.rlp_write.proofs.header.list_header_len.Goals as goal
 
 pub returns-then-len-gt-SHORT-clause-value : goal.returns-then-len-gt-SHORT-clause-value

@@ -1,9 +1,13 @@
-use Rattle.std.proofs.Common.{rules, sym}
-use Rattle.rlp_values.specs.Lemmas.Numbers.{lone_digit}
+use Rattle.std.proofs.Common.{ap, arith, length, rules}
+use Rattle.rlp_reading.proofs.Lemmas.Numbers.{lone_digit}
+use Rattle.rlp_codec.proofs.StringLaws.{number_given}
 use Rattle.rlp.proofs.impls.number.number_within.Goals as goal
 
-pub returns-in-1-to-127-clause-value : goal.returns-in-1-to-127-clause-value
-returns-in-1-to-127-clause-value g c = lone_digit _ _ _ c.as_raw-bytes.ensures (search rules) (search rules) (search rules) (search rules) (search rules)
+pub returns-in-1-to-127-clause-fits : goal.returns-in-1-to-127-clause-fits
+returns-in-1-to-127-clause-fits g c =
+    (lone_digit g.row.WIDTH c.args.rlp.now c.as_raw-bytes.result.now c.as_raw-bytes.ensures (search rules) (search rules) (search rules) (search rules) (search rules)).fits
 
-pub returns-in-None-clause-fault : goal.returns-in-None-clause-fault
-returns-in-None-clause-fault g c = rw (sym c.as_raw-bytes.ensures, sym c.is_strict-is_strict.ensures) c.any_number.ensures.fault
+pub returns-in-1-to-127-clause-value : goal.returns-in-1-to-127-clause-value
+returns-in-1-to-127-clause-value g c =
+    number_given _ _ c.args.rlp.now (omega (arith, ap length c.as_raw-bytes.ensures))
+    (lone_digit g.row.WIDTH c.args.rlp.now c.as_raw-bytes.result.now c.as_raw-bytes.ensures (search rules) (search rules) (search rules) (search rules) (search rules))

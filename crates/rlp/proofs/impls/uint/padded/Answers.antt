@@ -2,7 +2,7 @@ use Rattle.std.proofs.Common.{◌≡◌, ℕ, ◌+◌, ◌≤◌, List, [], ◌+
 use Rattle.std.proofs.lemmas.List.{length-replicate, nil_from_length}
 use Rattle.std.specs.Int.Digits.{number_from_digits}
 use borrow.Rule.Slice.PartMut.{post_of, put_mid}
-use Rattle.rlp_values.specs.Lemmas.Numbers.{zeros_in_front}
+use Rattle.rlp_reading.proofs.Lemmas.Numbers.{zeros_in_front}
 use Rattle.rlp.proofs.impls.uint.padded.Goals as goal
 
 -- digits that replace the last zeros write the same number

@@ -1,7 +1,7 @@
-use Rattle.std.proofs.Common.{arith}
-use Rattle.rlp_format.specs.Lemmas.Digits.{bytes_held}
-use Rattle.rlp_values.specs.Lemmas.OneReading.{array_reading}
+use Rattle.rlp_reading.specs.Views.View.{view_of}
+use Rattle.rlp_codec.specs.Form.{byte_array}
+use Rattle.rlp_codec.proofs.Readings.{array_whole, one_reading}
 use Rattle.rlp.proofs.laws.reading.arrays_are_read.Goals as goal
 
 pub returns : goal.returns
-returns c = array_reading _ (bytes_held _ c.type_inv.bytes) (omega arith)
+returns c = λ n. one_reading (byte_array n) (view_of c.args.bytes.now) (array_whole n)

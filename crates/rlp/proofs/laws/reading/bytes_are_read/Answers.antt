@@ -1,7 +1,8 @@
-use Rattle.std.proofs.Common.{arith}
-use Rattle.rlp_format.specs.Lemmas.Digits.{bytes_held}
-use Rattle.rlp_values.specs.Lemmas.OneReading.{bytes_reading}
+use Rattle.std.proofs.Common.{List, ℕ}
+use Rattle.rlp_reading.specs.Views.View.{view_of}
+use Rattle.rlp_codec.specs.Form.{byte_string}
+use Rattle.rlp_codec.proofs.Readings.{bytes_whole, one_reading}
 use Rattle.rlp.proofs.laws.reading.bytes_are_read.Goals as goal
 
 pub returns : goal.returns
-returns c = bytes_reading _ (bytes_held _ c.type_inv.bytes) (omega arith)
+returns c = one_reading (byte_string {B = List ℕ} (λ d. d)) (view_of c.args.bytes.now) bytes_whole

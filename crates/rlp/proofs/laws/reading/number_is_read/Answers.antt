@@ -1,7 +1,7 @@
-use Rattle.std.proofs.Common.{arith}
-use Rattle.rlp_format.specs.Lemmas.Digits.{bytes_held}
-use Rattle.rlp_values.specs.Lemmas.OneReading.{number_reading}
+use Rattle.rlp_reading.specs.Views.View.{view_of}
+use Rattle.rlp_codec.specs.Form.{number}
+use Rattle.rlp_codec.proofs.Readings.{number_whole, one_reading}
 use Rattle.rlp.proofs.laws.reading.number_is_read.Goals as goal
 
 pub returns : goal.returns
-returns c = number_reading _ (bytes_held _ c.type_inv.bytes) (omega arith)
+returns c = λ width. one_reading (number width) (view_of c.args.bytes.now) (number_whole width)

@@ -1,7 +1,7 @@
 use Rattle.std.proofs.Common.{arith}
-use Rattle.rlp_format.specs.Lemmas.Digits.{bytes_held}
-use Rattle.rlp_values.proofs.Values.ListReadings.{option_reading}
+use Rattle.rlp_format.proofs.Lemmas.Digits.{bytes_held}
+use Rattle.rlp_codec.proofs.Readings.{option_one}
 use Rattle.rlp.proofs.laws.reading.option_is_read.Goals as goal
 
 pub returns : goal.returns
-returns g c = λ law. option_reading _ _ _ law _ (bytes_held _ c.type_inv.bytes) (omega arith)
+returns g c = λ law. option_one _ g.T.Decodable.reading law _ (bytes_held _ c.type_inv.bytes) (omega arith)

@@ -1,8 +1,8 @@
-use Rattle.std.proofs.Common.{arith}
-use Rattle.rlp_format.specs.Lemmas.Digits.{bytes_held}
-use Rattle.rlp_values.specs.Lemmas.OneReading.{bytes_reading}
-use Rattle.rlp_values.proofs.Values.ListReadings.{option_reading}
+use Rattle.std.proofs.Common.{List, ℕ}
+use Rattle.rlp_reading.specs.Views.View.{view_of}
+use Rattle.rlp_codec.specs.Form.{byte_string, option}
+use Rattle.rlp_codec.proofs.Readings.{bytes_whole, one_reading, option_whole}
 use Rattle.rlp.proofs.laws.reading.option_of_bytes_is_read.Goals as goal
 
 pub returns : goal.returns
-returns c = option_reading _ _ _ (λ v bytes short. bytes_reading v bytes short) _ (bytes_held _ c.type_inv.bytes) (omega arith)
+returns c = one_reading (option (byte_string {B = List ℕ} (λ d. d))) (view_of c.args.bytes.now) (option_whole _ bytes_whole)

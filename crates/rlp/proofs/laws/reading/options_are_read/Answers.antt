@@ -1,14 +1,14 @@
-use Rattle.std.proofs.Common.{arith}
-use Rattle.rlp_format.specs.Lemmas.Digits.{bytes_held}
-use Rattle.rlp_values.specs.Lemmas.OneReading.{number_reading, text_reading}
-use Rattle.rlp_values.proofs.Values.ListReadings.{bool_reading, option_reading}
+use Rattle.std.proofs.Common.{List, ℕ}
+use Rattle.rlp_reading.specs.Views.View.{view_of}
+use Rattle.rlp_codec.specs.Form.{number, option, text, truth_value}
+use Rattle.rlp_codec.proofs.Readings.{number_whole, one_reading, option_whole, text_whole, truth_whole}
 use Rattle.rlp.proofs.laws.reading.options_are_read.Goals as goal
 
 pub returns : goal.returns
 returns c =
-    let held = bytes_held c.args.bytes.now c.type_inv.bytes in
+    let v = view_of c.args.bytes.now in
     record {
-      numbers = λ width. option_reading _ _ _ (λ v bytes short. number_reading v bytes short width) _ held (omega arith);
-      truth_values = option_reading _ _ _ (λ v bytes short. bool_reading v (number_reading v bytes short 1)) _ held (omega arith);
-      texts = option_reading _ _ _ (λ v bytes short. text_reading v bytes short) _ held (omega arith);
+      numbers = λ width. one_reading (option (number width)) v (option_whole _ (number_whole width));
+      truth_values = one_reading (option truth_value) v (option_whole _ truth_whole);
+      texts = one_reading (option (text {B = List ℕ} (λ d. d))) v (option_whole _ text_whole);
     }

@@ -1,6 +1,6 @@
 use Rattle.std.proofs.Common.{arith}
-use Rattle.rlp_format.specs.Lemmas.Digits.{bytes_held}
-use Rattle.rlp_values.specs.Lemmas.Strings.{string_reads, string_only}
+use Rattle.rlp_format.proofs.Lemmas.Digits.{bytes_held}
+use Rattle.rlp_reading.proofs.Lemmas.Strings.{string_reads, string_only}
 use Rattle.rlp.proofs.laws.reading.string_is_read.Goals as goal
 
 pub returns : goal.returns

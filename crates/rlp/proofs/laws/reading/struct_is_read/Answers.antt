@@ -1,5 +1,6 @@
-use Rattle.rlp_values.proofs.Values.StructReading.{struct_read}
+use Rattle.rlp_codec.specs.Form.{struct_reading}
+use Rattle.rlp_codec.proofs.Readings.{one_answer}
 use Rattle.rlp.proofs.laws.reading.struct_is_read.Goals as goal
 
 pub returns : goal.returns
-returns g c = struct_read _ _ _ _ _ _ c.accepts_items-accepted.ensures
+returns g c = one_answer (struct_reading g.F.DecodeFields.reading) c.args.rlp.now

@@ -1,11 +1,16 @@
-use Rattle.std.proofs.Common.{arith}
-use Rattle.rlp_values.proofs.Values.Decoding.{decoded_alike, decoded_memory}
+use Rattle.std.proofs.Common.{IsTrue, arith}
+use Rattle.rlp_reading.specs.Views.View.{view_of}
+use Rattle.rlp_codec.specs.Laws.{form_of}
+use Rattle.rlp_codec.proofs.Corollaries.{answers_alike, answers_memory}
 use Rattle.rlp.proofs.laws.round_trip.encoding_is_decoded.Goals as goal
 
 pub returns-clause-alike : goal.returns-clause-alike
 returns-clause-alike g c = λ v fit begins.
-    decoded_alike _ _ _ _ _ _ v (g.met.T.RoundTrip.round_trip _ v (omega arith) fit begins) c.decode.ensures.value
+    let law = g.met.T.RoundTrip.round_trip in
+    answers_alike (form_of _ _ _) law.told _ v _ fit (law.back.back _ v (omega arith) fit begins) c.decode.ensures.value
 
 pub returns-clause-memory : goal.returns-clause-memory
 returns-clause-memory g c = λ v fit begins.
-    decoded_memory _ _ _ _ _ _ _ v (g.met.T.RoundTrip.round_trip _ v (omega arith) fit begins) c.decode.ensures.fault
+    let law = g.met.T.RoundTrip.round_trip in
+    let codec = form_of g.T.Encodable.fits g.T.Encodable.item g.T.Decodable.reading in
+    answers_memory codec (view_of c.args.bytes.now) v c.decode.result (IsTrue g.T.Decodable.reading.takes_memory) (law.back.back _ v (omega arith) fit begins) c.decode.ensures.fault

@@ -1,12 +1,13 @@
 use Rattle.std.proofs.Common.{arith}
 use Rattle.std.specs.Vec.{vec_items}
-use Rattle.rlp_values.proofs.Values.Decoding.{list_alike, list_memory}
+use Rattle.rlp_codec.specs.Laws.{form_of}
+use Rattle.rlp_codec.proofs.Corollaries.{list_alike, list_memory}
 use Rattle.rlp.proofs.laws.round_trip.list_is_decoded.Goals as goal
 
 pub returns-clause-alike : goal.returns-clause-alike
 returns-clause-alike g c = λ vs all begins.
-    list_alike _ _ _ _ g.met.T.RoundTrip.round_trip vs _ (omega arith) all begins vec_items _ c.decode_list.ensures.value
+    list_alike (form_of _ _ _) vec_items g.met.T.RoundTrip.round_trip _ vs _ (omega arith) all begins c.decode_list.ensures.value
 
 pub returns-clause-memory : goal.returns-clause-memory
 returns-clause-memory g c = λ vs all begins.
-    list_memory _ _ _ _ g.met.T.RoundTrip.round_trip vs _ (omega arith) all begins _ _ c.decode_list.ensures.fault
+    list_memory (form_of _ _ _) g.met.T.RoundTrip.round_trip _ vs _ (omega arith) all begins c.decode_list.ensures.fault

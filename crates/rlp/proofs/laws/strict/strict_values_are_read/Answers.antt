@@ -1,16 +1,16 @@
-use Rattle.std.proofs.Common.{arith}
-use Rattle.rlp_format.specs.Lemmas.Digits.{bytes_held}
-use Rattle.rlp_values.specs.Lemmas.OneReading.{array_reading, bytes_reading, number_reading, text_reading}
-use Rattle.rlp_values.proofs.Values.ListReadings.{bool_reading}
+use Rattle.std.proofs.Common.{List, ℕ}
+use Rattle.rlp_reading.specs.Views.View.{strict_view_of}
+use Rattle.rlp_codec.specs.Form.{byte_array, byte_string, number, text, truth_value}
+use Rattle.rlp_codec.proofs.Readings.{array_whole, bytes_whole, number_whole, one_reading, text_whole, truth_whole}
 use Rattle.rlp.proofs.laws.strict.strict_values_are_read.Goals as goal
 
 pub returns : goal.returns
 returns c =
-    let held = bytes_held c.args.bytes.now c.type_inv.bytes in
+    let v = strict_view_of c.args.bytes.now in
     record {
-      numbers = number_reading _ held (omega arith);
-      truth_values = bool_reading _ (number_reading _ held (omega arith) 1);
-      strings = bytes_reading _ held (omega arith);
-      texts = text_reading _ held (omega arith);
-      arrays = array_reading _ held (omega arith);
+      numbers = λ width. one_reading (number width) v (number_whole width);
+      truth_values = one_reading truth_value v truth_whole;
+      strings = one_reading (byte_string {B = List ℕ} (λ d. d)) v bytes_whole;
+      texts = one_reading (text {B = List ℕ} (λ d. d)) v text_whole;
+      arrays = λ n. one_reading (byte_array n) v (array_whole n);
     }

@@ -6,8 +6,8 @@ use Rattle.std.specs.declared.cmp.Ordering.TheVariants.{Less, Equal, Greater}
 use Rattle.std.specs.Int.Digits.{number_from_digits_after}
 use Rattle.std.proofs.lemmas.Bool.{cases_lt}
 use Rattle.std.proofs.lemmas.List.Elements.{recursion_from_All}
-use Rattle.rlp_format.specs.Lemmas.Digits.{bytes_held}
-use Rattle.rlp_values.specs.Lemmas.Reading.{Bytes}
+use Rattle.rlp_format.proofs.Lemmas.Digits.{bytes_held}
+use Rattle.rlp_reading.proofs.Lemmas.Reading.{Bytes}
 use Rattle.rlp.proofs.laws.uints.digits_compare_as_numbers.Goals as goal
 
 -- a third answer after two

@@ -1,6 +1,6 @@
 use Rattle.std.proofs.Common.{◌≡◌, ◌≤◌, ◌+◌, List, [], ◌∷◌, length, None, ap, sym, ◌∙◌, arith}
 use Rattle.std.specs.Iterator.{Yields}
-use Rattle.rlp_values.specs.Views.View.{IsStep, Remaining, View}
+use Rattle.rlp_reading.specs.Views.View.{IsStep, Remaining, View}
 use Rattle.rlp.proofs.laws.views.iteration_reads_few_headers.Goals as goal
 
 -- the items that are given are the ones that are left

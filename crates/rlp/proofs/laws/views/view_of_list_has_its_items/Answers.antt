@@ -1,5 +1,5 @@
 use Rattle.std.proofs.Common.{◌<◌, ◌^◌, length, subst, arith}
-use Rattle.rlp_values.proofs.Views.ListsHeld.{held_at, held_count, held_past, held_views}
+use Rattle.rlp_reading.proofs.Views.ListsHeld.{held_at, held_count, held_past, held_views}
 use Rattle.rlp.proofs.laws.views.view_of_list_has_its_items.Goals as goal
 
 pub returns : goal.returns

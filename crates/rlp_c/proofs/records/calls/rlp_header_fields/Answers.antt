@@ -1,15 +1,8 @@
 use Rattle.std.proofs.Common.{◌<◌, ◌^◌, length, arith}
-use Rattle.rlp_format.specs.Lemmas.Digits.{bytes_held}
-use Rattle.rlp_c.proofs.ReadRecords.{header_found}
-use Rattle.rlp_c.proofs.WrittenRecords.{header_written}
+use Rattle.rlp_c.proofs.RecordAnswers.{header_written}
 use Rattle.rlp_c.proofs.records.calls.rlp_header_fields.Goals as goal
 
 pub returns-clause-written : goal.returns-clause-written
 returns-clause-written c = λ h fit is.
     let short : length c.args.bytes.now < 2 ^ 64 = omega arith in
     header_written h c.args.bytes.now _ _ _ _ short fit is c.read_record.ensures
-
-pub returns-clause-sound : goal.returns-clause-sound
-returns-clause-sound c = λ found.
-    let short : length c.args.bytes.now < 2 ^ 64 = omega arith in
-    header_found c.args.bytes.now _ _ _ _ (bytes_held c.args.bytes.now c.type_inv.bytes) short found c.read_record.ensures

@@ -1,14 +1,12 @@
-use Rattle.std.proofs.Common.{◌<◌, ◌^◌, length, arith, refl}
-use Rattle.rlp.specs.Lemmas.Reading.{bytes_held}
-use Rattle.rlp_records.proofs.Alone.{AreBelowLists, memory_alone}
-use Rattle.rlp_headers.specs.Receipt.{receipt}
-use Rattle.rlp_records.specs.Alone.{unknown_type}
-use Rattle.rlp_headers.specs.TypedReceipt.{receipt_as_sum, typed_receipts}
+use Rattle.std.proofs.Common.{arith}
+use Rattle.rlp_reading.proofs.Lemmas.Reading.{bytes_held}
+use Rattle.rlp_records.proofs.Bytes.{read_memory, read_whole}
+use Rattle.rlp_headers.proofs.Receipts.{receipt_strings}
 use Rattle.rlp_headers.proofs.typed_receipt.TypedReceipt.from_bytes.Goals as goal
 
+pub returns-clause-whole : goal.returns-clause-whole
+returns-clause-whole c =
+    read_whole _ _ _ _ _ receipt_strings c.args.bytes.now (omega arith) (bytes_held c.args.bytes.now c.type_inv.bytes) c.read_alone.result c.read_alone.ensures.value
+
 pub returns-clause-memory : goal.returns-clause-memory
-returns-clause-memory c =
-    let fits : length c.args.bytes.now < 2 ^ 64 = omega arith in
-    let low : AreBelowLists typed_receipts.tags = (omega arith, (omega arith, (omega arith, (omega arith, tt)))) in
-    λ r fit is. memory_alone receipt unknown_type typed_receipts (λ x. refl) low c.args.bytes.now
-    (bytes_held c.args.bytes.now c.type_inv.bytes) fits (receipt_as_sum r) fit is c.read_alone.result _ c.read_alone.ensures.fault
+returns-clause-memory c = λ r fit is. read_memory _ _ _ _ _ receipt_strings c.args.bytes.now (omega arith) _ r fit is c.read_alone.result c.read_alone.ensures.fault

@@ -1,14 +1,13 @@
-use Rattle.std.proofs.Common.{◌<◌, ◌^◌, length, arith, refl}
-use Rattle.rlp.specs.Lemmas.Reading.{bytes_held}
-use Rattle.rlp_records.proofs.Alone.{AreBelowLists, memory_alone}
-use Rattle.rlp_transactions.specs.UnsignedLegacyTransaction.{unsigned_legacy_transaction}
-use Rattle.rlp_records.specs.Alone.{unknown_type}
-use Rattle.rlp_transactions.specs.UnsignedTransaction.{unsigned_sum, unsigned_types}
+use Rattle.std.proofs.Common.{arith}
+use Rattle.rlp_reading.proofs.Lemmas.Reading.{bytes_held}
+use Rattle.rlp_records.proofs.Bytes.{read_memory, read_whole}
+use Rattle.rlp_transactions.proofs.Strings.{unsigned_strings}
 use Rattle.rlp_transactions.proofs.unsigned_transaction.UnsignedTransaction.from_bytes.Goals as goal
 
+pub returns-clause-whole : goal.returns-clause-whole
+returns-clause-whole c =
+    read_whole _ _ _ _ _ unsigned_strings c.args.bytes.now (omega arith) (bytes_held c.args.bytes.now c.type_inv.bytes) c.read_alone.result c.read_alone.ensures.value
+
 pub returns-clause-memory : goal.returns-clause-memory
-returns-clause-memory c =
-    let fits : length c.args.bytes.now < 2 ^ 64 = omega arith in
-    let low : AreBelowLists unsigned_types.tags = (omega arith, (omega arith, (omega arith, (omega arith, tt)))) in
-    λ t fit is. memory_alone unsigned_legacy_transaction unknown_type unsigned_types (λ x. refl) low c.args.bytes.now
-    (bytes_held c.args.bytes.now c.type_inv.bytes) fits (unsigned_sum t) fit is c.read_alone.result _ c.read_alone.ensures.fault
+returns-clause-memory c = λ t fit is.
+    read_memory _ _ _ _ _ unsigned_strings c.args.bytes.now (omega arith) _ t fit is c.read_alone.result c.read_alone.ensures.fault

@@ -1,12 +1,12 @@
 use Rattle.std.proofs.Common.{◌≡◌, None, List, ◌++◌, length, map, ap, sym, ◌∙◌, rules}
 use Rattle.std.specs.Vec.{vec_items}
-use Rattle.rlp.specs.Codec.{byte_string, end, field}
+use Rattle.rlp.specs.Codec.{byte_string, end, field, plain, plain_fields}
 use Rattle.rlp.specs.Format.Item.{Item, list_of}
 use Rattle.rlp.specs.Streams.Stream.{put_item}
 use Rattle.rlp_trie.specs.declared.branch.Branch.{Branch}
 use Rattle.rlp_trie.specs.declared.branch_child.BranchChild.{BranchChild}
 use Rattle.rlp_trie.specs.BranchChild.{branch_child}
-use Rattle.rlp.specs.Codecs.EachField.{each_items}
+use Rattle.rlp_codec.proofs.EachField.{each_items}
 use Rattle.rlp_trie.proofs.branch.BranchEncodable.rlp_append.Goals as goal
 
 pub returns-in-Ok-append_fields-clause-ok : goal.returns-in-Ok-append_fields-clause-ok
@@ -19,4 +19,4 @@ returns-in-Ok-append_fields-clause-ok c =
     (list_of (map branch_child.item c.as_slice-children.result.now ++ last.items branch)) c.args.s.now.state = search rules in
     written
     ∙ ap (λ (xs : List BranchChild). put_item (list_of (map branch_child.item xs ++ last.items branch)) c.args.s.now.state) same
-    ∙ ap (λ (xs : List Item). put_item (list_of xs) c.args.s.now.state) (each_items (record { 0 = None }) (λ (b : Branch). b.children) branch_child last branch 16 many)
+    ∙ ap (λ (xs : List Item). put_item (list_of xs) c.args.s.now.state) (each_items (record { 0 = None }) (λ (b : Branch). b.children) (plain branch_child) (plain_fields last) branch 16 many)

@@ -1,5 +1,5 @@
 use Rattle.std.proofs.Common.{rules, ◌+◌, ◌∷◌, [], length, sym}
-use Rattle.rlp_format.specs.Lemmas.Headers.{written_header_short}
+use Rattle.rlp_format.proofs.Lemmas.Headers.{written_header_short}
 use Rattle.rlp_write.proofs.Streams.Written.{encoding_length, string_written}
 use Rattle.rlp_write.proofs.buffer.strings.write_short.Goals as goal
 

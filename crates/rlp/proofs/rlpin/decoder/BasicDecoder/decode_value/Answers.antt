@@ -1,4 +1,4 @@
-use Rattle.rlp_values.specs.Lemmas.StringsHeld.{missing_held}
+use Rattle.rlp_reading.proofs.Lemmas.StringsHeld.{missing_held}
 use Rattle.rlp.proofs.rlpin.decoder.BasicDecoder.decode_value.Goals as goal
 
 pub returns-in-Ok-clause-missing : goal.returns-in-Ok-clause-missing

@@ -1,5 +1,5 @@
 use Rattle.std.proofs.Common.{sym, arith}
-use Rattle.rlp_values.specs.Lemmas.StringsHeld.{held_from}
+use Rattle.rlp_reading.proofs.Lemmas.StringsHeld.{held_from}
 use Rattle.rlp.proofs.rlpin.decoder.BasicDecoder.string.Goals as goal
 
 pub returns-in-Err-clause-held : goal.returns-in-Err-clause-held

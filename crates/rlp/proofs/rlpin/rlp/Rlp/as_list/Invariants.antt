@@ -1,14 +1,13 @@
-use Rattle.std.proofs.Common.{◌≡◌, ◌++◌, length}
-use Rattle.rlp_values.specs.Values.ListReading.{GivesEach}
-use Rattle.rlp_values.specs.Views.View.{item_views}
+use Rattle.std.proofs.Common.{◌≡◌, ◌++◌, length, map}
+use Rattle.rlp_codec.specs.Form.{and_then, list_of_views, map_value, read_each}
 use Rattle.rlp.proofs.rlpin.rlp.Rlp.as_list.Given as goal
 
--- the items so far gave the values so far, and the others are left
+-- the values so far come before what the items that are left give
 abbrev pub invariant-loop-item : goal.invariant-loop-item
-invariant-loop-item g l = record {
-  all : l.yielded ++ l.item-iterator.left ≡ item_views l.self;
-  read : GivesEach g.T.Decodable.gives l.yielded l.values.items;
-}
+invariant-loop-item g l =
+    let r = g.T.Decodable.reading in
+    and_then (list_of_views l.self) (λ vs. (read_each r.read (length vs) vs).result)
+    ≡ map_value (λ xs. map r.seen l.values.items ++ xs) (read_each r.read (length l.initial.items.views) l.items.views).result
 
 abbrev pub decreases-loop-item : goal.decreases-loop-item
-decreases-loop-item g l = length l.item-iterator.left
+decreases-loop-item g l = length l.items.views

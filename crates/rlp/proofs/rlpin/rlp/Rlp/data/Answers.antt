@@ -1,6 +1,6 @@
 use Rattle.std.proofs.Common.{◌-◌, take, drop, Ok, sym, ap, ◌∙◌}
-use Rattle.rlp_values.specs.Views.View.{View}
-use Rattle.rlp_values.specs.Lemmas.HeaderValues.{no_view_value, view_value_between}
+use Rattle.rlp_reading.specs.Views.View.{View}
+use Rattle.rlp_reading.proofs.Lemmas.HeaderValues.{no_view_value, view_value_between}
 use Rattle.rlp.proofs.rlpin.rlp.Rlp.data.Goals as goal
 
 pub returns-in-Err : goal.returns-in-Err

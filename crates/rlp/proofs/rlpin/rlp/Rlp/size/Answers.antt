@@ -1,6 +1,6 @@
 use Rattle.std.proofs.Common.{sym, ap, ◌∙◌}
-use Rattle.rlp_values.specs.Views.View.{begins_as_data, data_size}
-use Rattle.rlp_values.specs.Lemmas.HeaderValues.{no_size_of_header, size_of_header}
+use Rattle.rlp_reading.specs.Views.View.{begins_as_data, data_size}
+use Rattle.rlp_reading.proofs.Lemmas.HeaderValues.{no_size_of_header, size_of_header}
 use Rattle.rlp.proofs.rlpin.rlp.Rlp.size.Goals as goal
 
 pub returns-in-Ok : goal.returns-in-Ok

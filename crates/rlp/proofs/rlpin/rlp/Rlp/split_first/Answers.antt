@@ -1,7 +1,7 @@
 use Rattle.std.proofs.Common.{arith, ap, sym, ◌∙◌}
 use Rattle.std.proofs.lemmas.Grind.{common_steps}
-use Rattle.rlp_values.specs.Format.Framing.{framing}
-use Rattle.rlp_values.proofs.Views.Fronts.{long_front, whole_front}
+use Rattle.rlp_reading.specs.Format.Framing.{framing}
+use Rattle.rlp_reading.proofs.Views.Fronts.{long_front, whole_front}
 use Rattle.rlp.proofs.Splitting.{faulty_view}
 use Rattle.rlp.proofs.rlpin.rlp.Rlp.split_first.Goals as goal
 

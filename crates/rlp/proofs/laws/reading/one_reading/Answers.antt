@@ -1,0 +1,5 @@
+use Rattle.rlp_codec.proofs.Readings.{one_answer}
+use Rattle.rlp.proofs.laws.reading.one_reading.Goals as goal
+
+pub returns : goal.returns
+returns g c = one_answer g.T.Decodable.reading c.args.rlp.now

@@ -1,0 +1,22 @@
+-- The bytes of a receipt by itself are read back, and no other bytes are read.
+use Rattle.std.proofs.Common.{◌<◌, ◌⊎◌, inl, inr, refl, arith}
+use Rattle.rlp_codec.proofs.StringLaws.{ReadsStrings}
+use Rattle.rlp.specs.Codec.{plain}
+use Rattle.rlp_records.proofs.Alone.{alone, alone_strings}
+use Rattle.rlp_records.proofs.Bytes.{strings_held}
+use Rattle.rlp_records.specs.Alone.{bytes_alone}
+use Rattle.rlp_headers.specs.Receipt.{receipt}
+use Rattle.rlp_headers.specs.TypedReceipt.{receipt_as_sum, typed_receipt, typed_receipts}
+use Rattle.rlp_headers.specs.declared.receipt.Receipt.{Receipt}
+
+-- each type is below the first byte of every list
+low : (r : Receipt ⊎ (Receipt ⊎ (Receipt ⊎ Receipt))) → typed_receipts.cases.tag r < 0xc0
+low (inl r) = omega arith
+low (inr (inl r)) = omega arith
+low (inr (inr (inl r))) = omega arith
+low (inr (inr (inr r))) = omega arith
+
+pub receipt_strings : ReadsStrings typed_receipt.Fits (λ r. bytes_alone (typed_receipt.item r)) typed_receipt.reading.seen
+    (λ m. bytes_alone (typed_receipt.reading.item m)) (alone (plain receipt) typed_receipts.cases)
+receipt_strings =
+    strings_held receipt_as_sum _ _ _ _ _ (alone_strings (plain receipt) typed_receipts.cases (λ r. refl) low receipt.reads_strictly typed_receipts.laws)

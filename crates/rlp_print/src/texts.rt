@@ -1,0 +1,231 @@
+//! Numbers, bytes, paths of the trie and words as text.
+
+ghost use Rattle.std.specs.Prelude.{◌≡◌, ◌==◌, ◌++◌, string_bytes, OnOk, Some, ◌<◌, [], ◌∷◌, true};
+ghost use Rattle.std.specs.Int.Digits.{number_from_digits};
+ghost use Rattle.std.specs.List.{list_all};
+ghost use Rattle.rlp_print.specs.Lines.{begins_with_letter, bytes_text, hex_text, ip_text, meaning_text, number_text, said_by, sparse_text, v_text, digits_text, nibbles_text, path_text, is_word, is_word_byte, word_text};
+ghost use Rattle.rlp_trie.specs.HexPrefix.{nibbles_of, path_nibbles};
+
+use rlp::Uint;
+use rlp_lines::push_bytes;
+use rlp_transactions::Eip155;
+use std::alloc::AllocError;
+use std::fmt;
+use std::fmt::Write;
+use std::net::{Ipv4Addr, Ipv6Addr};
+
+/// A number that prints in hexadecimal, after `0x`.
+#[derive(Clone, Copy)]
+struct Hexadecimal<'a>(&'a Uint<32>);
+
+impl fmt::Display for Hexadecimal<'_> {
+    ghost output = { λ h. Some (hex_text (number_from_digits 256 h.0.now.bytes)) };
+
+    fn fmt<W: fmt::Write>(&self, f: &mut fmt::Formatter<W>) -> fmt::Result {
+        f.write_str("0x")?;
+        fmt::LowerHex::fmt(self.0, f)
+    }
+}
+
+/// Appends a number in hexadecimal.
+pub(crate) fn put_hex(number: &Uint<32>, out: &mut String) -> Result<(), AllocError>
+    ensures { OnOk result (string_bytes out.new
+        ≡ string_bytes out.old ++ hex_text (number_from_digits 256 number.now.bytes)) }
+{
+    write!(out, "{}", Hexadecimal(number))
+}
+
+/// Appends a number in decimal.
+pub(crate) fn put_decimal(number: u64, out: &mut String) -> Result<(), AllocError>
+    ensures { OnOk result (string_bytes out.new ≡ string_bytes out.old ++ number_text number) }
+{
+    let number = Uint::<8> {
+        bytes: number.to_be_bytes(),
+    };
+    write!(out, "{number}")
+}
+
+/// Appends bytes in hexadecimal.
+pub(crate) fn put_bytes(bytes: &[u8], out: &mut String) -> Result<(), AllocError>
+    ensures { OnOk result
+        (string_bytes out.new ≡ string_bytes out.old ++ bytes_text bytes.now) }
+{
+    out.push_str("0x")?;
+    push_bytes(bytes, out)
+}
+
+/// Appends an IP address, or other bytes in hexadecimal.
+pub(crate) fn put_ip(bytes: &[u8], out: &mut String) -> Result<(), AllocError>
+    ensures { OnOk result
+        (string_bytes out.new ≡ string_bytes out.old ++ ip_text bytes.now) }
+{
+    if let Ok(octets) = <[u8; 4]>::try_from(bytes) {
+        return write!(out, "{}", Ipv4Addr::from(octets));
+    }
+    if let Ok(octets) = <[u8; 16]>::try_from(bytes) {
+        return write!(out, "{}", Ipv6Addr::from(octets));
+    }
+    put_bytes(bytes, out)
+}
+
+/// Returns whether all bytes are zero.
+pub(crate) fn are_zero(bytes: &[u8]) -> bool
+    ensures { result ≡ list_all (λ byte. byte == 0) bytes.now }
+{
+    bytes.iter().all(|byte| *byte == 0)
+}
+
+/// Appends bytes, or in short that all are zero.
+pub(crate) fn put_sparse(bytes: &[u8], out: &mut String) -> Result<(), AllocError>
+    ensures { OnOk result
+        (string_bytes out.new ≡ string_bytes out.old ++ sparse_text bytes.now) }
+{
+    if are_zero(bytes) {
+        return write!(out, "{} zero bytes", bytes.len());
+    }
+    put_bytes(bytes, out)
+}
+
+/// Returns what `v` says of the chain and the parity.
+#[tactic(auto, using(crate::proofs::NumberLemmas::what_v_says))]
+pub(crate) fn said_by(v: &Uint<32>) -> Option<Eip155>
+    ensures { result ≡ said_by (number_from_digits 256 v.now.bytes) }
+{
+    Eip155::from_v(v)
+}
+
+/// Appends what a `v` says, if it says something.
+fn put_meaning(said: Option<Eip155>, out: &mut String) -> Result<(), AllocError>
+    ensures { OnOk result (string_bytes out.new ≡ string_bytes out.old ++ meaning_text said) }
+{
+    let Some(said) = said else {
+        return Ok(());
+    };
+    let parity = said.y_parity as u8;
+    match said.chain_id {
+        Some(chain) => write!(out, " (chain {chain}, parity {parity})"),
+        None => write!(out, " (parity {parity})"),
+    }
+}
+
+/// Appends a `v` and what it says.
+pub(crate) fn put_v(v: &Uint<32>, out: &mut String) -> Result<(), AllocError>
+    ensures { OnOk result (string_bytes out.new
+        ≡ string_bytes out.old ++ v_text (number_from_digits 256 v.now.bytes)) }
+{
+    write!(out, "{v}")?;
+    put_meaning(said_by(v), out)
+}
+
+/// Appends a nibble as a hexadecimal digit.
+fn put_nibble(nibble: u8, out: &mut String) -> Result<(), AllocError>
+    requires { nibble < 16 }
+    ensures { OnOk result
+        (string_bytes out.new ≡ string_bytes out.old ++ digits_text (nibble ∷ [])) }
+{
+    if nibble < 10 {
+        return out.push(char::from(b'0' + nibble));
+    }
+    out.push(char::from(b'a' + (nibble - 10)))
+}
+
+/// Appends the nibbles of bytes, two of each.
+fn put_pairs(bytes: &[u8], out: &mut String) -> Result<(), AllocError>
+    ensures { OnOk result (string_bytes out.new
+        ≡ string_bytes out.old ++ digits_text (nibbles_of bytes.now)) }
+{
+    let mut rest = bytes;
+    while let [byte, more @ ..] = rest {
+        put_nibble(byte / 16, out)?;
+        put_nibble(byte % 16, out)?;
+        rest = more;
+    }
+    Ok(())
+}
+
+/// Appends the nibbles of an encoded path.
+pub(crate) fn put_digits(path: &[u8], out: &mut String) -> Result<(), AllocError>
+    ensures { OnOk result (string_bytes out.new
+        ≡ string_bytes out.old ++ digits_text (path_nibbles path.now)) }
+{
+    let [first, rest @ ..] = path else {
+        return Ok(());
+    };
+    if first / 16 % 2 == 1 {
+        put_nibble(first % 16, out)?;
+        return put_pairs(rest, out);
+    }
+    put_pairs(rest, out)
+}
+
+/// Appends the nibbles of an encoded path, in brackets.
+fn put_nibbles(path: &[u8], out: &mut String) -> Result<(), AllocError>
+    ensures { OnOk result (string_bytes out.new
+        ≡ string_bytes out.old ++ nibbles_text (path_nibbles path.now)) }
+{
+    out.push_str(" (nibbles [")?;
+    put_digits(path, out)?;
+    out.push_str("])")
+}
+
+/// Appends the bytes of an encoded path, and its nibbles.
+pub(crate) fn put_path(path: &[u8], out: &mut String) -> Result<(), AllocError>
+    ensures { OnOk result (string_bytes out.new ≡ string_bytes out.old ++ path_text path.now) }
+{
+    put_bytes(path, out)?;
+    put_nibbles(path, out)
+}
+
+/// Returns whether a byte is a lower-case letter or a digit.
+fn is_word_byte(byte: u8) -> bool
+    ensures { result ≡ is_word_byte byte }
+{
+    byte.is_ascii_lowercase() || byte.is_ascii_digit()
+}
+
+/// Returns whether all bytes are lower-case letters and digits.
+fn are_word_bytes(bytes: &[u8]) -> bool
+    ensures { result ≡ list_all is_word_byte bytes.now }
+{
+    bytes.iter().all(|byte| is_word_byte(*byte))
+}
+
+/// Returns whether bytes begin with a lower-case letter.
+fn begins_with_letter(bytes: &[u8]) -> bool
+    ensures { result ≡ begins_with_letter bytes.now }
+{
+    match bytes {
+        [first, ..] => first.is_ascii_lowercase(),
+        [] => false,
+    }
+}
+
+/// Returns whether bytes are a word, which begins with a letter.
+fn is_word(bytes: &[u8]) -> bool
+    ensures { result ≡ is_word bytes.now }
+{
+    begins_with_letter(bytes) && are_word_bytes(bytes)
+}
+
+/// Appends the letters and digits of a word.
+fn put_word(word: &[u8], out: &mut String) -> Result<(), AllocError>
+    requires { list_all is_word_byte word.now ≡ true }
+    ensures { OnOk result (string_bytes out.new ≡ string_bytes out.old ++ word.now) }
+{
+    let mut rest = word;
+    while let [byte, more @ ..] = rest {
+        out.push(char::from(*byte))?;
+        rest = more;
+    }
+    Ok(())
+}
+
+/// Appends a word as it is, and other bytes in hexadecimal.
+pub(crate) fn put_word_or_bytes(bytes: &[u8], out: &mut String) -> Result<(), AllocError>
+    ensures { OnOk result (string_bytes out.new ≡ string_bytes out.old ++ word_text bytes.now) }
+{
+    if is_word(bytes) {
+        return put_word(bytes, out);
+    }
+    put_bytes(bytes, out)
+}

@@ -1,0 +1,248 @@
+-- `header` gives the one header that stands at the front, and the fault where none does.
+use Rattle.std.proofs.Common.{◌≡◌, ℕ, zero, suc, ◌+◌, ◌-◌, ◌^◌, ◌<◌, ◌≤◌, inl, inr, ⊎_elim, List, [], ◌∷◌, ◌++◌, length, take, get_or, refl, sym, ap}
+use Rattle.std.proofs.Common.{◌∙◌, subst, arith, Ok, Err, Result, false, ◌==◌, leb, ltb, ne_eqb, le-ltb, take_at, length-append}
+use Rattle.std.proofs.Common.{MatchResult, ◌≢◌, length-take-le, lt_of_lt_of_le, take-append-drop, drop, ltb-true, ltb-false, eqb-true, leb-false}
+use Rattle.std.proofs.lemmas.Bool.Decides.{nat_tests}
+use Rattle.std.proofs.lemmas.Bool.{cases_lt, cond_both, eqb-false, cond-false, lt-leb}
+use Rattle.std.specs.List.{AllByRecursion}
+use Rattle.std.proofs.Math.Nat.{pow-le-pow_right}
+use Rattle.std.proofs.lemmas.List.Elements.{recursion_from_All}
+use Rattle.std.proofs.lemmas.Int.Digits.{number_lt}
+use Rattle.std.specs.Int.Digits.{number_from_digits}
+-- what a slice of `u8` holds, passed on
+pub use Rattle.rlp_format.proofs.Lemmas.Digits.{bytes_held}
+use Rattle.rlp_reading.specs.declared.error.DecoderError.{DecoderError}
+use Rattle.rlp_reading.specs.declared.header.PayloadInfo.{PayloadInfo}
+use Rattle.rlp_reading.specs.declared.error.DecoderError.TheVariants.{RlpIsTooShort, RlpDataLenWithZeroPrefix, RlpListLenWithZeroPrefix, RlpInvalidIndirection}
+use Rattle.rlp_format.specs.Format.WrittenHeader.{big_endian, written_header, IsBase, AreBytes}
+use Rattle.rlp_reading.specs.Format.Header.{HasHeader, lone, written, header, long_header, header_fault, HasNoHeader, announced, ReadsHeader, payload_info}
+use Rattle.rlp_format.proofs.Lemmas.Digits.{big_endian_value, big_endian_first, big_endian_again}
+use Rattle.rlp_format.proofs.Lemmas.Headers.{shape, Parts, written_header_short, written_header_long}
+
+-- the header of a low byte
+pub header_low : (first : ℕ) (rest : List ℕ) → first < 0x80 → header (first ∷ rest) ≡ Ok (payload_info 0 1)
+unfolding header
+header_low first rest h = grind (arith, nat_tests)
+
+-- the header of a short string
+pub header_string : (first : ℕ) (rest : List ℕ) → 0x80 ≤ first → first < 0xb8 → header (first ∷ rest) ≡ Ok (payload_info 1 (first - 0x80))
+unfolding header
+header_string first rest l h = grind (arith, nat_tests)
+
+-- the header of a long string
+pub header_long_string : (first : ℕ) (rest : List ℕ) → 0xb8 ≤ first → first < 0xc0
+    → header (first ∷ rest) ≡ long_header RlpDataLenWithZeroPrefix (first - 0xb7) rest
+unfolding header
+header_long_string first rest l h = grind (arith, nat_tests)
+
+-- the header of a short list
+pub header_list : (first : ℕ) (rest : List ℕ) → 0xc0 ≤ first → first < 0xf8 → header (first ∷ rest) ≡ Ok (payload_info 1 (first - 0xc0))
+unfolding header
+header_list first rest l h = grind (arith, nat_tests)
+
+-- the header of a long list
+pub header_long_list : (first : ℕ) (rest : List ℕ) → 0xf8 ≤ first → header (first ∷ rest) ≡ long_header RlpListLenWithZeroPrefix (first - 0xf7) rest
+unfolding header
+header_long_list first rest l = grind (arith, nat_tests)
+
+-- ---- where a header stands, it is read
+
+-- a low byte is read as its own value
+pub read_lone : (byte : ℕ) (rest : List ℕ) → byte < 0x80 → header (byte ∷ rest) ≡ Ok (payload_info 0 1)
+read_lone byte rest low = header_low byte rest low
+
+-- a long header that stands in front is read
+pub long_header_is : (zero_fault : DecoderError) (k : ℕ) (digits rest : List ℕ) → length digits ≡ k → 0 < get_or digits 0 0 → 55 < number_from_digits 256 digits
+    → long_header zero_fault k (digits ++ rest) ≡ Ok (payload_info (1 + k) (number_from_digits 256 digits))
+long_header_is zero_fault k [] rest l first large = absurd (omega arith)
+long_header_is zero_fault k (d ∷ ds) rest l first large =
+    let front : take k ((d ∷ ds) ++ rest) ≡ d ∷ ds = take_at (d ∷ ds) rest k l in
+    let nonzero : (d == 0) ≡ false = ne_eqb d 0 (λ e. omega arith) in
+    let enough : ltb (length ((d ∷ ds) ++ rest)) k ≡ false = le-ltb _ _ (omega (arith, length-append (d ∷ ds) rest)) in
+    let long : leb (number_from_digits 256 (take k ((d ∷ ds) ++ rest))) 55 ≡ false = ap (λ s. leb (number_from_digits 256 s) 55) front ∙ lt-leb _ _ large in
+    cond-false (d == 0) _ _ nonzero ∙ cond-false (ltb (length ((d ∷ ds) ++ rest)) k) _ _ enough ∙ cond-false _ _ _ long
+    ∙ ap (λ s. Ok (payload_info (1 + k) (number_from_digits 256 s))) front
+
+read_parts : (base n first : ℕ) (more rest : List ℕ) → IsBase base → Parts base n first more
+    → header (first ∷ (more ++ rest)) ≡ Ok (payload_info (1 + length more) n)
+read_parts base n first more rest (inl b) (inl (short, is, none)) =
+    let value : first - 0x80 ≡ n = omega arith in
+    let header_len : 1 ≡ 1 + length more = omega (arith, ap length none) in
+    header_string first (more ++ rest) (omega arith) (omega arith) ∙ cc
+read_parts base n first more rest (inr b) (inl (short, is, none)) =
+    let value : first - 0xc0 ≡ n = omega arith in
+    let header_len : 1 ≡ 1 + length more = omega (arith, ap length none) in
+    header_list first (more ++ rest) (omega arith) (omega arith) ∙ cc
+read_parts base n first more rest (inl b) (inr (long, is, digits, some, few)) =
+    let value : number_from_digits 256 more ≡ n = ap (number_from_digits 256) digits ∙ big_endian_value n in
+    let leading : 0 < get_or more 0 0 = rw digits (big_endian_first n (omega arith)) in
+    let k : first - 0xb7 ≡ length more = omega arith in
+    header_long_string first (more ++ rest) (omega arith) (omega arith)
+    ∙ long_header_is RlpDataLenWithZeroPrefix (first - 0xb7) more rest (sym k) leading (omega arith)
+    ∙ cc
+read_parts base n first more rest (inr b) (inr (long, is, digits, some, few)) =
+    let value : number_from_digits 256 more ≡ n = ap (number_from_digits 256) digits ∙ big_endian_value n in
+    let leading : 0 < get_or more 0 0 = rw digits (big_endian_first n (omega arith)) in
+    let k : first - 0xf7 ≡ length more = omega arith in
+    header_long_list first (more ++ rest) (omega arith)
+    ∙ long_header_is RlpListLenWithZeroPrefix (first - 0xf7) more rest (sym k) leading (omega arith)
+    ∙ cc
+
+-- a header that was written is read
+pub read_written : (base n : ℕ) (rest : List ℕ) → IsBase base → n < 2 ^ 64
+    → header (written_header base n ++ rest) ≡ Ok (payload_info (length (written_header base n)) n)
+read_written base n rest b small =
+    let s = shape base n small in
+    let one : length (first_and s.first s.more) ≡ 1 + length s.more = omega arith in
+    ap (λ h. header (h ++ rest)) s.is ∙ read_parts base n s.first s.more rest b s.parts ∙ ap (λ l. Ok (payload_info l n)) (sym one ∙ ap length (sym s.is))
+  where
+    first_and : ℕ → List ℕ → List ℕ
+    first_and c s = c ∷ s
+
+-- the header that stands at the front is read
+pub read : {b : List ℕ} {h n : ℕ} → HasHeader b h n → header b ≡ Ok (payload_info h n)
+read (lone byte rest low) = read_lone byte rest low
+read (written base n rest b small) = read_written base n rest b small
+
+-- so there is only one
+pub header_unique : (b : List ℕ) (h1 n1 h2 n2 : ℕ) → HasHeader b h1 n1 → HasHeader b h2 n2 → (h1 ≡ h2) × (n1 ≡ n2)
+header_unique b h1 n1 h2 n2 one two =
+    let same = sym (read one) ∙ read two in
+    let infos : payload_info h1 n1 ≡ payload_info h2 n2 = cc in
+    (ap (λ (p : PayloadInfo). p.header_len) infos, ap (λ (p : PayloadInfo). p.value_len) infos)
+
+-- where `header` answers a fault no header stands in front
+pub no_header : (b : List ℕ) (e : DecoderError) → header b ≡ Err e → HasNoHeader b
+no_header b e is h n has = let same = sym (read has) ∙ is in cc
+
+-- ---- what is read stands there
+
+-- the answer of `header`: a header that stands in front, or the fault of none
+abbrev pub Row : List ℕ → Result PayloadInfo DecoderError → Type 0
+Row b r = MatchResult r (λ p. HasHeader b p.header_len p.value_len) (λ e. e ≡ header_fault b)
+
+fault_zero_string : (first second : ℕ) (more : List ℕ) → second ≡ 0 → 0xb8 ≤ first → first < 0xc0
+    → RlpDataLenWithZeroPrefix ≡ header_fault (first ∷ second ∷ more)
+fault_zero_string first second more z l h = grind (arith, nat_tests)
+
+fault_zero_list : (first second : ℕ) (more : List ℕ) → second ≡ 0 → 0xf8 ≤ first → first < 0x100
+    → RlpListLenWithZeroPrefix ≡ header_fault (first ∷ second ∷ more)
+fault_zero_list first second more z l h = grind (arith, nat_tests)
+
+fault_short : (first second k : ℕ) (more : List ℕ) → second ≢ 0 → announced first ≡ k → length (second ∷ more) < k
+    → RlpIsTooShort ≡ header_fault (first ∷ second ∷ more)
+fault_short first second k more z a h = grind (arith, nat_tests)
+
+fault_indirect : (first second k : ℕ) (more : List ℕ) → second ≢ 0 → announced first ≡ k → k ≤ length (second ∷ more)
+    → RlpInvalidIndirection ≡ header_fault (first ∷ second ∷ more)
+fault_indirect first second k more z a h = grind (arith, nat_tests)
+
+announced_string : (first : ℕ) → first < 0xc0 → announced first ≡ first - 0xb7
+announced_string first h = grind (arith, nat_tests)
+
+announced_list : (first : ℕ) → 0xc0 ≤ first → announced first ≡ first - 0xf7
+announced_list first h = grind (arith, nat_tests)
+
+-- `AreBytes`, by recursion
+abbrev pub Bytes : List ℕ → Type 0
+Bytes b = AllByRecursion (λ byte. byte < 2 ^ 8) b
+
+take_bytes : (k : ℕ) (s : List ℕ) → Bytes s → Bytes (take k s)
+take_bytes zero s h = tt
+take_bytes (suc k) [] h = tt
+take_bytes (suc k) (c ∷ s) (low, h) = (low, take_bytes k s h)
+
+long_hdr : (base n first k : ℕ) (digits : List ℕ) → big_endian n ≡ digits → 55 < n → length digits ≡ k → first ≡ base + 55 + k
+    → written_header base n ≡ first ∷ digits
+long_hdr base n first k digits e large l is =
+    let lengths : base + 55 + length (big_endian n) ≡ first = omega (arith, ap length e) in
+    written_header_long base n large ∙ cc
+
+-- the k bytes after a first byte that announces them, and more
+pub long_whole : (base first k n second : ℕ) (more : List ℕ) → first ≡ base + 55 + suc k → suc k ≤ 8 → 0 < second → Bytes (second ∷ more)
+    → suc k ≤ length (second ∷ more) → n ≡ number_from_digits 256 (second ∷ take k more) → 55 < n
+    → (n < 2 ^ 64) × (written_header base n ++ drop k more ≡ first ∷ second ∷ more) × (length (written_header base n) ≡ 1 + suc k)
+long_whole base first k n second more is few leading (low, bytes) enough value large =
+    let digits : big_endian n ≡ second ∷ take k more = ap big_endian value ∙ big_endian_again second (take k more) leading (low, take_bytes k more bytes) in
+    let long : length (second ∷ take k more) ≡ suc k = omega (arith, length-take-le k more (omega arith)) in
+    let below : number_from_digits 256 (second ∷ take k more) < 256 ^ length (second ∷ take k more) =
+    number_lt 256 (second ∷ take k more) (low, take_bytes k more bytes) in
+    let at_most : length (second ∷ take k more) ≤ 8 = omega arith in
+    let base_above : 0 < 256 = omega arith in
+    let most : 256 ^ length (second ∷ take k more) ≤ 256 ^ 8 = pow-le-pow_right base_above at_most in
+    let under : number_from_digits 256 (second ∷ take k more) < 2 ^ 64 = lt_of_lt_of_le below most in
+    let small : n < 2 ^ 64 = rw value under in
+    let head : written_header base n ≡ first ∷ second ∷ take k more = long_hdr base n first (suc k) (second ∷ take k more) digits large long is in
+    (small, ap (λ h. h ++ drop k more) head ∙ ap (λ s. first ∷ second ∷ s) (take-append-drop k more), omega (arith, ap length head))
+
+long_has : (base first k n second : ℕ) (more : List ℕ) → IsBase base → first ≡ base + 55 + suc k → suc k ≤ 8 → 0 < second → Bytes (second ∷ more)
+    → suc k ≤ length (second ∷ more) → n ≡ number_from_digits 256 (second ∷ take k more) → 55 < n
+    → HasHeader (first ∷ second ∷ more) (1 + suc k) n
+long_has base first k n second more b is few leading bytes enough value large =
+    let (small, whole, header_len) = long_whole base first k n second more is few leading bytes enough value large in
+    let has : HasHeader (written_header base n ++ drop k more) (length (written_header base n)) n = written base n (drop k more) b small in
+    subst (λ h. HasHeader (first ∷ second ∷ more) h n) header_len (subst (λ b. HasHeader b (length (written_header base n)) n) whole has)
+
+-- a header of one byte
+pub short_has : (base first n : ℕ) (rest : List ℕ) → IsBase base → first ≡ base + n → n ≤ 55 → HasHeader (first ∷ rest) 1 n
+short_has base first n rest b is short =
+    let head : written_header base n ≡ first ∷ [] = written_header_short base n short ∙ ap (λ c. c ∷ []) (sym is) in
+    let has : HasHeader (written_header base n ++ rest) (length (written_header base n)) n = written base n rest b (omega arith) in
+    rw head at has
+
+long_row : (base first k second : ℕ) (zero_fault : DecoderError) (more : List ℕ) → IsBase base → first ≡ base + 55 + suc k → suc k ≤ 8 → announced first ≡ suc k
+    → Bytes (second ∷ more) → (second ≡ 0 → zero_fault ≡ header_fault (first ∷ second ∷ more))
+    → Row (first ∷ second ∷ more) (long_header zero_fault (suc k) (second ∷ more))
+long_row base first k second zero_fault more b is few says bytes zero_case =
+    cond_both (second == 0) _ _ (Row (first ∷ second ∷ more))
+    (λ e. zero_case (eqb-true second 0 e))
+    (λ e. let nonzero : second ≢ 0 = eqb-false second 0 e in
+    cond_both (ltb (length (second ∷ more)) (suc k)) _ _ (Row (first ∷ second ∷ more))
+    (λ e. fault_short first second (suc k) more nonzero says (ltb-true _ _ e))
+    (λ e. let enough : suc k ≤ length (second ∷ more) = ltb-false _ _ e in
+    cond_both (leb (number_from_digits 256 (second ∷ take k more)) 55) _ _ (Row (first ∷ second ∷ more))
+    (λ e. fault_indirect first second (suc k) more nonzero says enough)
+    (λ e. long_has base first k (number_from_digits 256 (second ∷ take k more)) second more b is few (omega arith) bytes enough refl (leb-false _ _ e))))
+
+long_rows : (base first k : ℕ) (zero_fault : DecoderError) (rest : List ℕ) → IsBase base → first ≡ base + 55 + suc k → suc k ≤ 8 → announced first ≡ suc k
+    → Bytes rest → ((second : ℕ) (more : List ℕ) → second ≡ 0 → zero_fault ≡ header_fault (first ∷ second ∷ more))
+    → Row (first ∷ rest) (long_header zero_fault (suc k) rest)
+long_rows base first k zero_fault [] b is few says bytes zero_case = refl
+long_rows base first k zero_fault (second ∷ more) b is few says bytes zero_case =
+    long_row base first k second zero_fault more b is few says bytes (zero_case second more)
+
+string_row : (first : ℕ) (rest : List ℕ) → 0xb8 ≤ first → first < 0xc0 → Bytes rest
+    → Row (first ∷ rest) (long_header RlpDataLenWithZeroPrefix (first - 0xb7) rest)
+string_row first rest l h bytes =
+    let k : first - 0xb7 ≡ suc (first - 0xb8) = omega arith in
+    rw k (long_rows 0x80 first (first - 0xb8) RlpDataLenWithZeroPrefix rest (inl refl) (omega arith) (omega arith)
+    (announced_string first h ∙ k) bytes (λ second more z. fault_zero_string first second more z l h))
+
+list_row : (first : ℕ) (rest : List ℕ) → 0xf8 ≤ first → first < 256 → Bytes rest → Row (first ∷ rest) (long_header RlpListLenWithZeroPrefix (first - 0xf7) rest)
+list_row first rest l h bytes =
+    let k : first - 0xf7 ≡ suc (first - 0xf8) = omega arith in
+    rw k (long_rows 0xc0 first (first - 0xf8) RlpListLenWithZeroPrefix rest (inr refl) (omega arith) (omega arith)
+    (announced_list first (omega arith) ∙ k) bytes (λ second more z. fault_zero_list first second more z l h))
+
+first_row : (first : ℕ) (rest : List ℕ) → first < 256 → Bytes rest → Row (first ∷ rest) (header (first ∷ rest))
+first_row first rest low bytes =
+    let at = λ (r : Result PayloadInfo DecoderError) (e : header (first ∷ rest) ≡ r) (is : Row (first ∷ rest) r). subst (Row (first ∷ rest)) (sym e) is in
+    ⊎_elim (λ below. at _ (header_low first rest below) (lone first rest below))
+    (λ from80. ⊎_elim (λ below. at _ (header_string first rest from80 below) (short_has 0x80 first (first - 0x80) rest (inl refl) (omega arith) (omega arith)))
+    (λ fromb8. ⊎_elim (λ below. at _ (header_long_string first rest fromb8 below) (string_row first rest fromb8 below bytes))
+    (λ fromc0. ⊎_elim (λ below. at _ (header_list first rest fromc0 below) (short_has 0xc0 first (first - 0xc0) rest (inr refl) (omega arith) (omega arith)))
+    (λ fromf8. at _ (header_long_list first rest fromf8) (list_row first rest fromf8 low bytes))
+    (cases_lt first 0xf8)) (cases_lt first 0xc0)) (cases_lt first 0xb8)) (cases_lt first 0x80)
+
+row : (b : List ℕ) → Bytes b → Row b (header b)
+unfolding header
+row [] bytes = refl
+row (first ∷ rest) (low, bytes) = first_row first rest low bytes
+
+reads_from : (b : List ℕ) (r : Result PayloadInfo DecoderError) → header b ≡ r → Row b r → ReadsHeader b r
+reads_from b (Ok p) e is = is
+reads_from b (Err fault) e is = (no_header b fault e, is)
+
+-- `header` gives the header that stands at the front of bytes, or why none does
+pub header_reads : (b : List ℕ) → AreBytes b → ReadsHeader b (header b)
+header_reads b bytes = reads_from b (header b) refl (row b (recursion_from_All (λ byte. byte < 2 ^ 8) b bytes))

@@ -1,0 +1,251 @@
+-- `read_string` gives the one string that stands at the front of bytes.
+use Rattle.std.proofs.Common.{◌≡◌, ℕ, suc, ◌+◌, ◌-◌, ◌^◌, ◌<◌, ◌≤◌, inl, inr, ⊎_elim, Bool, true, false, if◌then◌else◌, slice_index, ◌==◌, ltb, leb}
+use Rattle.std.proofs.Common.{List, [], ◌∷◌, ◌++◌, length, take, drop, get_or, refl, sym, ap, ◌∙◌, subst, arith, Ok, Err, Result, MatchResult, ne_eqb}
+use Rattle.std.proofs.Common.{le-ltb, lt-ltb, ltb-false, leb-false, take_at, drop_at, length-append, length-take-le, append_assoc, take-append-drop}
+use Rattle.std.proofs.Common.{pos_of_ne-zero}
+use Rattle.std.specs.Bool.{⊤}
+use Rattle.std.specs.Int.Digits.{number_from_digits}
+use Rattle.std.proofs.lemmas.Bool.{cases_Bool, cases_lt, cond_both, cond-true, cond-false, lt-leb, eqb-false}
+use Rattle.std.proofs.lemmas.Bool.Decides.{nat_tests}
+use Rattle.std.proofs.lemmas.List.Elements.{recursion_from_All}
+use Rattle.rlp_reading.specs.declared.error.DecoderError.{DecoderError}
+use Rattle.rlp_reading.specs.declared.error.DecoderError.TheVariants.{RlpIsTooShort, RlpExpectedToBeData, RlpInvalidIndirection}
+use Rattle.rlp_reading.specs.declared.error.DecoderError.TheVariants.{RlpInconsistentLengthAndData, RlpInvalidLength}
+use Rattle.rlp_format.specs.Format.Item.{string}
+use Rattle.rlp_format.specs.Format.WrittenHeader.{written_header, AreBytes}
+use Rattle.rlp_format.specs.Format.Encoding.{encoding, string_encoding, is_low_byte}
+use Rattle.rlp_reading.specs.Format.StringReading.{IsString, ReadsString, short_string, long_value, long_string, read_string, short_string_fault}
+use Rattle.rlp_reading.specs.Format.StringReading.{long_value_fault, long_string_fault, string_fault}
+use Rattle.rlp_format.proofs.Lemmas.Digits.{big_endian_first, big_endian_value}
+use Rattle.rlp_format.proofs.Lemmas.Headers.{Parts, shape, written_header_short}
+use Rattle.rlp_format.proofs.Lemmas.Encodings.{low_byte, small_payload, front_sized}
+use Rattle.rlp_reading.proofs.Lemmas.Reading.{Bytes, long_whole}
+
+-- the string of a low byte
+pub string_low : (first : ℕ) (rest : List ℕ) → first < 0x80 → read_string (first ∷ rest) ≡ Ok (first ∷ [])
+unfolding read_string
+string_low first rest h = grind (arith, nat_tests)
+
+-- a short string, by its row
+pub string_short : (first : ℕ) (rest : List ℕ) → 0x80 ≤ first → first < 0xb8 → read_string (first ∷ rest) ≡ short_string (first - 0x80) rest
+unfolding read_string
+string_short first rest l h = cond-false (ltb first 0x80) _ _ (le-ltb _ _ l) ∙ cond-true (ltb first 0xb8) _ _ (lt-ltb _ _ h)
+
+-- a long string, by its row
+pub string_long : (first : ℕ) (rest : List ℕ) → 0xb8 ≤ first → first < 0xc0 → read_string (first ∷ rest) ≡ long_string (first - 0xb7) rest
+unfolding read_string
+string_long first rest l h =
+    let from80 : 0x80 ≤ first = omega arith in
+    cond-false (ltb first 0x80) _ _ (le-ltb _ _ from80) ∙ cond-false (ltb first 0xb8) _ _ (le-ltb _ _ l) ∙ cond-true (ltb first 0xc0) _ _ (lt-ltb _ _ h)
+
+-- a list isn't a string
+pub string_list : (first : ℕ) (rest : List ℕ) → 0xc0 ≤ first → read_string (first ∷ rest) ≡ Err RlpExpectedToBeData
+unfolding read_string
+string_list first rest l =
+    let from80 : 0x80 ≤ first = omega arith in
+    let fromb8 : 0xb8 ≤ first = omega arith in
+    cond-false (ltb first 0x80) _ _ (le-ltb _ _ from80) ∙ cond-false (ltb first 0xb8) _ _ (le-ltb _ _ fromb8) ∙ cond-false (ltb first 0xc0) _ _ (le-ltb _ _ l)
+
+-- ---- the string that stands there is read
+
+short_is : (n : ℕ) (d more : List ℕ) → length d ≡ n → is_low_byte d ≡ false → short_string n (d ++ more) ≡ Ok d
+short_is n d more l high =
+    let front : take n (d ++ more) ≡ d = take_at d more n l in
+    let enough : n ≤ length (d ++ more) = omega (arith, length-append d more) in
+    cond-false (ltb (length (d ++ more)) n) _ _ (le-ltb _ _ enough)
+    ∙ cond-false (is_low_byte (take n (d ++ more))) _ _ (ap is_low_byte front ∙ high)
+    ∙ ap Ok front
+
+value_is : (k n : ℕ) (d more : List ℕ) → length d ≡ n → 55 < n → 1 + k + n < 2 ^ 64 → long_value k n (d ++ more) ≡ Ok d
+value_is k n d more l large small =
+    let fits : 1 + k + n ≤ 2 ^ 64 - 1 = omega arith in
+    let enough : n ≤ length (d ++ more) = omega (arith, length-append d more) in
+    cond-false (leb n 55) _ _ (lt-leb _ _ large)
+    ∙ cond-false (ltb (2 ^ 64 - 1) (1 + k + n)) _ _ (le-ltb _ _ fits)
+    ∙ cond-false (ltb (length (d ++ more)) n) _ _ (le-ltb _ _ enough)
+    ∙ ap Ok (take_at d more n l)
+
+long_is : (k n : ℕ) (digits rest : List ℕ) → length digits ≡ k → 0 < get_or digits 0 0 → number_from_digits 256 digits ≡ n
+    → long_string k (digits ++ rest) ≡ long_value k n rest
+long_is k n [] rest l first value = absurd (omega arith)
+long_is k n (c ∷ digits) rest l first value =
+    let enough : k ≤ length ((c ∷ digits) ++ rest) = omega (arith, length-append (c ∷ digits) rest) in
+    cond-false (ltb (length ((c ∷ digits) ++ rest)) k) _ _ (le-ltb _ _ enough)
+    ∙ cond-false (c == 0) _ _ (ne_eqb c 0 (λ e. omega arith))
+    ∙ ap (λ s. long_value k (number_from_digits 256 s) (drop k ((c ∷ digits) ++ rest))) (take_at (c ∷ digits) rest k l)
+    ∙ ap (long_value k (number_from_digits 256 (c ∷ digits))) (drop_at (c ∷ digits) rest k l)
+    ∙ ap (λ m. long_value k m rest) value
+
+parts_read : (n first : ℕ) (digits d more : List ℕ) → Parts 0x80 n first digits → length d ≡ n → is_low_byte d ≡ false → 1 + length digits + n < 2 ^ 64
+    → read_string (first ∷ (digits ++ (d ++ more))) ≡ Ok d
+parts_read n first digits d more (inl (short, is, none)) l high small =
+    let value : first - 0x80 ≡ n = omega arith in
+    string_short first (digits ++ (d ++ more)) (omega arith) (omega arith)
+    ∙ ap (λ k. short_string k (digits ++ (d ++ more))) value
+    ∙ ap (λ s. short_string n (s ++ (d ++ more))) none
+    ∙ short_is n d more l high
+parts_read n first digits d more (inr (long, is, same, some, few)) l high small =
+    let value : number_from_digits 256 digits ≡ n = ap (number_from_digits 256) same ∙ big_endian_value n in
+    let leading : 0 < get_or digits 0 0 = rw same (big_endian_first n (omega arith)) in
+    let k : first - 0xb7 ≡ length digits = omega arith in
+    string_long first (digits ++ (d ++ more)) (omega arith) (omega arith)
+    ∙ ap (λ k. long_string k (digits ++ (d ++ more))) k
+    ∙ long_is (length digits) n digits (d ++ more) refl leading value
+    ∙ value_is (length digits) n d more l long small
+
+-- a string that stands in front is read
+pub string_only : (b d : List ℕ) → length b < 2 ^ 64 → IsString b d → read_string b ≡ Ok d
+unfolding encoding
+string_only b d fits (more, is) =
+    ⊎_elim
+    (λ low. let lone = low_byte d low in
+    let e : string_encoding d ≡ d = cond-true (is_low_byte d) d (written_header 0x80 (length d) ++ d) low in
+    ap read_string (is ∙ ap (λ s. s ++ more) (e ∙ lone.is)) ∙ string_low lone.byte more lone.low ∙ ap Ok (sym lone.is))
+    (λ high. let e : string_encoding d ≡ written_header 0x80 (length d) ++ d = cond-false (is_low_byte d) d (written_header 0x80 (length d) ++ d) high in
+    let sized : length (string_encoding d) < 2 ^ 64 = front_sized (string d) b more fits is in
+    let small : length d < 2 ^ 64 = small_payload 0x80 d (string_encoding d) e sized in
+    let s = shape 0x80 (length d) small in
+    let whole : 1 + length s.more + length d < 2 ^ 64 = omega (arith, sized, ap length e, length-append (written_header 0x80 (length d)) d, ap length s.is) in
+    ap read_string (is ∙ ap (λ s. s ++ more) e ∙ append_assoc (written_header 0x80 (length d)) d more ∙ ap (λ h. h ++ (d ++ more)) s.is)
+    ∙ parts_read (length d) s.first s.more d more s.parts refl high whole)
+    (cases_Bool (is_low_byte d))
+
+-- ---- what is read stands there
+
+-- opaque, so that `cond_both` finds its arguments
+Stands : List ℕ → Result (List ℕ) DecoderError → Type 0
+Stands b r = MatchResult r (λ d. IsString b d) (λ _. ⊤)
+
+stands_ok : (b d : List ℕ) → IsString b d → Stands b (Ok d)
+unfolding Stands
+stands_ok b d is = is
+
+stands_err : (b : List ℕ) (e : DecoderError) → Stands b (Err e)
+unfolding Stands
+stands_err b e = tt
+
+written_string : (b d more : List ℕ) → is_low_byte d ≡ false → b ≡ written_header 0x80 (length d) ++ (d ++ more) → IsString b d
+unfolding encoding
+written_string b d more high is =
+    let e : string_encoding d ≡ written_header 0x80 (length d) ++ d = cond-false (is_low_byte d) d (written_header 0x80 (length d) ++ d) high in
+    (more, is ∙ sym (append_assoc (written_header 0x80 (length d)) d more) ∙ ap (λ s. s ++ more) (sym e))
+
+low_string : (first : ℕ) (rest : List ℕ) → first < 0x80 → IsString (first ∷ rest) (first ∷ [])
+unfolding encoding
+low_string first rest low =
+    (rest, ap (λ s. s ++ rest) (sym (cond-true (ltb first 0x80) (first ∷ []) (written_header 0x80 1 ++ first ∷ []) (lt-ltb _ _ low))))
+
+short_stands : (first n : ℕ) (rest : List ℕ) → first ≡ 0x80 + n → n ≤ 55 → Stands (first ∷ rest) (short_string n rest)
+short_stands first n rest is short =
+    cond_both (ltb (length rest) n) _ _ (Stands (first ∷ rest)) (λ _. stands_err _ _)
+    (λ e. let enough : n ≤ length rest = ltb-false _ _ e in
+    let long : length (take n rest) ≡ n = length-take-le n rest enough in
+    let head : written_header 0x80 (length (take n rest)) ≡ first ∷ [] = ap (written_header 0x80) long ∙ written_header_short 0x80 n short
+    ∙ ap (λ c. c ∷ []) (sym is) in
+    cond_both (is_low_byte (take n rest)) _ _ (Stands (first ∷ rest)) (λ _. stands_err _ _)
+    (λ high. stands_ok _ _ (written_string (first ∷ rest) (take n rest) (drop n rest) high
+    (ap (λ s. first ∷ s) (sym (take-append-drop n rest)) ∙ ap (λ h. h ++ (take n rest ++ drop n rest)) (sym head)))))
+
+not_low : (s : List ℕ) → 1 < length s → is_low_byte s ≡ false
+not_low [] h = refl
+not_low (c ∷ []) h = absurd (omega arith)
+not_low (c ∷ d ∷ s) h = refl
+
+value_stands : (first k n second : ℕ) (more : List ℕ) → first ≡ 0x80 + 55 + suc k → suc k ≤ 8 → 0 < second → Bytes (second ∷ more)
+    → suc k ≤ length (second ∷ more) → n ≡ number_from_digits 256 (second ∷ take k more) → Stands (first ∷ second ∷ more) (long_value (suc k) n (drop k more))
+value_stands first k n second more is few leading bytes enough value =
+    let b : List ℕ = first ∷ second ∷ more in
+    cond_both (leb n 55) _ _ (Stands (first ∷ second ∷ more)) (λ _. stands_err _ _)
+    (λ e. let large : 55 < n = leb-false _ _ e in
+    cond_both (ltb (2 ^ 64 - 1) (1 + suc k + n)) _ _ (Stands (first ∷ second ∷ more)) (λ _. stands_err _ _)
+    (λ _. cond_both (ltb (length (drop k more)) n) _ _ (Stands (first ∷ second ∷ more)) (λ _. stands_err _ _)
+    (λ f. let there : n ≤ length (drop k more) = ltb-false _ _ f in
+    let (small, whole, _) = long_whole 0x80 first k n second more is few leading bytes enough value large in
+    let d : List ℕ = take n (drop k more) in
+    let long : length (take n (drop k more)) ≡ n = length-take-le n (drop k more) there in
+    stands_ok _ _
+    (written_string (first ∷ second ∷ more) (take n (drop k more)) (drop n (drop k more)) (not_low (take n (drop k more)) (omega arith))
+    (sym whole ∙ ap (λ s. written_header 0x80 n ++ s) (sym (take-append-drop n (drop k more)))
+    ∙ ap (λ m. written_header 0x80 m ++ (take n (drop k more) ++ drop n (drop k more))) (sym long))))))
+
+long_stands : (first k : ℕ) (rest : List ℕ) → first ≡ 0x80 + 55 + suc k → suc k ≤ 8 → Bytes rest → Stands (first ∷ rest) (long_string (suc k) rest)
+long_stands first k [] is few bytes =
+    cond_both (ltb (length {A = ℕ} []) (suc k)) _ _ (Stands (first ∷ [])) (λ _. stands_err _ _)
+    (λ e. absurd (let none : suc k ≤ 0 = ltb-false 0 (suc k) e in omega arith))
+long_stands first k (second ∷ more) is few bytes =
+    cond_both (ltb (length (second ∷ more)) (suc k)) _ _ (Stands (first ∷ second ∷ more)) (λ _. stands_err _ _)
+    (λ e. let enough : suc k ≤ length (second ∷ more) = ltb-false _ _ e in
+    cond_both (second == 0) _ _ (Stands (first ∷ second ∷ more)) (λ _. stands_err _ _)
+    (λ f. let nonzero : second ≡ 0 → ⊥ = eqb-false second 0 f in
+    let leading : 0 < second = pos_of_ne-zero nonzero in
+    value_stands first k (number_from_digits 256 (second ∷ take k more)) second more is few leading bytes enough refl))
+
+first_stands : (first : ℕ) (rest : List ℕ) → Bytes rest → Stands (first ∷ rest) (read_string (first ∷ rest))
+first_stands first rest bytes =
+    let at = λ (r : Result (List ℕ) DecoderError) (e : read_string (first ∷ rest) ≡ r) (is : Stands (first ∷ rest) r). subst (Stands (first ∷ rest))
+    (sym e) is in
+    ⊎_elim (λ below. at _ (string_low first rest below) (stands_ok _ _ (low_string first rest below)))
+    (λ from80. ⊎_elim (λ below. at _ (string_short first rest from80 below) (short_stands first (first - 0x80) rest (omega arith) (omega arith)))
+    (λ fromb8. ⊎_elim
+    (λ below. let k : first - 0xb7 ≡ suc (first - 0xb8) = omega arith in
+    at _ (string_long first rest fromb8 below ∙ ap (λ k. long_string k rest) k) (long_stands first (first - 0xb8) rest (omega arith) (omega arith) bytes))
+    (λ fromc0. at _ (string_list first rest fromc0) (stands_err _ _))
+    (cases_lt first 0xc0)) (cases_lt first 0xb8)) (cases_lt first 0x80)
+
+stands : (b : List ℕ) → Bytes b → Stands b (read_string b)
+unfolding read_string
+stands [] bytes = stands_err _ _
+stands (first ∷ rest) bytes = first_stands first rest bytes.1
+
+-- ---- the fault is the first that applies
+
+cond_fault : (b : Bool) (r s : Result (List ℕ) DecoderError) (e f g : DecoderError) → (r ≡ Err e → e ≡ f) → (s ≡ Err e → e ≡ g)
+    → (if b then r else s) ≡ Err e → e ≡ (if b then f else g)
+cond_fault true r s e f g then_f else_g is = then_f is
+cond_fault false r s e f g then_f else_g is = else_g is
+
+fault_same : (e f : DecoderError) → (let r : Result (List ℕ) DecoderError = Err f in r) ≡ Err e → e ≡ f
+fault_same e f is = cc
+
+cond_ok : (b : Bool) (d : List ℕ) (s : Result (List ℕ) DecoderError) (e : DecoderError) → (if b then Ok d else s) ≡ Err e → s ≡ Err e
+cond_ok true d s e is = cc
+cond_ok false d s e is = is
+
+indirection : (b : Bool) (d : List ℕ) (e : DecoderError) → (if b then Err RlpInvalidIndirection else Ok d) ≡ Err e → e ≡ RlpInvalidIndirection
+indirection true d e is = cc
+indirection false d e is = cc
+
+short_fault : (n : ℕ) (rest : List ℕ) (e : DecoderError) → short_string n rest ≡ Err e → e ≡ short_string_fault n rest
+short_fault n rest e =
+    cond_fault (ltb (length rest) n) _ _ e _ _ (fault_same e RlpInconsistentLengthAndData) (indirection (is_low_byte (take n rest)) (take n rest) e)
+
+inconsistent : (b : Bool) (d : List ℕ) (e : DecoderError) → (if b then Err RlpInconsistentLengthAndData else Ok d) ≡ Err e → e ≡ RlpInconsistentLengthAndData
+inconsistent true d e is = cc
+inconsistent false d e is = cc
+
+value_fault : (k n : ℕ) (rest : List ℕ) (e : DecoderError) → long_value k n rest ≡ Err e → e ≡ long_value_fault k n
+value_fault k n rest e =
+    cond_fault (leb n 55) _ _ e _ _ (fault_same e RlpInvalidIndirection)
+    (cond_fault (ltb (2 ^ 64 - 1) (1 + k + n)) _ _ e _ _ (fault_same e RlpInvalidLength) (inconsistent (ltb (length rest) n) (take n rest) e))
+
+long_fault : (k : ℕ) (rest : List ℕ) (e : DecoderError) → long_string k rest ≡ Err e → e ≡ long_string_fault k rest
+long_fault k rest e =
+    cond_fault (ltb (length rest) k) _ _ e _ _ (fault_same e RlpInconsistentLengthAndData)
+    (cond_fault (slice_index rest 0 == 0) _ _ e _ _ (fault_same e RlpInvalidIndirection) (value_fault k (number_from_digits 256 (take k rest)) (drop k rest) e))
+
+fault_read : (b : List ℕ) (e : DecoderError) → read_string b ≡ Err e → e ≡ string_fault b
+unfolding read_string
+fault_read [] e is = fault_same e RlpIsTooShort is
+fault_read (first ∷ rest) e is =
+    cond_fault (ltb first 0xb8) _ _ e _ _ (short_fault (first - 0x80) rest e)
+    (cond_fault (ltb first 0xc0) _ _ e _ _ (long_fault (first - 0xb7) rest e) (fault_same e RlpExpectedToBeData))
+    (cond_ok (ltb first 0x80) (first ∷ []) _ e is)
+
+answer_from : (b : List ℕ) (r : Result (List ℕ) DecoderError) → length b < 2 ^ 64 → read_string b ≡ r → Stands b r → ReadsString b r
+unfolding Stands
+answer_from b (Ok d) fits is there = there
+answer_from b (Err e) fits is there = ((λ d has. let same = sym (string_only b d fits has) ∙ is in cc), fault_read b e is)
+
+-- `read_string` gives the string in front, or the fault where none is
+pub string_reads : (b : List ℕ) → AreBytes b → length b < 2 ^ 64 → ReadsString b (read_string b)
+string_reads b bytes fits = answer_from b (read_string b) fits refl (stands b (recursion_from_All (λ byte. byte < 2 ^ 8) b bytes))

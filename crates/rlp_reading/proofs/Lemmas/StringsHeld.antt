@@ -1,0 +1,183 @@
+-- What a lenient or a strict view holds, and the string that is read from it.
+use Rattle.std.proofs.Common.{◌≡◌, ℕ, zero, suc, ◌^◌, ◌<◌, ◌≤◌, ◌+◌, ◌-◌, ⊎_elim, Bool, true, false, IsTrue, if◌then◌else◌, ltb, List, [], ◌∷◌, ◌++◌, length, take, drop, get_or, refl, sym, ap, ◌∙◌, subst}
+use Rattle.std.proofs.Common.{arith, append-nil, length-append, length-take-le, take_all, take-append-drop, le-ltb, lt-ltb, Result, Ok, Err, MatchResult, IfErr}
+use Rattle.std.proofs.lemmas.Bool.{cases_lt, cond-true, cond-false}
+use Rattle.rlp_reading.specs.declared.error.DecoderError.{DecoderError}
+use Rattle.rlp_reading.specs.declared.error.DecoderError.TheVariants.{RlpIsTooBig}
+use Rattle.rlp_format.specs.Format.Item.{Item, string}
+use Rattle.rlp_reading.specs.Format.Header.{HasHeader}
+use Rattle.rlp_format.specs.Format.WrittenHeader.{AreBytes, written_header}
+use Rattle.rlp_format.specs.Format.Encoding.{encoding, is_low_byte, BeginsWith, IsSized}
+use Rattle.rlp_reading.specs.Format.StringReading.{IsString, ReadsString, read_string}
+use Rattle.rlp_reading.specs.Format.Strict.{is_followed, is_longer, whole_string}
+use Rattle.rlp_reading.specs.Views.View.{View, Holds, HoldsItem, HoldsNoString, HoldsString, view_string}
+use Rattle.rlp_format.proofs.Lemmas.Encodings.{front_sized}
+use Rattle.rlp_format.proofs.Lemmas.Headers.{written_header_short}
+use Rattle.rlp_reading.proofs.Lemmas.Frames.{encoding_item, framing_is, longer}
+use Rattle.rlp_reading.proofs.Lemmas.Strings.{string_only, string_reads}
+
+begins_by : (strict : Bool) (b s : List ℕ) → Holds strict b s → BeginsWith b s
+begins_by false b s holds = holds
+begins_by true b s holds = ([], holds ∙ sym (append-nil s))
+
+-- a view begins with the item that it holds
+pub held_begins : (v : View) (x : Item) → HoldsItem v x → BeginsWith v.bytes (encoding x)
+held_begins v x holds = begins_by v.is_strict v.bytes (encoding x) holds
+
+whole_is : (b d : List ℕ) → b ≡ encoding (string d) → whole_string b (Ok d) ≡ Ok d
+whole_is b d is = cond-false (ltb (length (encoding (string d))) (length b)) _ _ (le-ltb _ _ (omega (arith, ap length is)))
+
+read_by : (strict : Bool) (b d : List ℕ) → length b < 2 ^ 64 → Holds strict b (encoding (string d))
+    → (if strict then whole_string b (read_string b) else read_string b) ≡ Ok d
+read_by false b d fits holds = string_only b d fits holds
+read_by true b d fits holds = ap (whole_string b) (string_only b d fits (begins_by true b (encoding (string d)) holds)) ∙ whole_is b d holds
+
+-- the string that a view holds is read
+pub held_only : (v : View) (d : List ℕ) → length v.bytes < 2 ^ 64 → HoldsString v d → view_string v ≡ Ok d
+held_only v d fits holds = read_by v.is_strict v.bytes d fits holds
+
+pub held_read : (v : View) (d : List ℕ) (e : DecoderError) → length v.bytes < 2 ^ 64 → HoldsString v d → view_string v ≡ Err e → ⊥
+held_read v d e fits holds is = let same : Ok d ≡ Err e = sym (held_only v d fits holds) ∙ is in cc
+
+-- the right result for the string of bytes that are read as this
+abbrev pub ReadsHeld : Bool → List ℕ → Result (List ℕ) DecoderError → Type 0
+ReadsHeld strict b r = MatchResult r (λ d. Holds strict b (encoding (string d))) (λ e. (d : List ℕ) → ¬ Holds strict b (encoding (string d)))
+
+none_after : (b more s : List ℕ) → b ≡ s ++ more → length b ≤ length s → b ≡ s
+none_after b [] s is few = is ∙ append-nil s
+none_after b (byte ∷ more) s is few = absurd (omega (arith, ap length is, length-append s (byte ∷ more)))
+
+whole_reads : (b : List ℕ) (r : Result (List ℕ) DecoderError) → length b < 2 ^ 64 → ReadsString b r → ReadsHeld true b (whole_string b r)
+whole_reads b (Err e) fits (none, same) = λ d is. none d ([], is ∙ sym (append-nil (encoding (string d))))
+whole_reads b (Ok d) fits (more, is) =
+    ⊎_elim
+    (λ longer. subst (ReadsHeld true b) (sym (cond-true (ltb (length (encoding (string d))) (length b)) (Err RlpIsTooBig) (Ok d) (lt-ltb _ _ longer)))
+    (λ s whole. let same : Ok d ≡ Ok s = sym (string_only b d fits (more, is)) ∙ string_only b s fits ([], whole ∙ sym (append-nil (encoding (string s)))) in
+    let equal : d ≡ s = cc in
+    let none : length (encoding (string s)) < length b = subst (λ s. length (encoding (string s)) < length b) equal longer in
+    omega (arith, ap length whole)))
+    (λ few. subst (ReadsHeld true b) (sym (cond-false (ltb (length (encoding (string d))) (length b)) (Err RlpIsTooBig) (Ok d) (le-ltb _ _ few)))
+    (none_after b more (encoding (string d)) is few))
+    (cases_lt (length (encoding (string d))) (length b))
+
+lenient_reads : (b : List ℕ) (r : Result (List ℕ) DecoderError) → ReadsString b r → ReadsHeld false b r
+lenient_reads b (Err e) (none, same) = none
+lenient_reads b (Ok d) stands = stands
+
+reads_by : (strict : Bool) (b : List ℕ) → length b < 2 ^ 64 → ReadsString b (read_string b)
+    → ReadsHeld strict b (if strict then whole_string b (read_string b) else read_string b)
+reads_by false b fits read = lenient_reads b (read_string b) read
+reads_by true b fits read = whole_reads b (read_string b) fits read
+
+pub held_from : (v : View) → length v.bytes < 2 ^ 64 → ReadsString v.bytes (read_string v.bytes) → ReadsHeld v.is_strict v.bytes (view_string v)
+held_from v fits read = reads_by v.is_strict v.bytes fits read
+
+-- the string that is read from a view is the one that it holds; if no string is read, it holds none
+pub held_reads : (v : View) → AreBytes v.bytes → length v.bytes < 2 ^ 64 → ReadsHeld v.is_strict v.bytes (view_string v)
+held_reads v bytes fits = reads_by v.is_strict v.bytes fits (string_reads v.bytes bytes fits)
+
+-- if a string is missing, there is none, and what is known about the fault holds
+pub missing_held : (v : View) (e : DecoderError) (F : DecoderError → Type 0) → ReadsHeld v.is_strict v.bytes (view_string v) → view_string v ≡ Err e
+    → F e → IfErr (view_string v) (λ e. HoldsNoString v × F e)
+missing_held v e F read is holds = let none : ReadsHeld v.is_strict v.bytes (Err e) = subst (ReadsHeld v.is_strict v.bytes) is read in
+    subst (λ r. IfErr r (λ e. HoldsNoString v × F e)) (sym is) (none, holds)
+
+-- whether bytes follow an encoding that they begin with
+pub is_followed-encoding : (x : Item) (b more : List ℕ) → IsSized x → b ≡ encoding x ++ more → is_followed b ≡ ltb (length (encoding x)) (length b)
+unfolding is_followed
+is_followed-encoding x b more sized is =
+    let item = encoding_item x sized in
+    let header : HasHeader b item.header_len item.value_len = subst (λ b. HasHeader b item.header_len item.value_len) (sym is) (longer more item.has_header) in
+    ap (is_longer b) (framing_is b item.header_len item.value_len header (omega (arith, item.whole, ap length is, length-append (encoding x) more)))
+    ∙ ap (λ n. ltb n (length b)) item.whole
+
+-- ---- the string of a decoder
+
+followed_as : (b d : List ℕ) (kind : Bool) → length b < 2 ^ 64 → read_string b ≡ Ok d → ReadsString b (read_string b) → is_followed b ≡ kind
+    → ltb (length (encoding (string d))) (length b) ≡ kind
+followed_as b d kind fits is read followed =
+    let there : IsString b d = subst (ReadsString b) is read in
+    sym (is_followed-encoding (string d) b there.0 (front_sized (string d) b there.0 fits there.1) there.1) ∙ followed
+
+-- a strict view whose string is followed by bytes
+pub held_too_big : (v : View) (d : List ℕ) → length v.bytes < 2 ^ 64 → v.is_strict ≡ true → read_string v.bytes ≡ Ok d
+    → ReadsString v.bytes (read_string v.bytes) → is_followed v.bytes ≡ true → view_string v ≡ Err RlpIsTooBig
+held_too_big v d fits strict is read followed =
+    cond-true v.is_strict _ _ strict ∙ ap (whole_string v.bytes) is
+    ∙ cond-true (ltb (length (encoding (string d))) (length v.bytes)) _ _ (followed_as v.bytes d true fits is read followed)
+
+-- a strict view that ends with its string
+pub held_whole : (v : View) (d : List ℕ) → length v.bytes < 2 ^ 64 → read_string v.bytes ≡ Ok d → ReadsString v.bytes (read_string v.bytes)
+    → is_followed v.bytes ≡ false → view_string v ≡ Ok d
+held_whole v d fits is read followed = whole_kind v.is_strict
+  where
+    whole_kind : (strict : Bool) → (if strict then whole_string v.bytes (read_string v.bytes) else read_string v.bytes) ≡ Ok d
+    whole_kind false = is
+    whole_kind true = ap (whole_string v.bytes) is
+        ∙ cond-false (ltb (length (encoding (string d))) (length v.bytes)) _ _ (followed_as v.bytes d false fits is read followed)
+
+-- a lenient view
+pub held_front : (v : View) (r : Result (List ℕ) DecoderError) → v.is_strict ≡ false → read_string v.bytes ≡ r → view_string v ≡ r
+held_front v r lenient is = cond-false v.is_strict _ _ lenient ∙ is
+
+-- bytes that don't begin with a string
+pub held_fault : (v : View) (e : DecoderError) → read_string v.bytes ≡ Err e → view_string v ≡ Err e
+held_fault v e is = fault_kind v.is_strict
+  where
+    fault_kind : (strict : Bool) → (if strict then whole_string v.bytes (read_string v.bytes) else read_string v.bytes) ≡ Err e
+    fault_kind false = is
+    fault_kind true = ap (whole_string v.bytes) is
+
+-- ---- a view that begins with a string that has a header of at most one byte
+
+-- a view holds the bytes that it begins with, if a strict one ends there
+may_hold : (strict : Bool) (b s rest : List ℕ) → b ≡ s ++ rest → (IsTrue strict → length b ≡ length s) → Holds strict b s
+may_hold false b s rest is ends = (rest, is)
+may_hold true b s [] is ends = is ∙ append-nil s
+may_hold true b s (c ∷ rest) is ends = absurd (omega (arith, ends refl, ap length is, length-append s (c ∷ rest)))
+
+-- a view that begins with a byte below 0x80 holds that byte, if a strict one ends there
+pub low_held : (v : View) (n : ℕ) (more : List ℕ) → v.bytes ≡ n ∷ more → n < 0x80 → (IsTrue v.is_strict → length v.bytes ≡ 1)
+    → HoldsString v (n ∷ [])
+unfolding encoding
+low_held v n more begins low ends =
+    let written : encoding (string (n ∷ [])) ≡ n ∷ [] = cond-true (ltb n 0x80) _ _ (lt-ltb _ _ low) in
+    subst (Holds v.is_strict v.bytes) (sym written) (may_hold v.is_strict v.bytes (n ∷ []) more begins ends)
+
+-- a view that begins with a header of one byte and the string that it announces holds this string, if a strict one ends there
+short_held : (v : View) (header : ℕ) (d more : List ℕ) → v.bytes ≡ header ∷ (d ++ more) → header ≡ 0x80 + length d → length d ≤ 55
+    → is_low_byte d ≡ false → (IsTrue v.is_strict → length v.bytes ≡ 1 + length d) → HoldsString v d
+unfolding encoding
+short_held v header d more begins says short high ends =
+    let head : written_header 0x80 (length d) ≡ header ∷ [] = written_header_short 0x80 (length d) short ∙ ap (λ h. h ∷ []) (sym says) in
+    let written : encoding (string d) ≡ header ∷ d = cond-false (is_low_byte d) _ _ high ∙ ap (λ h. h ++ d) head in
+    subst (Holds v.is_strict v.bytes) (sym written) (may_hold v.is_strict v.bytes (header ∷ d) more begins (λ strict. omega (arith, ends strict)))
+
+-- the first of a view's bytes is held
+pub first_held : (v : View) (b : List ℕ) → b ≡ v.bytes → 1 ≤ length b → get_or b 0 0 ≤ 127 → (IsTrue v.is_strict → length v.bytes ≡ 1)
+    → HoldsString v (take 1 b)
+first_held v [] is held low ends = absurd (omega arith)
+first_held v (n ∷ b) is held low ends = low_held v n b (sym is) (omega arith) ends
+
+-- the first n bytes are no low byte, if there isn't just one of them below 0x80
+taken_high : (n : ℕ) (b : List ℕ) → n ≤ length b → (n ≡ 1 → 128 ≤ get_or b 0 0) → is_low_byte (take n b) ≡ false
+taken_high zero b enough high = refl
+taken_high (suc zero) [] enough high = absurd (omega (arith, enough))
+taken_high (suc zero) (byte ∷ b) enough high = le-ltb _ _ (high refl)
+taken_high (suc (suc n)) [] enough high = absurd (omega (arith, enough))
+taken_high (suc (suc n)) (byte ∷ []) enough high = absurd (omega (arith, enough))
+taken_high (suc (suc n)) (byte ∷ next ∷ b) enough high = refl
+
+-- the bytes after a header of one byte are held
+pub after_held : (v : View) (b : List ℕ) → b ≡ v.bytes → 1 ≤ length b → 128 ≤ get_or b 0 0 → get_or b 0 0 ≤ 183
+    → get_or b 0 0 - 128 ≤ length b - 1 → (IsTrue v.is_strict → length v.bytes ≡ 1 + (get_or b 0 0 - 128))
+    → (get_or b 0 0 - 128 ≡ 1 → 128 ≤ get_or b 1 0)
+    → HoldsString v (take (get_or b 0 0 - 128) (take (length b - 1) (drop 1 b)))
+after_held v [] is held from to enough ends high = absurd (omega arith)
+after_held v (h ∷ b) is held from to enough ends high =
+    let rest : take (length (h ∷ b) - 1) b ≡ b = take_all (length (h ∷ b) - 1) b (omega arith) in
+    let many : length (take (h - 128) b) ≡ h - 128 = length-take-le (h - 128) b (omega arith) in
+    subst (λ d. HoldsString v (take (h - 128) d)) (sym rest)
+    (short_held v h (take (h - 128) b) (drop (h - 128) b)
+    (sym is ∙ ap (λ d. h ∷ d) (sym (take-append-drop (h - 128) b))) (omega (arith, many)) (omega (arith, many))
+    (taken_high (h - 128) b (omega arith) high) (λ strict. omega (arith, ends strict, many)))

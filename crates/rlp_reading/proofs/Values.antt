@@ -1,0 +1,2 @@
+-- decoding the encoding of a value
+pub mod Decoding

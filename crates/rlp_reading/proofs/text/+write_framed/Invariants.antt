@@ -1,0 +1,21 @@
+use Rattle.std.proofs.Common.{◌≡◌, ◌++◌, length, map, List, ℕ}
+use Rattle.std.specs.Fmt.{HasWrittenStyled, IsFlush}
+use Rattle.rlp_reading.specs.Format.Split.{items, split}
+use Rattle.rlp_reading.specs.Views.Text.{text, separated}
+use Rattle.rlp_reading.proofs.Views.Printing.{separator_after}
+use Rattle.rlp_reading.proofs.text.+write_framed.Given as goal
+
+abbrev pub decreases-write_framed : goal.decreases-write_framed
+decreases-write_framed g l = length l.framed.now.item.now
+
+-- the first items are written, and the others are those of the rest
+abbrev pub invariant-loop-item : goal.invariant-loop-item
+invariant-loop-item g l = record {
+  done : List (List ℕ);
+  all : done ++ split l.items.rest ≡ items l.fn.framed.item.now;
+  next_separator : l.separator ≡ separator_after done;
+  wrote : IsFlush l.initial.f → HasWrittenStyled g.W.Write.write_str_gives l.initial.f (separated (map text done)) l.f;
+}
+
+abbrev pub decreases-loop-item : goal.decreases-loop-item
+decreases-loop-item g l = length l.items.rest

@@ -1,0 +1,13 @@
+-- The place of a reader of fields.
+use Rattle.std.specs.Prelude.{ℕ, ◌≡◌, ◌≤◌, List, None, Err, length, drop}
+use Rattle.rlp_reading.specs.Format.Framing.{fault}
+use Rattle.rlp_reading.specs.Format.Split.{items, split}
+use Rattle.rlp_reading.specs.Format.Strict.{after_items}
+use Rattle.rlp_reading.specs.Views.View.{View, item_at, items_fault}
+
+-- These bytes are left after the first `place` items of a view. Past the last item each number has the fault of what follows the items.
+pub record IsAtPlace (v : View) (place : ℕ) (left : List ℕ) : Type 0 where
+  pub told : items_fault v ≡ None
+  pub others : split left ≡ drop place (items v.bytes)
+  pub few : place ≤ length (items v.bytes)
+  pub past : (i : ℕ) → length (items v.bytes) ≤ i → item_at v i ≡ Err (fault (after_items left))

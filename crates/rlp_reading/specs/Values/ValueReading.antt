@@ -1,0 +1,33 @@
+-- The value that a view gives, and why it gives none: numbers, byte strings and text.
+use Rattle.std.specs.Prelude.{ℕ, ◌≡◌, ◌≤◌, ◌<◌, ◌⊎◌, List, ◌∷◌, length}
+use Rattle.rlp_reading.specs.declared.error.DecoderError.{DecoderError}
+use Rattle.rlp_reading.specs.declared.error.DecoderError.TheVariants.{RlpIsTooBig, RlpInvalidIndirection}
+use Rattle.rlp_format.specs.Format.Item.{Item}
+use Rattle.rlp_format.specs.Values.Value.{number_item, FitsBytes, AreAlike}
+use Rattle.rlp_reading.specs.Views.Text.{error_name}
+use Rattle.rlp_reading.specs.Views.View.{View, HoldsItem}
+
+-- The view gives the value x: x fits its type, and the view holds its item.
+pub record GivesValue {A : Type 0} (Fits : A → Type 0) (item : A → Item) (v : View) (x : A) : Type 0 where
+  pub fits : Fits x
+  pub begins : HoldsItem v (item x)
+
+-- the view gives the number n, which has at most this number of bytes
+abbrev pub GivesNumber : ℕ → View → ℕ → Type 0
+GivesNumber width v n = GivesValue (FitsBytes width) number_item v n
+
+-- Why a string isn't a number of at most this number of bytes, in the order of the tests: it is longer, or it begins with a zero.
+pub data IsDigitsFault (width : ℕ) (digits : List ℕ) : DecoderError → Type 0 where
+  too_long : width < length digits → IsDigitsFault width digits RlpIsTooBig
+  leading_zero : (more : List ℕ) → length digits ≤ width → digits ≡ 0 ∷ more → IsDigitsFault width digits RlpInvalidIndirection
+
+-- two faults are the same if their variants are, and for `Custom` also their texts
+abbrev pub IsSameFault : DecoderError → DecoderError → Type 0
+IsSameFault e f = error_name e ≡ error_name f
+
+-- Exactly one reading: one value, if alike values count as one, or one fault. `Gives` says which values are read, and `Faults` which faults.
+pub record HasOneReading {A : Type 0} (item : A → Item) (Gives : A → Type 0) (Faults : DecoderError → Type 0) : Type 0 where
+  pub some : ((x : A) × Gives x) ⊎ ((e : DecoderError) × Faults e)
+  pub one_value : (x y : A) → Gives x → Gives y → AreAlike item x y
+  pub one_fault : (e f : DecoderError) → Faults e → Faults f → IsSameFault e f
+  pub not_both : (x : A) (e : DecoderError) → Gives x → ¬ Faults e

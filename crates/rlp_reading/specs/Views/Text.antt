@@ -1,0 +1,59 @@
+-- The text of a view, and of an error.
+use Rattle.std.specs.Prelude.{ℕ, ◌+◌, ◌/◌, ◌%◌, Bool, true, false, if◌then◌else◌, nat_lt, List, [], ◌∷◌, ◌++◌, map, flat_map, codes, Result, Ok, Err}
+use Rattle.rlp_reading.specs.declared.error.DecoderError.{DecoderError}
+use Rattle.rlp_reading.specs.declared.error.DecoderError.TheVariants.{RlpIsTooBig, RlpIsTooShort, RlpExpectedToBeList, RlpExpectedToBeData}
+use Rattle.rlp_reading.specs.declared.error.DecoderError.TheVariants.{RlpIncorrectListLen, RlpDataLenWithZeroPrefix, RlpListLenWithZeroPrefix}
+use Rattle.rlp_reading.specs.declared.error.DecoderError.TheVariants.{RlpInvalidIndirection, RlpInconsistentLengthAndData, RlpInvalidLength, Custom}
+use Rattle.rlp_reading.specs.declared.error.DecoderError.TheVariants.{OutOfMemory}
+use Rattle.rlp_reading.specs.Format.Framing.{value}
+use Rattle.rlp_reading.specs.Format.Split.{begins_as_list, items}
+use Rattle.rlp_reading.specs.Views.ByItems.{by_items}
+
+-- what an error prints: its name, and for `Custom` also the text
+abbrev pub error_name : DecoderError → List ℕ
+error_name RlpIsTooBig = codes "RlpIsTooBig"
+error_name RlpIsTooShort = codes "RlpIsTooShort"
+error_name RlpExpectedToBeList = codes "RlpExpectedToBeList"
+error_name RlpExpectedToBeData = codes "RlpExpectedToBeData"
+error_name RlpIncorrectListLen = codes "RlpIncorrectListLen"
+error_name RlpDataLenWithZeroPrefix = codes "RlpDataLenWithZeroPrefix"
+error_name RlpListLenWithZeroPrefix = codes "RlpListLenWithZeroPrefix"
+error_name RlpInvalidIndirection = codes "RlpInvalidIndirection"
+error_name RlpInconsistentLengthAndData = codes "RlpInconsistentLengthAndData"
+error_name RlpInvalidLength = codes "RlpInvalidLength"
+error_name (Custom text) = codes "Custom(\"" ++ text.now ++ codes "\")"
+error_name OutOfMemory = codes "OutOfMemory"
+
+-- a digit below 16, in lower case
+abbrev pub hex_digit : ℕ → ℕ
+hex_digit d = if nat_lt d 10 then 48 + d else 87 + d
+
+-- a byte as two digits
+abbrev pub hex_pair : ℕ → List ℕ
+hex_pair byte = hex_digit (byte / 16) ∷ hex_digit (byte % 16) ∷ []
+
+-- bytes as digits, two for each
+abbrev pub hex : List ℕ → List ℕ
+hex bytes = flat_map hex_pair bytes
+
+-- the texts with `, ` between
+abbrev pub separated : List (List ℕ) → List ℕ
+separated [] = []
+separated (t ∷ []) = t
+separated (t ∷ u ∷ ts) = t ++ codes ", " ++ separated (u ∷ ts)
+
+-- The text of b, by its value. For a string it has the digits, for a list the texts of its items, which `text_of` gives. If b has no value, it is the fault's
+-- name.
+abbrev pub framed_text : (List ℕ → List ℕ) → List ℕ → Bool → Result (List ℕ) DecoderError → List ℕ
+framed_text text_of b is_list (Err e) = error_name e
+framed_text text_of b false (Ok v) = codes "\"0x" ++ hex v ++ codes "\""
+framed_text text_of b true (Ok v) = codes "[" ++ separated (map text_of (items b)) ++ codes "]"
+
+-- the text of b, if text_of gives the texts of its items
+abbrev pub text_by : (List ℕ → List ℕ) → List ℕ → List ℕ
+text_by text_of [] = codes "null"
+text_by text_of (first ∷ more) = framed_text text_of (first ∷ more) (begins_as_list (first ∷ more)) (value (first ∷ more))
+
+-- The text of a view. The law `text_and_depth_go_by_items` says that this is `text_by text b`.
+unfoldable pub text : List ℕ → List ℕ
+text b = by_items [] text_by b

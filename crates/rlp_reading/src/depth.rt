@@ -1,0 +1,26 @@
+//! The depth of nested lists.
+
+ghost use Rattle.std.specs.Prelude.{◌≤◌, ◌↔◌, IsTrue};
+ghost use Rattle.rlp_reading.specs.Views.Depth.{depth};
+
+use crate::framed::Framed;
+use crate::items::ItemReader;
+
+/// Whether the depth of an item is at most `limit`. It goes no deeper than `limit` lists.
+pub fn is_nested_within(framed: &Framed<'_>, limit: usize) -> bool
+    ensures { IsTrue result ↔ (depth framed.now.item.now ≤ limit) }
+{
+    if !framed.is_list() {
+        return true;
+    }
+    if limit == 0 {
+        return false;
+    }
+    let mut items = ItemReader::new(framed.content);
+    while let Ok(item) = items.next_framed() {
+        if item.is_list() && !is_nested_within(&item, limit - 1) {
+            return false;
+        }
+    }
+    true
+}

@@ -1,5 +1,0 @@
-use Rattle.rlp_values.specs.Lemmas.Frames.{cuts_begin}
-use Rattle.rlp_values.proofs.laws.cuts_begin_one_another.Goals as goal
-
-pub returns : goal.returns
-returns c = cuts_begin c.args.bytes.now
