@@ -9,7 +9,7 @@ use Rattle.rlp.specs.{DecoderError.DecoderError, Format.Split.items, Format.Stri
 use Rattle.rlp_trie.specs.HexPrefix.{ends_in_leaf}
 use Rattle.rlp_print.specs.Items.{branch_entries, front_values, item_value, items_values, kept_value, last_item, pair_entries, pair_value, string_of, value_by, view_items}
 use Rattle.rlp_print.specs.Value.{Steps, after, after_items, Value, array, bytes, content, object, values_of}
-use Rattle.rlp_print.specs.declared.sink.Bracket.TheVariants.{Square}
+use Rattle.rlp_print.specs.declared.{sink.Bracket.TheVariants.Square, sink.BytesKind.TheVariants.Any}
 use Rattle.rlp_print.specs.NodeRecords.{key_value, string_content}
 
 -- ---- lists
@@ -48,7 +48,7 @@ list_within (suc most) b e is some =
 
 -- ---- values
 
-as_string : (node : Bool) (d : List ℕ) → value_by node (string d) ≡ content (bytes d)
+as_string : (node : Bool) (d : List ℕ) → value_by node (string d) ≡ content (bytes Any d)
 as_string true d = refl
 as_string false d = refl
 
@@ -57,11 +57,11 @@ any_values : (most : ℕ) (vs : List View) → items_values (view_items most vs)
 any_values most [] = refl
 any_values most (v ∷ vs) = cc (any_values most vs)
 
-pub string_shown : (node : Bool) (most : ℕ) (b d : List ℕ) → read_string b ≡ Ok d → value_by node (item_within most b) ≡ content (bytes d)
+pub string_shown : (node : Bool) (most : ℕ) (b d : List ℕ) → read_string b ≡ Ok d → value_by node (item_within most b) ≡ content (bytes Any d)
 string_shown node most b d is = ap (value_by node) (string_within most b d is) ∙ as_string node d
 
 pub none_shown : (node : Bool) (most : ℕ) (b : List ℕ) (e : DecoderError) → read_string b ≡ Err e → most ≡ 0
-    → value_by node (item_within most b) ≡ content (bytes [])
+    → value_by node (item_within most b) ≡ content (bytes Any [])
 none_shown node most b e is bottom = ap (value_by node) (none_within most b e is bottom) ∙ as_string node []
 
 pub node_shown : (node : Bool) (most : ℕ) (b : List ℕ) (e : DecoderError) → node ≡ true → read_string b ≡ Err e → most ≢ 0

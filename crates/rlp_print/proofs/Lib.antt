@@ -1,3 +1,4 @@
 pub mod NumberLemmas
 pub mod ItemLemmas
 pub mod DumpLemmas
+pub mod WordLemmas

@@ -1,23 +1,25 @@
 -- What is shown of items of any kind, and of nodes of the trie.
-use Rattle.std.specs.Prelude.{ℕ, ◌==◌, if◌then◌else◌, Bool, true, false, List, [], codes, length, map, Option, Some, None, ⊤}
+use Rattle.std.specs.Prelude.{ℕ, ◌==◌, if◌then◌else◌, Bool, true, false, List, [], ◌∷◌, codes, length, map, Option, Some, None, ⊤, ◌⊎◌}
 use Rattle.std.specs.Vec.{vec_items}
-use Rattle.std.proofs.Common.{◌≡◌, ◌<◌, ◌∙◌, refl, sym, ap, arith}
+use Rattle.std.proofs.Common.{◌≡◌, ◌<◌, ◌∙◌, refl, sym, ap, arith, inl, inr}
 use Rattle.std.proofs.lemmas.Bool.Decides.{nat_tests}
+use Rattle.keccak.specs.Keccak.{keccak256}
 use Rattle.rlp.specs.Format.Item.{Item, Items, string, list, no_items, item_and, items_from, listed}
 use Rattle.rlp.specs.{Format.Encoding.encoding, Values.RawItem.item_within, Values.RawItem.raw_item_of, Views.View.View}
-use Rattle.rlp_trie.specs.{BranchChild.place_item, Child.child_item, HexPrefix.ends_in_leaf, HexPrefix.path_nibbles, TrieNode.node_item}
-use Rattle.rlp_trie.specs.declared.{branch.Branch.Branch, branch_child.BranchChild.BranchChild, child.Child.Child, extension.Extension.Extension, leaf.Leaf.Leaf, trie_node.TrieNode.TrieNode}
-use Rattle.rlp_print.specs.Display.{Display, Fields, a_content, derived, end, field, through, content_bytes, a_list, an_object, fields_of, the_bytes}
-use Rattle.rlp_print.specs.Value.{Value, Entries, Values, content, object, array, bytes, path, text, nothing, both, entry, by_form, no_values, value_and}
-use Rattle.rlp_print.specs.{Lines.digits_text, Records.hash_entries}
+use Rattle.rlp_trie.specs.{BranchChild.place_item, Child.child_item, HexPrefix.ends_in_leaf, TrieNodeLaws.trie_node}
+use Rattle.rlp_trie.specs.declared.{branch_child.BranchChild.BranchChild, trie_node.TrieNode.TrieNode}
 use Rattle.rlp_trie.specs.declared.trie_node.TrieNode.TheVariants as node
+use Rattle.rlp_print.specs.Display.{Display, Fields, a_string, an_object, bytes_as, derived, field, in_order, one, through}
+use Rattle.rlp_print.specs.Value.{Content, Value, Entries, Values, content, object, array, bytes, text, nothing, both, entry, by_form, no_values, value_and, values_of}
+use Rattle.rlp_print.specs.Lines.{digits_text}
+use Rattle.rlp_print.specs.declared.sink.BytesKind.TheVariants.{Any, Path}
 
 -- ---- items of any kind
 
 -- a string is its bytes, and a list is an array of its items
 abbrev mutual
   pub item_value : Item → Value
-  item_value (string d) = content (bytes d)
+  item_value (string d) = content (bytes Any d)
   item_value (list xs) = array (items_values xs)
 
   pub items_values : Items → Values
@@ -28,9 +30,9 @@ abbrev mutual
 
 -- a hex-prefix encoded path, and in JSON its nibbles
 abbrev pub path_fields : Fields (List ℕ)
-path_fields =
-    field (codes "path") (codes "path") (λ d. d) (a_content path content_bytes (λ d. d) (λ d. refl)) (
-    derived (λ d. by_form nothing (entry (codes "nibbles") (codes "nibbles") (content (text (digits_text (path_nibbles d)))))) end)
+path_fields = through (λ d. (d, d)) (
+    field (codes "path") (codes "path") (bytes_as Path) (
+    derived (λ d. by_form nothing (entry (codes "nibbles") (codes "nibbles") (content (text (digits_text d)))))))
 
 -- the kind of a node
 abbrev pub kind_entries : List ℕ → Entries
@@ -47,13 +49,12 @@ key_of false = codes "child"
 
 -- a leaf with this path and this value, or an extension with this path and this child
 abbrev pub pair_entries : Bool → List ℕ → Value → Entries
-pair_entries leaf d v = both (kind_entries (kind_of leaf)) (both (path_fields.entries d) (both (entry (key_of leaf) (key_of leaf) v) nothing))
+pair_entries leaf d v = both (kind_entries (kind_of leaf)) (both (path_fields.shown d) (entry (key_of leaf) (key_of leaf) v))
 
 -- a branch with these children and this value
 abbrev pub branch_entries : Values → Value → Entries
 branch_entries children v =
-    both (kind_entries (codes "branch")) (
-    both (entry (codes "children") (codes "children") (array children)) (both (entry (codes "value") (codes "value") v) nothing))
+    both (kind_entries (codes "branch")) (both (entry (codes "children") (codes "children") (array children)) (entry (codes "value") (codes "value") v))
 
 -- the bytes of a string; a list has none
 abbrev pub string_of : Item → List ℕ
@@ -76,7 +77,7 @@ pair_value None x y v = item_value (list (item_and x (item_and y no_items)))
 -- kind. All items of a branch but the last are its children, and the last is a value of any kind.
 abbrev mutual
   pub kept_value : Item → Value
-  kept_value (string d) = content (bytes d)
+  kept_value (string d) = content (bytes Any d)
   kept_value (list (item_and x (item_and y no_items))) = pair_value (ends_in_leaf (string_of x)) x y (kept_value y)
   kept_value (list xs) = if length (listed xs) == 17 then object (branch_entries (front_values xs) (item_value (last_item xs))) else item_value (list xs)
 
@@ -91,12 +92,17 @@ abbrev joined : Items → Items → Items
 joined no_items ys = ys
 joined (item_and x xs) ys = item_and x (joined xs ys)
 
+-- the bytes in a content
+abbrev content_bytes : Content → List ℕ
+content_bytes (bytes kind d) = d
+content_bytes c = []
+
 -- The item that a value shows. A node shows a path and an item, or its children and an item.
 abbrev mutual
   shown_item : Value → Item
   shown_item (content c) = string (content_bytes c)
   shown_item (array vs) = list (shown_items vs)
-  shown_item (object (both kind (both first (both (entry name json v) nothing)))) = list (shown_first first (item_and (shown_item v) no_items))
+  shown_item (object (both kind (both first (entry name json v)))) = list (shown_first first (item_and (shown_item v) no_items))
   shown_item (object es) = list no_items
 
   shown_first : Entries → Items → Items
@@ -153,9 +159,13 @@ item_told x y is = sym (item_back x) ∙ ap shown_item is ∙ item_back y
 pub kept_told : (x y : Item) → kept_value x ≡ kept_value y → x ≡ y
 kept_told x y is = sym (kept_back x) ∙ ap shown_item is ∙ kept_back y
 
+-- items, as items of any kind
+abbrev pub item_display : Display Item
+item_display = record { shown = item_value; Told = Item; told = λ x. x; apart = item_told }
+
 -- items that are kept as the bytes of their encodings
 abbrev pub raw_item_display : Display (List ℕ)
-raw_item_display = through raw_item_of (record { value = item_value; Same = λ x y. x ≡ y; told = item_told })
+raw_item_display = through raw_item_of item_display
 
 -- ---- views
 
@@ -168,63 +178,49 @@ value_by false x = item_value x
 abbrev pub view_items : ℕ → List View → Items
 view_items most vs = items_from (map (λ (v : View). item_within most v.bytes) vs)
 
--- children of nodes, as items
+-- children of nodes, as items: the hash of a node, a node that is kept in its parent, or no bytes if there is no child
 abbrev pub kept_display : Display Item
-kept_display = record { value = kept_value; Same = λ x y. x ≡ y; told = kept_told }
-
--- the hash of a node, or a node that is kept in its parent
-abbrev pub child_display : Display Child
-child_display = through child_item kept_display
-
--- places of a branch, which show no bytes if there is no child
-abbrev pub branch_child_display : Display BranchChild
-branch_child_display = through (λ (c : BranchChild). place_item c.0) kept_display
-
-abbrev pub leaf_display : Fields Leaf
-leaf_display =
-    derived (λ (l : Leaf). kind_entries (codes "leaf")) (
-    fields_of (λ (l : Leaf). vec_items l.path.bytes) path_fields (
-    field (codes "value") (codes "value") (λ (l : Leaf). l.value) (the_bytes vec_items) end))
-
-abbrev pub extension_display : Fields Extension
-extension_display =
-    derived (λ (e : Extension). kind_entries (codes "extension")) (
-    fields_of (λ (e : Extension). vec_items e.path.bytes) path_fields (
-    field (codes "child") (codes "child") (λ (e : Extension). e.child) child_display end))
-
-abbrev pub branch_display : Fields Branch
-branch_display =
-    derived (λ (b : Branch). kind_entries (codes "branch")) (
-    field (codes "children") (codes "children") (λ (b : Branch). b.children) (a_list (λ children. children) branch_child_display) (
-    field (codes "value") (codes "value") (λ (b : Branch). b.value) (the_bytes vec_items) end))
+kept_display = record { shown = kept_value; Told = Item; told = λ x. x; apart = kept_told }
 
 -- ---- nodes of every kind
 
-abbrev pub node_entries : TrieNode → Entries
-node_entries node.Empty = kind_entries (codes "empty")
-node_entries (node.Leaf l) = leaf_display.entries l
-node_entries (node.Extension e) = extension_display.entries e
-node_entries (node.Branch b) = branch_display.entries b
+-- What is shown of a node besides its hash: nothing of the empty trie, the path and the value of a leaf, the path and the child of an extension, or the children and
+-- the value of a branch.
+abbrev pub NodeParts : Type 0
+NodeParts = ⊤ ⊎ ((List ℕ × List ℕ) ⊎ ((List ℕ × Item) ⊎ (List Item × List ℕ)))
 
--- Both are the empty trie, or both are leaves, extensions or branches that agree.
-abbrev pub SameNode : TrieNode → TrieNode → Type 0
-SameNode node.Empty node.Empty = ⊤
-SameNode (node.Leaf l) (node.Leaf m) = leaf_display.Same l m
-SameNode (node.Extension e) (node.Extension f) = extension_display.Same e f
-SameNode (node.Branch b) (node.Branch c) = branch_display.Same b c
-SameNode _ _ = ⊥
+abbrev pub node_parts : TrieNode → NodeParts
+node_parts node.Empty = inl tt
+node_parts (node.Leaf l) = inr (inl (vec_items l.path.bytes, vec_items l.value))
+node_parts (node.Extension e) = inr (inr (inl (vec_items e.path.bytes, child_item e.child)))
+node_parts (node.Branch b) = inr (inr (inr (map (λ (c : BranchChild). place_item c.0) b.children, vec_items b.value)))
 
-pub node_told : (n m : TrieNode) → node_entries n ≡ node_entries m → SameNode n m
-node_told node.Empty node.Empty is = tt
-node_told (node.Leaf l) (node.Leaf m) is = leaf_display.told l m is
-node_told (node.Extension e) (node.Extension f) is = extension_display.told e f is
-node_told (node.Branch b) (node.Branch c) is = branch_display.told b c is
-node_told _ _ is = absurd cc
+-- the kind of a node, and its parts
+abbrev pub node_entries : NodeParts → Entries
+node_entries (inl empty) = kind_entries (codes "empty")
+node_entries (inr (inl leaf)) = pair_entries true leaf.0 (content (bytes Any leaf.1))
+node_entries (inr (inr (inl extension))) = pair_entries false extension.0 (kept_value extension.1)
+node_entries (inr (inr (inr branch))) = branch_entries (values_of kept_value branch.0) (content (bytes Any branch.1))
 
--- the fields of a node
-abbrev pub node_fields_display : Fields TrieNode
-node_fields_display = record { entries = node_entries; Same = λ n m. SameNode n m; told = node_told }
+children_apart : (xs ys : List Item) → values_of kept_value xs ≡ values_of kept_value ys → xs ≡ ys
+children_apart [] [] is = refl
+children_apart (x ∷ xs) (y ∷ ys) is = let first = kept_told x y cc in let others = children_apart xs ys cc in cc
+children_apart _ _ is = absurd cc
 
--- nodes with their hashes
-abbrev pub node_display : Display TrieNode
-node_display = an_object (derived (λ n. hash_entries (encoding (node_item n))) node_fields_display)
+pub node_apart : (m n : NodeParts) → node_entries m ≡ node_entries n → m ≡ n
+node_apart (inl tt) (inl tt) is = refl
+node_apart (inr (inl (d, v))) (inr (inl (e, w))) is = cc
+node_apart (inr (inr (inl (d, x)))) (inr (inr (inl (e, y)))) is = let same = kept_told x y cc in cc
+node_apart (inr (inr (inr (xs, v)))) (inr (inr (inr (ys, w)))) is = let same = children_apart xs ys cc in cc
+node_apart _ _ is = absurd cc
+
+abbrev pub node_fields_display : Fields NodeParts
+node_fields_display = record { shown = node_entries; Told = NodeParts; told = λ m. m; apart = node_apart }
+
+-- the hash of a node
+unfoldable pub node_hash : TrieNode → List ℕ
+node_hash n = keccak256 (encoding (trie_node.item n))
+
+-- the hash of a node, and then its fields
+abbrev pub node_display : Display (List ℕ × NodeParts)
+node_display = an_object (in_order (one (codes "hash") (codes "hash") a_string) node_fields_display)

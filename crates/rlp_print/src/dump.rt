@@ -2,11 +2,12 @@
 
 ghost use Rattle.std.specs.Prelude.{◌≡◌, ◌+◌, ◌≤◌, ◌++◌, [], length, string_bytes, IfOk, OnOk};
 ghost use Rattle.rlp_print.specs.Dump.{Dump as DumpSeen, content_header, dump_of, dump_steps, encoded_bytes, enter, enter_envelope, enter_lists, list_header, part_text, row, string_header};
-ghost use Rattle.rlp_print.specs.Display.{content_of};
+ghost use Rattle.rlp_print.specs.Display.{shown_of};
+ghost use Rattle.rlp_print.specs.Value.{content_of};
 
 use crate::lines::put_line;
 use crate::show::Show;
-use crate::sink::{Bracket, Shown, Sink};
+use crate::sink::{Bracket, BytesKind, NumberKind, Shown, Sink};
 use bytes::BytesMut;
 use rlp::Rlp;
 use rlp_lines::push_bytes;
@@ -35,7 +36,7 @@ pub fn dump_of<T: Show>(
     value: &T,
 ) -> Result<String, AllocError>
     ensures { IfOk result (λ text. string_bytes text
-        ≡ dump_of bytes.now name.now (T.display.value value.now)) }
+        ≡ dump_of bytes.now name.now (shown_of T.display value.now)) }
 {
     let mut dump = Dump {
         alloc,
@@ -108,18 +109,12 @@ fn encoded_bytes(alloc: Global, shown: Shown<'_>) -> Result<BytesMut, AllocError
     ensures { IfOk result (λ b. b.items ≡ encoded_bytes (content_of shown.entry)) }
 {
     match shown {
-        Shown::Number(n) => rlp::encode(alloc, &n),
+        Shown::Number(NumberKind::Place, _) | Shown::Text(_) => Ok(BytesMut::new(alloc)),
+        Shown::Number(_, n) => rlp::encode(alloc, &n),
         Shown::TypeByte(n) => rlp::encode(alloc, &[n]),
-        Shown::Wide(n) | Shown::Quantity(n) | Shown::LegacyV(n) => rlp::encode(alloc, n),
-        Shown::Bytes(b)
-        | Shown::BytesOrNull(b)
-        | Shown::Sparse(b)
-        | Shown::Path(b)
-        | Shown::Word(b)
-        | Shown::Ip(b) => rlp::encode(alloc, &b),
-        Shown::Payload(b) => BytesMut::copy_from_slice(alloc, b),
+        Shown::Bytes(BytesKind::Payload, b) => BytesMut::copy_from_slice(alloc, b),
+        Shown::Bytes(_, b) => rlp::encode(alloc, &b),
         Shown::EmptyList => BytesMut::copy_from_slice(alloc, &[0xc0]),
-        Shown::Place(_) | Shown::Text(_) => Ok(BytesMut::new(alloc)),
     }
 }
 
@@ -128,7 +123,7 @@ fn content_header(shown: Shown<'_>, bytes: &[u8]) -> usize
     ensures length { result ≡ content_header (content_of shown.entry) bytes.now }
     ensures within { result ≤ length bytes.now }
 {
-    if let Shown::Payload(_) = shown {
+    if let Shown::Bytes(BytesKind::Payload, _) = shown {
         return 0;
     }
     match Rlp::new(bytes).payload_info() {
@@ -196,7 +191,7 @@ impl<'a> Dump<'a> {
         ensures { OnOk result (self.new ≡ enter (content_of shown.entry) self.old) }
     {
         match shown {
-            Shown::Payload(_) => Ok(()),
+            Shown::Bytes(BytesKind::Payload, _) => Ok(()),
             Shown::TypeByte(_) => {
                 self.enter_lists()?;
                 self.enter_envelope()

@@ -5,25 +5,26 @@ ghost use Rattle.rlp.specs.Format.Item.{list};
 ghost use Rattle.rlp.specs.Format.StringReading.{read_string};
 ghost use Rattle.rlp.specs.Values.RawItem.{item_within, string_or_none};
 ghost use Rattle.rlp.specs.Views.View.{item_views, view_of};
-ghost use Rattle.rlp_print.specs.Display.{part};
-ghost use Rattle.rlp_print.specs.Items.{branch_entries, item_value, kept_value, key_of, kind_of, pair_entries, path_fields, raw_item_display, value_by, view_items, branch_child_display, branch_display, child_display, extension_display, leaf_display, node_display, node_fields_display};
+ghost use Rattle.rlp.specs.Codec.{raw_item};
+ghost use Rattle.rlp_trie.specs.{BranchChild.place_item, Child.child_item};
+ghost use Rattle.rlp_print.specs.Display.{seen_as};
+ghost use Rattle.rlp_print.specs.Items.{branch_entries, item_value, kept_value, key_of, kind_of, pair_entries, path_fields, raw_item_display, value_by, view_items, kept_display, node_display, node_fields_display, node_hash, node_parts};
 ghost use Rattle.rlp_print.specs.Value.{after, array, object, values_of};
 
 use crate::show::{
-    ByForm, Show, ShowFields, Slice, field, give_fields, inside, place_in, show_fields,
+    ByForm, Show, ShowFields, Slice, field, fields, give_fields, inside, place_in, show_fields,
 };
-use crate::sink::{Bracket, Shown, Sink};
+use crate::sink::{Bracket, BytesKind, Shown, Sink, bytes};
 use crate::texts::put_digits;
 use rlp::{RawItem, Rlp};
-use rlp_trie::{Branch, BranchChild, Child, Extension, Leaf, TrieNode, ends_in_leaf};
+use rlp_trie::{BranchChild, Child, TrieNode, ends_in_leaf};
 use std::alloc::{AllocError, Global};
 
 impl Show for RawItem {
-    ghost display = { raw_item_display };
+    ghost display = { seen_as raw_item.reading.seen raw_item_display };
 
     fn show<S: Sink>(&self, alloc: Global, name: &str, sink: &mut S) -> Result<(), AllocError> {
-        let bytes = self.as_bytes();
-        show_item(alloc, name, bytes, RawItem::MAX_DEPTH, false, sink)
+        show_item(alloc, name, self.as_bytes(), RawItem::MAX_DEPTH, false, sink)
     }
 }
 
@@ -32,13 +33,15 @@ impl Show for RawItem {
 pub(crate) struct PathFields<'a>(pub(crate) &'a [u8]);
 
 impl ShowFields for PathFields<'_> {
-    ghost fields = { part (λ p. p.0.now) path_fields };
+    ghost fields = { seen_as (λ p. p.0.now) path_fields };
 
     fn give<S: Sink>(&self, alloc: Global, name: &str, sink: &mut S) -> Result<(), AllocError> {
         let mut digits = String::new(alloc);
         put_digits(self.0, &mut digits)?;
-        let nibbles = field!("nibbles" "nibbles" Shown::Text(digits.as_str()));
-        give_fields!(alloc, name, sink; "path" "path" Shown::Path(self.0); ByForm((), nibbles);)
+        give_fields!(alloc, name, sink;
+            "path" "path" Shown::Bytes(BytesKind::Path, self.0);
+            ByForm((), field!("nibbles" "nibbles" Shown::Text(digits.as_str())))
+        )
     }
 }
 
@@ -82,18 +85,18 @@ fn pair_in<'a, 'b>(items: &'b [Rlp<'a>]) -> Option<(&'b Rlp<'a>, &'b Rlp<'a>)>
 pub(crate) fn show_item<S: Sink>(
     alloc: Global,
     name: &str,
-    bytes: &[u8],
+    raw: &[u8],
     most: usize,
     is_node: bool,
     sink: &mut S,
 ) -> Result<(), AllocError>
     ensures { OnOk result (S.seen sink.new ≡ after S.steps name.now
-        (value_by is_node (item_within most bytes.now)) (S.seen sink.old)) }
+        (value_by is_node (item_within most raw.now)) (S.seen sink.old)) }
 {
-    let item = Rlp::new(bytes);
+    let item = Rlp::new(raw);
     match item.decoder().string() {
-        Ok(string) => return sink.put(name, Shown::Bytes(string)),
-        Err(_) if most == 0 => return sink.put(name, Shown::Bytes(&[])),
+        Ok(string) => return sink.put(name, bytes(string)),
+        Err(_) if most == 0 => return sink.put(name, bytes(&[])),
         Err(_) => {}
     }
     let items = items_in(alloc, &item)?;
@@ -191,7 +194,7 @@ fn show_pair<S: Sink>(
     let (kind, key) = names_of(is_leaf);
     let field = inside(alloc, name, key)?;
     sink.begin(Bracket::Brace)?;
-    give_fields!(alloc, name, sink; "node" "node" Shown::Text(kind); PathFields(path);)?;
+    give_fields!(alloc, name, sink; "node" "node" Shown::Text(kind); PathFields(path))?;
     sink.key(key)?;
     show_item(alloc, field.as_str(), bytes, most, !is_leaf, sink)?;
     sink.finish(Bracket::Brace)
@@ -214,7 +217,7 @@ fn show_branch<S: Sink>(
     let children_name = inside(alloc, name, "children")?;
     let value_name = inside(alloc, name, "value")?;
     sink.begin(Bracket::Brace)?;
-    give_fields!(alloc, name, sink; "node" "node" Shown::Text("branch");)?;
+    field!("node" "node" Shown::Text("branch")).give(alloc, name, sink)?;
     sink.key("children")?;
     show_items(alloc, children_name.as_str(), children, most, true, sink)?;
     sink.key("value")?;
@@ -222,28 +225,16 @@ fn show_branch<S: Sink>(
     sink.finish(Bracket::Brace)
 }
 
-impl ShowFields for Leaf {
-    ghost fields = { leaf_display };
-
-    fn give<S: Sink>(&self, alloc: Global, name: &str, sink: &mut S) -> Result<(), AllocError> {
-        give_fields!(alloc, name, sink;
-            "node" "node" Shown::Text("leaf");
-            PathFields(self.path.bytes.as_slice());
-            "value" "value" &self.value;
-        )
-    }
-}
-
 /// The hash in hexadecimal, or the fields of a node that is kept in its parent.
 impl Show for Child {
-    ghost display = { child_display };
+    ghost display = { seen_as child_item kept_display };
 
     fn show<S: Sink>(&self, alloc: Global, name: &str, sink: &mut S) -> Result<(), AllocError> {
         match self {
-            Child::Node(hash) => sink.put(name, Shown::Bytes(&hash.0)),
+            Child::Node(hash) => sink.put(name, bytes(&hash.0)),
             Child::Inline(node) => {
-                let bytes = node.item.as_bytes();
-                show_item(alloc, name, bytes, RawItem::MAX_DEPTH, true, sink)
+                let item = node.item.as_bytes();
+                show_item(alloc, name, item, RawItem::MAX_DEPTH, true, sink)
             }
         }
     }
@@ -251,60 +242,48 @@ impl Show for Child {
 
 /// The child, or no bytes if there is none.
 impl Show for BranchChild {
-    ghost display = { branch_child_display };
+    ghost display = { seen_as (λ c. place_item c.0) kept_display };
 
     fn show<S: Sink>(&self, alloc: Global, name: &str, sink: &mut S) -> Result<(), AllocError> {
         match &self.0 {
             Some(child) => child.show(alloc, name, sink),
-            None => sink.put(name, Shown::Bytes(&[])),
+            None => sink.put(name, bytes(&[])),
         }
-    }
-}
-
-impl ShowFields for Extension {
-    ghost fields = { extension_display };
-
-    fn give<S: Sink>(&self, alloc: Global, name: &str, sink: &mut S) -> Result<(), AllocError> {
-        give_fields!(alloc, name, sink;
-            "node" "node" Shown::Text("extension");
-            PathFields(self.path.bytes.as_slice());
-            "child" "child" &self.child;
-        )
-    }
-}
-
-impl ShowFields for Branch {
-    ghost fields = { branch_display };
-
-    fn give<S: Sink>(&self, alloc: Global, name: &str, sink: &mut S) -> Result<(), AllocError> {
-        give_fields!(alloc, name, sink;
-            "node" "node" Shown::Text("branch");
-            "children" "children" Slice(self.children.as_slice());
-            "value" "value" &self.value;
-        )
     }
 }
 
 /// The kind of the node, and its fields without the hash.
 impl ShowFields for TrieNode {
-    ghost fields = { node_fields_display };
+    ghost fields = { seen_as node_parts node_fields_display };
 
     fn give<S: Sink>(&self, alloc: Global, name: &str, sink: &mut S) -> Result<(), AllocError> {
         match self {
-            TrieNode::Empty => give_fields!(alloc, name, sink; "node" "node" Shown::Text("empty");),
-            TrieNode::Leaf(leaf) => leaf.give(alloc, name, sink),
-            TrieNode::Extension(extension) => extension.give(alloc, name, sink),
-            TrieNode::Branch(branch) => branch.give(alloc, name, sink),
+            TrieNode::Empty => field!("node" "node" Shown::Text("empty")).give(alloc, name, sink),
+            TrieNode::Leaf(leaf) => give_fields!(alloc, name, sink;
+                "node" "node" Shown::Text("leaf");
+                PathFields(leaf.path.bytes.as_slice());
+                "value" "value" &leaf.value
+            ),
+            TrieNode::Extension(extension) => give_fields!(alloc, name, sink;
+                "node" "node" Shown::Text("extension");
+                PathFields(extension.path.bytes.as_slice());
+                "child" "child" &extension.child
+            ),
+            TrieNode::Branch(branch) => give_fields!(alloc, name, sink;
+                "node" "node" Shown::Text("branch");
+                "children" "children" Slice(branch.children.as_slice());
+                "value" "value" &branch.value
+            ),
         }
     }
 }
 
 /// The hash of the node, and its fields.
 impl Show for TrieNode {
-    ghost display = { node_display };
+    ghost display = { seen_as (λ n. (node_hash n, node_parts n)) node_display };
 
     fn show<S: Sink>(&self, alloc: Global, name: &str, sink: &mut S) -> Result<(), AllocError> {
         let hash = self.hash(alloc)?;
-        show_fields!(alloc, name, sink; "hash" "hash" &hash; self;)
+        show_fields!(alloc, name, sink; "hash" "hash" &hash; self)
     }
 }

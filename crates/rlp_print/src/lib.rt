@@ -20,4 +20,4 @@ pub use json::{Json, json_of};
 pub use lines::{Lines, lines_of};
 pub use records::{Fault, Place};
 pub use show::{ByForm, Items, Named, NamedIf, Object, Show, ShowFields, Slice};
-pub use sink::{Bracket, Shown, Sink};
+pub use sink::{Bracket, BytesKind, NumberKind, Shown, Sink};

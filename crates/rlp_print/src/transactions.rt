@@ -1,40 +1,48 @@
 //! Transactions of all types, with their signatures and without, and as they are sent with their
 //! blobs.
 
-ghost use Rattle.rlp_print.specs.Transactions.{set_code_display, access_list_display, access_list_item_display, access_list_transaction_display, authorization_display, blob_display, fee_market_display, legacy_display, recipient_display, is_unsigned, legacy_signing_hash, said_display, said_of, signed_authorization_display, signed_legacy_display, typed_display, signing_entries, v_display, any_transaction_display, by_type_display, one_blob_display, payload_display, transaction_display, unsigned_display, unsigned_legacy_display, with_cell_proofs_display, with_proofs_display, without_blobs_display};
-ghost use Rattle.std.specs.Prelude.{◌≡◌, IfOk, OnOk};
-ghost use Rattle.rlp_print.specs.Display.{derived, part, through};
-ghost use Rattle.rlp_print.specs.Value.{after_fields, entries_if};
-ghost use Rattle.rlp_print.specs.Types.{type_entries};
-ghost use Rattle.rlp_records.specs.declared.hash.Hash.{Hash};
+ghost use Rattle.std.specs.Int.Digits.{number_from_digits};
+ghost use Rattle.std.specs.Prelude.{◌≡◌, ◌==◌, IfOk, option_map};
+ghost use Rattle.rlp_transactions.specs.{Access.access_list, Access.access_list_item, AccessListTransaction.access_list_transaction_fields, AnyTransaction.any_transaction, Authorization.authorization_fields};
+ghost use Rattle.rlp_transactions.specs.{Authorization.signed_authorization, Blob.blob, BlobTransaction.blob_transaction_fields, BlobTransaction.signed_blob_transaction, Recipient.recipient};
+ghost use Rattle.rlp_transactions.specs.{BlobWrapper.with_cell_proofs, BlobWrapper.with_proofs, FeeMarketTransaction.fee_market_transaction_fields, Transaction.transaction};
+ghost use Rattle.rlp_transactions.specs.{LegacyTransaction.legacy_transaction_fields, LegacyTransaction.signed_legacy_transaction, SetCodeTransaction.set_code_transaction_fields};
+ghost use Rattle.rlp_transactions.specs.{UnsignedLegacyTransaction.unsigned_legacy_transaction, UnsignedTransaction.unsigned_transaction};
+ghost use Rattle.rlp_print.specs.Display.{bytes_as, seen_as};
+ghost use Rattle.rlp_print.specs.Transactions.{access_list_display, access_list_item_display, access_list_transaction_display, after_type, any_transaction_display, authorization_display, blob_display, blob_hash, by_type_display, fee_market_display, legacy_display, legacy_signing_hash};
+ghost use Rattle.rlp_print.specs.Transactions.{payload_display, payload_hash, recipient_display, said_display, said_of, said_seen, set_code_display, signed_authorization_display, signed_legacy_display, signing_hash, transaction_display, transaction_hash};
+ghost use Rattle.rlp_print.specs.Transactions.{typed_fields, typed_seen, unsigned_display, unsigned_legacy_display, v_content, v_seen, with_cell_proofs_display, with_proofs_display};
+ghost use Rattle.rlp_print.specs.Value.{content_of};
+ghost use Rattle.rlp_print.specs.declared.sink.BytesKind.TheVariants.{Sparse};
 
-use crate::show::{ByForm, Items, NamedIf, Show, ShowFields, field, give_fields, show_fields};
-use crate::sink::{Shown, Sink};
+use crate::show::{ByForm, Items, Show, ShowFields, field, fields, give_fields, show_fields};
+use crate::sink::{BytesKind, NumberKind, Shown, Sink, bytes, number};
 use crate::texts::{are_zero, said_by};
 use keccak::keccak256;
+use rlp::Uint;
 use rlp_records::Hash;
 use rlp_transactions::{
     AccessList, AccessListItem, AccessListTransaction, AnyTransaction, Authorization, Blob,
     BlobTransaction, BlobTransactionWithCellProofs, BlobTransactionWithProofs, Eip155,
     FeeMarketTransaction, LegacyTransaction, Recipient, SetCodeTransaction, Signed,
-    SignedAuthorization, SignedLegacyTransaction, Transaction, TypedTransaction,
+    SignedAuthorization, SignedLegacyTransaction, Tagged, Transaction, TypedTransaction,
     UnsignedLegacyTransaction, UnsignedTransaction, signing_hash,
 };
 use std::alloc::{AllocError, Global};
 
 impl Show for Recipient {
-    ghost display = { recipient_display };
+    ghost display = { seen_as recipient.reading.seen recipient_display };
 
     fn show<S: Sink>(&self, _alloc: Global, name: &str, sink: &mut S) -> Result<(), AllocError> {
         match self {
-            Recipient::Creation => sink.put(name, Shown::BytesOrNull(&[])),
-            Recipient::Account(address) => sink.put(name, Shown::BytesOrNull(&address.0)),
+            Recipient::Creation => sink.put(name, Shown::Bytes(BytesKind::Null, &[])),
+            Recipient::Account(address) => sink.put(name, bytes(&address.0)),
         }
     }
 }
 
 impl Show for AccessListItem {
-    ghost display = { access_list_item_display };
+    ghost display = { seen_as access_list_item.reading.seen access_list_item_display };
 
     fn show<S: Sink>(&self, alloc: Global, name: &str, sink: &mut S) -> Result<(), AllocError> {
         show_fields!(alloc, name, sink;
@@ -45,7 +53,7 @@ impl Show for AccessListItem {
 }
 
 impl Show for AccessList {
-    ghost display = { access_list_display };
+    ghost display = { seen_as access_list.reading.seen access_list_display };
 
     fn show<S: Sink>(&self, alloc: Global, name: &str, sink: &mut S) -> Result<(), AllocError> {
         Items(&self.0).show(alloc, name, sink)
@@ -53,7 +61,7 @@ impl Show for AccessList {
 }
 
 impl ShowFields for LegacyTransaction {
-    ghost fields = { legacy_display };
+    ghost fields = { seen_as legacy_transaction_fields.reading.seen legacy_display };
 
     fn give<S: Sink>(&self, alloc: Global, name: &str, sink: &mut S) -> Result<(), AllocError> {
         give_fields!(alloc, name, sink;
@@ -68,7 +76,8 @@ impl ShowFields for LegacyTransaction {
 }
 
 impl ShowFields for AccessListTransaction {
-    ghost fields = { access_list_transaction_display };
+    ghost fields = { seen_as access_list_transaction_fields.reading.seen
+        access_list_transaction_display };
 
     fn give<S: Sink>(&self, alloc: Global, name: &str, sink: &mut S) -> Result<(), AllocError> {
         give_fields!(alloc, name, sink;
@@ -85,7 +94,7 @@ impl ShowFields for AccessListTransaction {
 }
 
 impl ShowFields for FeeMarketTransaction {
-    ghost fields = { fee_market_display };
+    ghost fields = { seen_as fee_market_transaction_fields.reading.seen fee_market_display };
 
     fn give<S: Sink>(&self, alloc: Global, name: &str, sink: &mut S) -> Result<(), AllocError> {
         give_fields!(alloc, name, sink;
@@ -103,7 +112,7 @@ impl ShowFields for FeeMarketTransaction {
 }
 
 impl ShowFields for BlobTransaction {
-    ghost fields = { blob_display };
+    ghost fields = { seen_as blob_transaction_fields.reading.seen blob_display };
 
     fn give<S: Sink>(&self, alloc: Global, name: &str, sink: &mut S) -> Result<(), AllocError> {
         give_fields!(alloc, name, sink;
@@ -123,7 +132,7 @@ impl ShowFields for BlobTransaction {
 }
 
 impl ShowFields for Authorization {
-    ghost fields = { authorization_display };
+    ghost fields = { seen_as authorization_fields.reading.seen authorization_display };
 
     fn give<S: Sink>(&self, alloc: Global, name: &str, sink: &mut S) -> Result<(), AllocError> {
         give_fields!(alloc, name, sink;
@@ -135,7 +144,7 @@ impl ShowFields for Authorization {
 }
 
 impl ShowFields for SetCodeTransaction {
-    ghost fields = { set_code_display };
+    ghost fields = { seen_as set_code_transaction_fields.reading.seen set_code_display };
 
     fn give<S: Sink>(&self, alloc: Global, name: &str, sink: &mut S) -> Result<(), AllocError> {
         give_fields!(alloc, name, sink;
@@ -153,46 +162,56 @@ impl ShowFields for SetCodeTransaction {
     }
 }
 
+/// Returns the hash that is signed of a payload.
+fn signing_hash_of<T: Tagged>(alloc: Global, payload: &T) -> Result<Hash, AllocError>
+    ensures { IfOk result
+        (λ h. h.0 ≡ signing_hash T.TAG T.reading (T.reading.seen payload.now)) }
+{
+    let hash = signing_hash(alloc, payload)?;
+    Ok(hash)
+}
+
 impl<T: TypedTransaction + ShowFields> ShowFields for Signed<T, bool> {
-    ghost fields = { typed_display T.TAG T.items T.fields };
+    ghost fields = { seen_as (typed_seen T.fields.seen T.reading.seen)
+        (typed_fields T.TAG T.reading T.fields.form) };
 
     fn give<S: Sink>(&self, alloc: Global, name: &str, sink: &mut S) -> Result<(), AllocError> {
-        let hash = signing_hash(alloc, &self.payload)?;
+        let hash = signing_hash_of(alloc, &self.payload)?;
         give_fields!(alloc, name, sink;
             "type" "type" Shown::TypeByte(T::TAG);
             &self.payload;
             "y_parity" "yParity" &self.v;
             ByForm((), field!("v" "v" &self.v));
-            "r" "r" Shown::Quantity(&self.r);
-            "s" "s" Shown::Quantity(&self.s);
-            "signing_hash" "signingHash" &hash;
+            "r" "r" Shown::Number(NumberKind::Quantity, self.r);
+            "s" "s" Shown::Number(NumberKind::Quantity, self.s);
+            "signing_hash" "signingHash" &hash
         )
     }
 }
 
 impl Show for SignedAuthorization {
-    ghost display = { signed_authorization_display };
+    ghost display = { seen_as signed_authorization.reading.seen signed_authorization_display };
 
     fn show<S: Sink>(&self, alloc: Global, name: &str, sink: &mut S) -> Result<(), AllocError> {
-        let hash = signing_hash(alloc, &self.payload)?;
+        let hash = signing_hash_of(alloc, &self.payload)?;
         show_fields!(alloc, name, sink;
             &self.payload;
-            "y_parity" "yParity" &self.v;
-            "r" "r" Shown::Quantity(&self.r);
-            "s" "s" Shown::Quantity(&self.s);
-            "signing_hash" "signingHash" &hash;
+            "y_parity" "yParity" number(u64::from(self.v));
+            "r" "r" Shown::Number(NumberKind::Quantity, self.r);
+            "s" "s" Shown::Number(NumberKind::Quantity, self.s);
+            "signing_hash" "signingHash" &hash
         )
     }
 }
 
 /// What `v` says.
 impl ShowFields for Eip155 {
-    ghost fields = { said_display };
+    ghost fields = { seen_as said_seen said_display };
 
     fn give<S: Sink>(&self, alloc: Global, name: &str, sink: &mut S) -> Result<(), AllocError> {
         give_fields!(alloc, name, sink;
             "chain_id" "chainId" ? &self.chain_id;
-            "y_parity" "yParity" &self.y_parity;
+            "y_parity" "yParity" &self.y_parity
         )
     }
 }
@@ -203,7 +222,8 @@ fn legacy_signing_hash(
     payload: &LegacyTransaction,
     said: Option<Eip155>,
 ) -> Result<Option<Hash>, AllocError>
-    ensures { IfOk result (λ h. h ≡ legacy_signing_hash payload.now said) }
+    ensures { IfOk result (λ h. option_map (λ h. h.0) h
+        ≡ legacy_signing_hash (legacy_transaction_fields.reading.seen payload.now) said) }
 {
     let Some(said) = said else {
         return Ok(None);
@@ -216,79 +236,55 @@ fn legacy_signing_hash(
     Ok(Some(Hash(keccak256(bytes.as_slice()))))
 }
 
-/// Returns whether a transaction without a type isn't signed: both numbers of its signature are zero,
-/// as in what EIP-155 signs.
-fn is_unsigned(transaction: &SignedLegacyTransaction) -> bool
-    ensures { result ≡ is_unsigned transaction.now }
+/// Returns whether a number is zero.
+fn is_zero(number: &Uint<32>) -> bool
+    ensures { result ≡ (number_from_digits 256 number.now.bytes == 0) }
 {
-    are_zero(&transaction.r.bytes) && are_zero(&transaction.s.bytes)
+    are_zero(&number.bytes)
 }
 
-/// Returns what `v` says, if the transaction is signed.
+/// Returns what `v` says, if the transaction is signed: one of the two numbers of its signature isn't
+/// zero, as both are in what EIP-155 signs.
 fn said_of(transaction: &SignedLegacyTransaction) -> Option<Eip155>
-    ensures { result ≡ said_of transaction.now }
+    ensures { result ≡ said_of (signed_legacy_transaction.reading.seen transaction.now) }
 {
-    if is_unsigned(transaction) {
+    if is_zero(&transaction.r) && is_zero(&transaction.s) {
         return None;
     }
     said_by(&transaction.v)
 }
 
-/// The `v` of a transaction without a type.
-#[derive(Clone, Copy)]
-struct LegacyV<'a>(&'a SignedLegacyTransaction);
-
-impl Show for LegacyV<'_> {
-    ghost display = { through (λ v. v.0.now) v_display };
-
-    fn show<S: Sink>(&self, _alloc: Global, name: &str, sink: &mut S) -> Result<(), AllocError> {
-        if is_unsigned(self.0) {
-            return sink.put(name, Shown::Wide(&self.0.v));
-        }
-        sink.put(name, Shown::LegacyV(&self.0.v))
-    }
-}
-
-/// Gives the hash that is signed to a sink, if `v` says what that is.
-fn show_legacy_signing<S: Sink>(
-    alloc: Global,
-    name: &str,
-    payload: &LegacyTransaction,
-    said: Option<Eip155>,
-    sink: &mut S,
-) -> Result<(), AllocError>
-    ensures { OnOk result (S.seen sink.new ≡ after_fields S.steps name.now
-        (entries_if (λ (h : Hash). signing_entries h.0) (legacy_signing_hash payload.now said))
-        (S.seen sink.old)) }
+/// Returns the `v` of a transaction, which comes with what it says if the transaction is signed.
+fn v_of(transaction: &SignedLegacyTransaction) -> Shown<'static>
+    ensures { content_of result ≡ v_content
+        (v_seen (signed_legacy_transaction.reading.seen transaction.now)) }
 {
-    let hash = legacy_signing_hash(alloc, payload, said)?;
-    let field = NamedIf {
-        name: "signing_hash",
-        json: "signingHash",
-        value: &hash,
-    };
-    field.give(alloc, name, sink)
+    if is_zero(&transaction.r) && is_zero(&transaction.s) {
+        return Shown::Number(NumberKind::Decimal, transaction.v);
+    }
+    Shown::Number(NumberKind::LegacyV, transaction.v)
 }
 
 impl ShowFields for SignedLegacyTransaction {
-    ghost fields = { signed_legacy_display };
+    ghost fields = { seen_as signed_legacy_transaction.reading.seen signed_legacy_display };
 
     fn give<S: Sink>(&self, alloc: Global, name: &str, sink: &mut S) -> Result<(), AllocError> {
         let said = said_of(self);
+        let hash = legacy_signing_hash(alloc, &self.payload, said)?;
         give_fields!(alloc, name, sink;
             ByForm((), field!("type" "type" Shown::TypeByte(0)));
             &self.payload;
-            "v" "v" LegacyV(self);
+            "v" "v" v_of(self);
             ByForm((), &said);
-            "r" "r" Shown::Quantity(&self.r);
-            "s" "s" Shown::Quantity(&self.s);
-        )?;
-        show_legacy_signing(alloc, name, &self.payload, said, sink)
+            "r" "r" Shown::Number(NumberKind::Quantity, self.r);
+            "s" "s" Shown::Number(NumberKind::Quantity, self.s);
+            "signing_hash" "signingHash" ? &hash
+        )
     }
 }
 
 impl ShowFields for Transaction {
-    ghost fields = { transaction_display };
+    ghost fields = { seen_as transaction.reading.seen transaction_display };
 
     fn give<S: Sink>(&self, alloc: Global, name: &str, sink: &mut S) -> Result<(), AllocError> {
         match self {
@@ -303,106 +299,120 @@ impl ShowFields for Transaction {
 
 /// The fields without the hash.
 impl ShowFields for AnyTransaction {
-    ghost fields = { by_type_display };
+    ghost fields = { seen_as any_transaction.reading.seen by_type_display };
 
     fn give<S: Sink>(&self, alloc: Global, name: &str, sink: &mut S) -> Result<(), AllocError> {
         match self {
             AnyTransaction::Known(tx) => tx.give(alloc, name, sink),
-            AnyTransaction::Other(tx) => {
-                give_fields!(alloc, name, sink;
-                    "type" "type" Shown::TypeByte(tx.transaction_type());
-                    "payload" "payload" Shown::Payload(tx.payload());
-                )
-            }
+            AnyTransaction::Other(tx) => give_fields!(alloc, name, sink;
+                "type" "type" Shown::TypeByte(tx.transaction_type());
+                "payload" "payload" Shown::Bytes(BytesKind::Payload, tx.payload())
+            ),
         }
     }
 }
 
+/// Returns the hash of a transaction.
+fn hash_of(alloc: Global, transaction: &AnyTransaction) -> Result<Hash, AllocError>
+    ensures { IfOk result
+        (λ h. h.0 ≡ transaction_hash (any_transaction.reading.seen transaction.now)) }
+{
+    let hash = transaction.hash(alloc)?;
+    Ok(hash)
+}
+
 impl Show for AnyTransaction {
-    ghost display = { any_transaction_display };
+    ghost display = { seen_as any_transaction.reading.seen any_transaction_display };
 
     fn show<S: Sink>(&self, alloc: Global, name: &str, sink: &mut S) -> Result<(), AllocError> {
-        let hash = self.hash(alloc)?;
-        show_fields!(alloc, name, sink; "hash" "hash" &hash; self;)
+        let hash = hash_of(alloc, self)?;
+        show_fields!(alloc, name, sink; "hash" "hash" &hash; self)
     }
 }
 
 impl ShowFields for UnsignedLegacyTransaction {
-    ghost fields = { unsigned_legacy_display };
+    ghost fields = { seen_as unsigned_legacy_transaction.reading.seen unsigned_legacy_display };
 
     fn give<S: Sink>(&self, alloc: Global, name: &str, sink: &mut S) -> Result<(), AllocError> {
-        give_fields!(alloc, name, sink;
-            ByForm((), field!("type" "type" Shown::TypeByte(0)));
-            &self.payload;
-            "chain_id" "chainId" ? &self.chain_id;
-        )
+        let kind = ByForm((), field!("type" "type" Shown::TypeByte(0)));
+        (kind, &self.payload).give(alloc, name, sink)?;
+        match &self.chain_id {
+            Some(chain) => field!("chain_id" "chainId" chain).give(alloc, name, sink),
+            None => Ok(()),
+        }
     }
 }
 
 /// The number of a type, and a payload.
 #[derive(Clone, Copy)]
-struct Typed<'a, T>(&'a T);
+struct Typed<'a, T>(u8, &'a T);
 
-impl<T: TypedTransaction + ShowFields> ShowFields for Typed<'_, T> {
-    ghost fields = { part (λ t. t.0.now) (derived (λ t. type_entries T.TAG) T.fields) };
+impl<T: ShowFields> ShowFields for Typed<'_, T> {
+    ghost fields = { seen_as (λ t. (t.0, T.fields.seen t.1.now)) (after_type T.fields.form) };
 
     fn give<S: Sink>(&self, alloc: Global, name: &str, sink: &mut S) -> Result<(), AllocError> {
-        give_fields!(alloc, name, sink; "type" "type" Shown::TypeByte(T::TAG); self.0;)
+        give_fields!(alloc, name, sink; "type" "type" Shown::TypeByte(self.0); self.1)
     }
 }
 
 /// The fields without the hash that is signed.
 impl ShowFields for UnsignedTransaction {
-    ghost fields = { payload_display };
+    ghost fields = { seen_as unsigned_transaction.reading.seen payload_display };
 
     fn give<S: Sink>(&self, alloc: Global, name: &str, sink: &mut S) -> Result<(), AllocError> {
         match self {
             UnsignedTransaction::Legacy(tx) => tx.give(alloc, name, sink),
-            UnsignedTransaction::AccessList(tx) => Typed(tx).give(alloc, name, sink),
-            UnsignedTransaction::FeeMarket(tx) => Typed(tx).give(alloc, name, sink),
-            UnsignedTransaction::Blob(tx) => Typed(tx).give(alloc, name, sink),
-            UnsignedTransaction::SetCode(tx) => Typed(tx).give(alloc, name, sink),
+            UnsignedTransaction::AccessList(tx) => Typed(1, tx).give(alloc, name, sink),
+            UnsignedTransaction::FeeMarket(tx) => Typed(2, tx).give(alloc, name, sink),
+            UnsignedTransaction::Blob(tx) => Typed(3, tx).give(alloc, name, sink),
+            UnsignedTransaction::SetCode(tx) => Typed(4, tx).give(alloc, name, sink),
         }
     }
 }
 
+/// Returns the hash that is signed of a transaction.
+fn payload_hash(alloc: Global, transaction: &UnsignedTransaction) -> Result<Hash, AllocError>
+    ensures { IfOk result
+        (λ h. h.0 ≡ payload_hash (unsigned_transaction.reading.seen transaction.now)) }
+{
+    let hash = transaction.signing_hash(alloc)?;
+    Ok(hash)
+}
+
 impl Show for UnsignedTransaction {
-    ghost display = { unsigned_display };
+    ghost display = { seen_as unsigned_transaction.reading.seen unsigned_display };
 
     fn show<S: Sink>(&self, alloc: Global, name: &str, sink: &mut S) -> Result<(), AllocError> {
-        let hash = self.signing_hash(alloc)?;
-        show_fields!(alloc, name, sink; self; "signing_hash" "signingHash" &hash;)
+        let hash = payload_hash(alloc, self)?;
+        show_fields!(alloc, name, sink; self; "signing_hash" "signingHash" &hash)
     }
 }
 
 impl Show for Blob {
-    ghost display = { one_blob_display };
+    ghost display = { seen_as blob.reading.seen (bytes_as Sparse) };
 
     fn show<S: Sink>(&self, _alloc: Global, name: &str, sink: &mut S) -> Result<(), AllocError> {
-        sink.put(name, Shown::Sparse(&self.bytes))
+        sink.put(name, Shown::Bytes(BytesKind::Sparse, &self.bytes))
     }
 }
 
-/// A transaction without its blobs, and the hash that names it.
-#[derive(Clone, Copy)]
-struct WithoutBlobs<'a>(&'a Signed<BlobTransaction>);
-
-impl ShowFields for WithoutBlobs<'_> {
-    ghost fields = { part (λ t. t.0.now) without_blobs_display };
-
-    fn give<S: Sink>(&self, alloc: Global, name: &str, sink: &mut S) -> Result<(), AllocError> {
-        let bytes = self.0.to_bytes(alloc)?;
-        let hash = Hash(keccak256(bytes.as_slice()));
-        give_fields!(alloc, name, sink; "hash" "hash" &hash; self.0;)
-    }
+/// Returns the hash that names a transaction with blobs, which is the hash of the transaction without
+/// its blobs.
+fn blob_hash(alloc: Global, transaction: &Signed<BlobTransaction>) -> Result<Hash, AllocError>
+    ensures { IfOk result
+        (λ h. h.0 ≡ blob_hash (signed_blob_transaction.reading.seen transaction.now)) }
+{
+    let bytes = transaction.to_bytes(alloc)?;
+    Ok(Hash(keccak256(bytes.as_slice())))
 }
 
 impl Show for BlobTransactionWithProofs {
-    ghost display = { with_proofs_display };
+    ghost display = { seen_as with_proofs.reading.seen with_proofs_display };
 
     fn show<S: Sink>(&self, alloc: Global, name: &str, sink: &mut S) -> Result<(), AllocError> {
+        let hash = blob_hash(alloc, &self.transaction)?;
         show_fields!(alloc, name, sink;
-            WithoutBlobs(&self.transaction);
+            fields!("hash" "hash" &hash; &self.transaction);
             "blobs" "blobs" Items(&self.blobs);
             "commitments" "commitments" Items(&self.commitments);
             "proofs" "proofs" Items(&self.proofs);
@@ -411,12 +421,13 @@ impl Show for BlobTransactionWithProofs {
 }
 
 impl Show for BlobTransactionWithCellProofs {
-    ghost display = { with_cell_proofs_display };
+    ghost display = { seen_as with_cell_proofs.reading.seen with_cell_proofs_display };
 
     fn show<S: Sink>(&self, alloc: Global, name: &str, sink: &mut S) -> Result<(), AllocError> {
+        let hash = blob_hash(alloc, &self.transaction)?;
         show_fields!(alloc, name, sink;
-            WithoutBlobs(&self.transaction);
-            "wrapper_version" "wrapperVersion" Shown::Number(1);
+            fields!("hash" "hash" &hash; &self.transaction);
+            "wrapper_version" "wrapperVersion" number(1);
             "blobs" "blobs" Items(&self.blobs);
             "commitments" "commitments" Items(&self.commitments);
             "cell_proofs" "proofs" Items(&self.cell_proofs);
