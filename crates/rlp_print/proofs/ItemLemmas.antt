@@ -19,6 +19,11 @@ pub items_taken : {A S : Type 0} (shown : A → Value) (st : Steps S) (name : Li
 items_taken shown st name [] s some = absurd (omega (arith, some))
 items_taken shown st name (x ∷ xs) s some = refl
 
+pub seen_taken : {A M S : Type 0} (seen : A → M) (shown : M → Value) (st : Steps S) (name : List ℕ) (xs : List A) (s : S) → 0 < length xs
+    → after st name (array (values_of shown (map seen xs))) s ≡ st.finish Square (after_items st name 0 (values_of shown (map seen xs)) (st.begin Square s))
+seen_taken seen shown st name [] s some = absurd (omega (arith, some))
+seen_taken seen shown st name (x ∷ xs) s some = refl
+
 -- ---- items
 
 -- a string

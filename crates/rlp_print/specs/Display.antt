@@ -3,7 +3,7 @@ use Rattle.std.specs.Prelude.{ℕ, ◌==◌, Bool, true, false, List, [], ◌∷
 use Rattle.std.proofs.Common.{◌≡◌, ◌∙◌, refl, sym, ap}
 use Rattle.rlp.specs.Values.Value.{bit}
 use Rattle.rlp_print.specs.Value.{Content, number, type_byte, bytes, text, Value, Entries, content, object, array, nothing, both, entry, by_form, entries_if, values_of}
-use Rattle.rlp_print.specs.declared.{sink.NumberKind.TheVariants.Decimal, sink.NumberKind.TheVariants.Quantity, sink.BytesKind.BytesKind, sink.BytesKind.TheVariants.Any}
+use Rattle.rlp_print.specs.declared.{sink.NumberKind.NumberKind, sink.NumberKind.TheVariants.Decimal, sink.NumberKind.TheVariants.Quantity, sink.BytesKind.BytesKind, sink.BytesKind.TheVariants.Any}
 
 -- What is shown of a value that contracts see as M, and what is told of the value.
 pub record Shows (R M : Type 0) : Type 1 where
@@ -22,44 +22,55 @@ Fields M = Shows Entries M
 
 -- ---- contents
 
-pub content_same : (c d : Content) → content c ≡ content d → c ≡ d
-content_same c d is = cc
+-- the number in a content, and the bytes in a content
+abbrev pub content_number : Content → ℕ
+content_number (number kind n) = n
+content_number (type_byte n) = n
+content_number c = 0
 
--- values that are shown as these contents, which tell them apart
+abbrev pub content_bytes : Content → List ℕ
+content_bytes (bytes kind b) = b
+content_bytes (text t) = t
+content_bytes c = []
+
+pub content_same : {c d : Content} → content c ≡ content d → c ≡ d
+content_same is = cc
+
+-- what is read back from contents tells them apart
+pub back_apart : {M : Type 0} (make : M → Content) (back : Content → M) → ((m : M) → back (make m) ≡ m) → (m n : M) → make m ≡ make n → m ≡ n
+back_apart make back is m n same = sym (is m) ∙ ap back same ∙ is n
+
+-- values that are shown as contents, which tell them apart
 abbrev pub a_content : {M : Type 0} (make : M → Content) → ((m n : M) → make m ≡ make n → m ≡ n) → Display M
-a_content {M} make apart = record {
-  shown = λ m. content (make m);
-  Told = M;
-  told = λ m. m;
-  apart = λ m n is. apart m n (content_same (make m) (make n) is);
-}
+a_content {M} make apart = record { shown = λ m. content (make m); Told = M; told = λ m. m; apart = λ m n is. apart m n (content_same is) }
+
+-- numbers of a kind
+abbrev pub number_as : NumberKind → Display ℕ
+number_as kind = a_content (number kind) (back_apart (number kind) content_number (λ n. refl))
 
 -- numbers
 abbrev pub a_number : Display ℕ
-a_number = a_content (number Decimal) (λ m n is. cc)
+a_number = number_as Decimal
 
 -- numbers that are hexadecimal in lines too
 abbrev pub a_quantity : Display ℕ
-a_quantity = a_content (number Quantity) (λ m n is. cc)
+a_quantity = number_as Quantity
 
 -- numbers of types of EIP-2718
 abbrev pub a_type : Display ℕ
-a_type = a_content type_byte (λ m n is. cc)
+a_type = a_content type_byte (back_apart type_byte content_number (λ n. refl))
 
 pub bit_back : (b : Bool) → (bit b == 1) ≡ b
 bit_back true = refl
 bit_back false = refl
 
-pub bit_same : (b c : Bool) → number Decimal (bit b) ≡ number Decimal (bit c) → b ≡ c
-bit_same b c is = sym (bit_back b) ∙ ap (λ n. n == 1) (let same : bit b ≡ bit c = cc in same) ∙ bit_back c
-
 -- truth values, as 0 or 1
 abbrev pub a_bit : Display Bool
-a_bit = a_content (λ b. number Decimal (bit b)) bit_same
+a_bit = a_content (λ b. number Decimal (bit b)) (back_apart (λ b. number Decimal (bit b)) (λ c. content_number c == 1) bit_back)
 
 -- bytes of a kind
 abbrev pub bytes_as : BytesKind → Display (List ℕ)
-bytes_as kind = a_content (bytes kind) (λ b c is. cc)
+bytes_as kind = a_content (bytes kind) (back_apart (bytes kind) content_bytes (λ b. refl))
 
 -- byte strings
 abbrev pub a_string : Display (List ℕ)
@@ -67,15 +78,18 @@ a_string = bytes_as Any
 
 -- texts that need no escape in JSON
 abbrev pub a_text : Display (List ℕ)
-a_text = a_content text (λ t u is. cc)
+a_text = a_content text (back_apart text content_bytes (λ t. refl))
 
 -- ---- lists and objects
 
 module _ {M : Type 0} (d : Display M) where
-  pub items_apart : (ms ns : List M) → values_of d.shown ms ≡ values_of d.shown ns → map d.told ms ≡ map d.told ns
+  items_apart : (ms ns : List M) → values_of d.shown ms ≡ values_of d.shown ns → map d.told ms ≡ map d.told ns
   items_apart [] [] is = refl
   items_apart (m ∷ ms) (n ∷ ns) is = let first = d.apart m n cc in let others = items_apart ms ns cc in cc
   items_apart _ _ is = absurd cc
+
+  pub list_apart : (ms ns : List M) → array (values_of d.shown ms) ≡ array (values_of d.shown ns) → map d.told ms ≡ map d.told ns
+  list_apart ms ns is = items_apart ms ns cc
 
 -- lists of values
 abbrev pub a_list : {M : Type 0} → Display M → Display (List M)
@@ -83,16 +97,19 @@ a_list d = record {
   shown = λ ms. array (values_of d.shown ms);
   Told = List d.Told;
   told = λ ms. map d.told ms;
-  apart = λ ms ns is. items_apart d ms ns cc;
+  apart = list_apart d;
 }
 
 -- values, or their fields, that are shown as what they have of another type
 abbrev pub through : {R A M : Type 0} → (A → M) → Shows R M → Shows R A
 through get d = record { shown = λ a. d.shown (get a); Told = d.Told; told = λ a. d.told (get a); apart = λ a b is. d.apart (get a) (get b) is }
 
+pub object_same : {a b : Entries} → object a ≡ object b → a ≡ b
+object_same is = cc
+
 -- an object with these fields
 abbrev pub an_object : {M : Type 0} → Fields M → Display M
-an_object f = record { shown = λ m. object (f.shown m); Told = f.Told; told = f.told; apart = λ m n is. f.apart m n cc }
+an_object f = record { shown = λ m. object (f.shown m); Told = f.Told; told = f.told; apart = λ m n is. f.apart m n (object_same is) }
 
 -- ---- fields
 
@@ -100,13 +117,16 @@ an_object f = record { shown = λ m. object (f.shown m); Told = f.Told; told = f
 abbrev pub end : {M : Type 0} → Fields M
 end = record { shown = λ m. nothing; Told = ⊤; told = λ m. tt; apart = λ m n is. refl }
 
+pub field_same : {name other json key : List ℕ} {v w : Value} → entry name json v ≡ entry other key w → v ≡ w
+field_same is = cc
+
 -- a field with its name in lines, its name in JSON and its value
 abbrev pub named : {M : Type 0} → Display M → Fields (List ℕ × (List ℕ × M))
 named {M} d = record {
   shown = λ f. entry f.0 f.1.0 (d.shown f.1.1);
   Told = d.Told;
   told = λ f. d.told f.1.1;
-  apart = λ f g is. d.apart f.1.1 g.1.1 cc;
+  apart = λ f g is. d.apart f.1.1 g.1.1 (field_same is);
 }
 
 -- the one field with this name in lines and this name in JSON
@@ -126,23 +146,24 @@ if_there f = record { shown = λ o. entries_if f.shown o; Told = Option f.Told; 
 abbrev pub one_if : {M : Type 0} → List ℕ → List ℕ → Display M → Fields (Option M)
 one_if {M} name json d = through (option_map (λ (m : M). (name, (json, m)))) (if_there (named d))
 
+module _ {M N : Type 0} (f : Fields M) (g : Fields N) where
+  -- what is told of both
+  abbrev pub told_both : M × N → f.Told × g.Told
+  told_both m = (f.told m.0, g.told m.1)
+
+  pub both_apart : (m n : M × N) → both (f.shown m.0) (g.shown m.1) ≡ both (f.shown n.0) (g.shown n.1) → told_both m ≡ told_both n
+  both_apart m n is = let first = f.apart m.0 n.0 cc in let others = g.apart m.1 n.1 cc in cc
+
+  pub forms_apart : (m n : M × N) → by_form (f.shown m.0) (g.shown m.1) ≡ by_form (f.shown n.0) (g.shown n.1) → told_both m ≡ told_both n
+  forms_apart m n is = let lines = f.apart m.0 n.0 cc in let json = g.apart m.1 n.1 cc in cc
+
 -- fields, and then other fields
 abbrev pub in_order : {M N : Type 0} → Fields M → Fields N → Fields (M × N)
-in_order f more = record {
-  shown = λ m. both (f.shown m.0) (more.shown m.1);
-  Told = f.Told × more.Told;
-  told = λ m. (f.told m.0, more.told m.1);
-  apart = λ m n is. let first = f.apart m.0 n.0 cc in let others = more.apart m.1 n.1 cc in cc;
-}
+in_order f more = record { shown = λ m. both (f.shown m.0) (more.shown m.1); Told = f.Told × more.Told; told = told_both f more; apart = both_apart f more }
 
 -- fields of lines, and the fields that JSON has in their place
 abbrev pub in_forms : {M N : Type 0} → Fields M → Fields N → Fields (M × N)
-in_forms f json = record {
-  shown = λ m. by_form (f.shown m.0) (json.shown m.1);
-  Told = f.Told × json.Told;
-  told = λ m. (f.told m.0, json.told m.1);
-  apart = λ m n is. let lines = f.apart m.0 n.0 cc in let others = json.apart m.1 n.1 cc in cc;
-}
+in_forms f json = record { shown = λ m. by_form (f.shown m.0) (json.shown m.1); Told = f.Told × json.Told; told = told_both f json; apart = forms_apart f json }
 
 -- fields that follow from what is told elsewhere
 abbrev pub derived : {M : Type 0} → (M → Entries) → Fields M
@@ -150,7 +171,7 @@ derived shown = record { shown = shown; Told = ⊤; told = λ m. tt; apart = λ 
 
 -- fields that follow from a value, and then its fields
 abbrev pub after_derived : {M : Type 0} → (M → Entries) → Fields M → Fields M
-after_derived shown f = record { shown = λ m. both (shown m) (f.shown m); Told = f.Told; told = f.told; apart = λ m n is. f.apart m n cc }
+after_derived {M} shown f = through (λ (m : M). (m, m)) (in_order (derived shown) f)
 
 -- a field before others
 abbrev pub field : {M N : Type 0} → List ℕ → List ℕ → Display M → Fields N → Fields (M × N)

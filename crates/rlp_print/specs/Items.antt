@@ -9,7 +9,7 @@ use Rattle.rlp.specs.{Format.Encoding.encoding, Values.RawItem.item_within, Valu
 use Rattle.rlp_trie.specs.{BranchChild.place_item, Child.child_item, HexPrefix.ends_in_leaf, TrieNodeLaws.trie_node}
 use Rattle.rlp_trie.specs.declared.{branch_child.BranchChild.BranchChild, trie_node.TrieNode.TrieNode}
 use Rattle.rlp_trie.specs.declared.trie_node.TrieNode.TheVariants as node
-use Rattle.rlp_print.specs.Display.{Display, Fields, a_string, an_object, bytes_as, derived, field, in_order, one, through}
+use Rattle.rlp_print.specs.Display.{Display, Fields, a_string, an_object, bytes_as, content_bytes, derived, field, in_order, one, through}
 use Rattle.rlp_print.specs.Value.{Content, Value, Entries, Values, content, object, array, bytes, text, nothing, both, entry, by_form, no_values, value_and, values_of}
 use Rattle.rlp_print.specs.Lines.{digits_text}
 use Rattle.rlp_print.specs.declared.sink.BytesKind.TheVariants.{Any, Path}
@@ -91,11 +91,6 @@ abbrev mutual
 abbrev joined : Items → Items → Items
 joined no_items ys = ys
 joined (item_and x xs) ys = item_and x (joined xs ys)
-
--- the bytes in a content
-abbrev content_bytes : Content → List ℕ
-content_bytes (bytes kind d) = d
-content_bytes c = []
 
 -- The item that a value shows. A node shows a path and an item, or its children and an item.
 abbrev mutual

@@ -43,7 +43,7 @@ key_told (key, string d) = inl (string_content key d)
 key_told (key, list xs) = inr xs
 
 pub key_apart : (p q : List ℕ × Item) → key_value p.0 p.1 ≡ key_value q.0 q.1 → key_told p ≡ key_told q
-key_apart (key, string d) (other, string e) is = ap inl (content_same (string_content key d) (string_content other e) is)
+key_apart (key, string d) (other, string e) is = ap inl (content_same is)
 key_apart (key, list xs) (other, list ys) is = let same = item_told (list xs) (list ys) is in cc
 key_apart _ _ is = absurd cc
 

@@ -1,19 +1,15 @@
 -- What is shown of withdrawals, accounts, logs and receipts, and of the fault of a record.
 use Rattle.std.specs.Prelude.{codes, refl, ℕ, Bool, true, false, List, ◌≡◌, Option, Some, None}
 use Rattle.rlp_headers.specs.{Account.account, Log.log, Receipt.receipt_fields, ReceiptStatus.receipt_status, TypedReceipt.typed_receipt, Withdrawal.withdrawal}
-use Rattle.rlp_print.specs.Display.{Display, Fields, a_bit, a_content, a_list, a_number, a_string, a_text, after_derived, an_object, bytes_as, end, field, field_if, in_order, one}
-use Rattle.rlp_print.specs.Value.{Entries, bytes, content, entry, by_form, number}
+use Rattle.rlp_print.specs.Display.{Display, Fields, a_bit, a_list, a_number, a_string, a_text, after_derived, an_object, bytes_as, end, field, field_if, in_order, number_as, one}
+use Rattle.rlp_print.specs.Value.{Entries, bytes, content, entry, by_form}
 use Rattle.rlp_print.specs.Types.{and_type, last_type, no_type_entries, type_entries}
 use Rattle.rlp_print.specs.declared.{sink.NumberKind.TheVariants.Place, sink.BytesKind.TheVariants.Any, sink.BytesKind.TheVariants.Sparse}
-
--- a place, counted from 0
-abbrev pub place_display : Display ℕ
-place_display = a_content (number Place) (λ m n is. cc)
 
 -- the place of a field, if the fault is in one; the name of an item; and the fault
 abbrev pub fault_fields : Fields (Option ℕ × (List ℕ × List ℕ))
 fault_fields =
-    field_if (codes "field") (codes "field") place_display (
+    field_if (codes "field") (codes "field") (number_as Place) (
     field (codes "name") (codes "name") a_text (one (codes "fault") (codes "fault") a_text))
 
 -- an object with the one member `error`

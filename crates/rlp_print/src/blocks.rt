@@ -70,7 +70,7 @@ impl ShowFields for Header {
             "hash" "hash" &hash;
             "parent_hash" "parentHash" &self.parent_hash;
             "ommers_hash" "sha3Uncles" &self.ommers_hash;
-            "beneficiary" "miner" &self.beneficiary;
+            "beneficiary" "miner" &self.beneficiary.0;
             "state_root" "stateRoot" &self.state_root;
             "transactions_root" "transactionsRoot" &self.transactions_root;
             "receipts_root" "receiptsRoot" &self.receipts_root;
@@ -80,7 +80,7 @@ impl ShowFields for Header {
             "gas_limit" "gasLimit" &self.gas_limit;
             "gas_used" "gasUsed" &self.gas_used;
             "timestamp" "timestamp" &self.timestamp;
-            "extra_data" "extraData" &self.extra_data;
+            "extra_data" "extraData" bytes(self.extra_data.as_slice());
             "mix_hash" "mixHash" &self.mix_hash;
             "nonce" "nonce" &self.nonce;
             &self.since_london

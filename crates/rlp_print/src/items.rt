@@ -8,11 +8,11 @@ ghost use Rattle.rlp.specs.Views.View.{item_views, view_of};
 ghost use Rattle.rlp.specs.Codec.{raw_item};
 ghost use Rattle.rlp_trie.specs.{BranchChild.place_item, Child.child_item};
 ghost use Rattle.rlp_print.specs.Display.{seen_as};
-ghost use Rattle.rlp_print.specs.Items.{branch_entries, item_value, kept_value, key_of, kind_of, pair_entries, path_fields, raw_item_display, value_by, view_items, kept_display, node_display, node_fields_display, node_hash, node_parts};
+ghost use Rattle.rlp_print.specs.Items.{branch_entries, item_value, kept_value, key_of, kind_of, pair_entries, path_fields, raw_item_display, value_by, view_items, kept_display, node_display, node_hash, node_parts};
 ghost use Rattle.rlp_print.specs.Value.{after, array, object, values_of};
 
 use crate::show::{
-    ByForm, Show, ShowFields, Slice, field, fields, give_fields, inside, place_in, show_fields,
+    ByForm, Items, Show, ShowFields, field, fields, give_fields, inside, place_in, show_fields,
 };
 use crate::sink::{Bracket, BytesKind, Shown, Sink, bytes};
 use crate::texts::put_digits;
@@ -252,38 +252,35 @@ impl Show for BranchChild {
     }
 }
 
-/// The kind of the node, and its fields without the hash.
-impl ShowFields for TrieNode {
-    ghost fields = { seen_as node_parts node_fields_display };
-
-    fn give<S: Sink>(&self, alloc: Global, name: &str, sink: &mut S) -> Result<(), AllocError> {
-        match self {
-            TrieNode::Empty => field!("node" "node" Shown::Text("empty")).give(alloc, name, sink),
-            TrieNode::Leaf(leaf) => give_fields!(alloc, name, sink;
-                "node" "node" Shown::Text("leaf");
-                PathFields(leaf.path.bytes.as_slice());
-                "value" "value" &leaf.value
-            ),
-            TrieNode::Extension(extension) => give_fields!(alloc, name, sink;
-                "node" "node" Shown::Text("extension");
-                PathFields(extension.path.bytes.as_slice());
-                "child" "child" &extension.child
-            ),
-            TrieNode::Branch(branch) => give_fields!(alloc, name, sink;
-                "node" "node" Shown::Text("branch");
-                "children" "children" Slice(branch.children.as_slice());
-                "value" "value" &branch.value
-            ),
-        }
-    }
-}
-
-/// The hash of the node, and its fields.
+/// The hash of the node, its kind and its fields.
 impl Show for TrieNode {
     ghost display = { seen_as (λ n. (node_hash n, node_parts n)) node_display };
 
     fn show<S: Sink>(&self, alloc: Global, name: &str, sink: &mut S) -> Result<(), AllocError> {
         let hash = self.hash(alloc)?;
-        show_fields!(alloc, name, sink; "hash" "hash" &hash; self)
+        match self {
+            TrieNode::Empty => show_fields!(alloc, name, sink;
+                "hash" "hash" &hash;
+                "node" "node" Shown::Text("empty")
+            ),
+            TrieNode::Leaf(leaf) => show_fields!(alloc, name, sink;
+                "hash" "hash" &hash;
+                "node" "node" Shown::Text("leaf");
+                PathFields(leaf.path.bytes.as_slice());
+                "value" "value" bytes(leaf.value.as_slice())
+            ),
+            TrieNode::Extension(extension) => show_fields!(alloc, name, sink;
+                "hash" "hash" &hash;
+                "node" "node" Shown::Text("extension");
+                PathFields(extension.path.bytes.as_slice());
+                "child" "child" &extension.child
+            ),
+            TrieNode::Branch(branch) => show_fields!(alloc, name, sink;
+                "hash" "hash" &hash;
+                "node" "node" Shown::Text("branch");
+                "children" "children" Items(&branch.children);
+                "value" "value" bytes(branch.value.as_slice())
+            ),
+        }
     }
 }

@@ -94,7 +94,7 @@ impl Show for NewPooledTransactionHashes {
 
     fn show<S: Sink>(&self, alloc: Global, name: &str, sink: &mut S) -> Result<(), AllocError> {
         show_fields!(alloc, name, sink;
-            "types" "types" &self.types;
+            "types" "types" bytes(self.types.as_slice());
             "sizes" "sizes" Items(&self.sizes);
             "hashes" "hashes" Items(&self.hashes);
         )
@@ -145,7 +145,7 @@ impl Show for GetBlockHeaders {
             "start_block" "startBlock" &self.start_block;
             "limit" "limit" &self.limit;
             "skip" "skip" &self.skip;
-            "reverse" "reverse" &self.reverse;
+            "reverse" "reverse" number(self.reverse as u64);
         )
     }
 }
@@ -245,7 +245,7 @@ impl ShowFields for Further<'_> {
     fn give<S: Sink>(&self, alloc: Global, name: &str, sink: &mut S) -> Result<(), AllocError> {
         match self.0.as_slice() {
             [] => Ok(()),
-            [_, ..] => (field!("further" "further" Items(self.0)), ()).give(alloc, name, sink),
+            [_, ..] => (field!("further" "further" Items(self.0.as_slice())), ()).give(alloc, name, sink),
         }
     }
 }
@@ -256,7 +256,7 @@ impl Show for Hello {
     fn show<S: Sink>(&self, alloc: Global, name: &str, sink: &mut S) -> Result<(), AllocError> {
         show_fields!(alloc, name, sink;
             "protocol_version" "protocolVersion" &self.protocol_version;
-            "client_id" "clientId" &self.client_id;
+            "client_id" "clientId" bytes(self.client_id.as_slice());
             "capabilities" "capabilities" Items(&self.capabilities);
             "listen_port" "listenPort" &self.listen_port;
             "node_id" "nodeId" &self.node_id.0;

@@ -1,6 +1,6 @@
 //! Node records.
 
-ghost use Rattle.std.specs.Prelude.{◌≡◌, bytes_eq};
+ghost use Rattle.std.specs.Prelude.{◌≡◌};
 ghost use Rattle.rlp.specs.Values.RawItem.{raw_item_of};
 ghost use Rattle.rlp_node_record.specs.NodeFields.{node_fields, pair_fields};
 ghost use Rattle.rlp_print.specs.Display.{seen_as};
@@ -10,21 +10,14 @@ ghost use Rattle.rlp_print.specs.NodeRecords.{is_ip, is_port_key, key_value_disp
 use crate::show::{Items, Show, show_fields};
 use crate::sink::{BytesKind, Shown, Sink, bytes, number};
 use rlp::{RawItem, Rlp};
-use rlp_node_record::{NodeFields, NodePair, NodeRecord};
+use rlp_node_record::{NodeFields, NodePair};
 use std::alloc::{AllocError, Global};
-
-/// Returns whether a key is this one.
-fn is_key(key: &[u8], name: &str) -> bool
-    ensures { result ≡ bytes_eq key.now name.now }
-{
-    key == name.as_bytes()
-}
 
 /// Returns whether the value of a key is a port.
 fn is_port_key(key: &[u8]) -> bool
     ensures { result ≡ is_port_key key.now }
 {
-    (is_key(key, "tcp") || is_key(key, "udp")) || (is_key(key, "tcp6") || is_key(key, "udp6"))
+    (key == b"tcp" || key == b"udp") || (key == b"tcp6" || key == b"udp6")
 }
 
 /// Returns a port, or the bytes if they are none.
@@ -44,14 +37,14 @@ fn port_in(port: &[u8]) -> Shown<'_>
 fn is_ip(key: &[u8], bytes: &[u8]) -> bool
     ensures { result ≡ is_ip key.now bytes.now }
 {
-    (is_key(key, "ip") && bytes.len() == 4) || (is_key(key, "ip6") && bytes.len() == 16)
+    (key == b"ip" && bytes.len() == 4) || (key == b"ip6" && bytes.len() == 16)
 }
 
 /// Returns what is shown of the string at a key.
 fn string_at<'a>(key: &[u8], string: &'a [u8]) -> Shown<'a>
     ensures { content_of result ≡ string_content key.now string.now }
 {
-    if is_key(key, "id") {
+    if key == b"id" {
         return Shown::Bytes(BytesKind::Word, string);
     }
     if is_ip(key, string) {
@@ -103,17 +96,9 @@ impl Show for NodeFields {
 
     fn show<S: Sink>(&self, alloc: Global, name: &str, sink: &mut S) -> Result<(), AllocError> {
         show_fields!(alloc, name, sink;
-            "signature" "signature" &self.signature;
+            "signature" "signature" bytes(self.signature.as_slice());
             "sequence" "sequence" &self.sequence;
             "pairs" "pairs" Items(&self.pairs)
         )
-    }
-}
-
-impl Show for NodeRecord {
-    ghost display = { seen_as node_fields.reading.seen node_fields_display };
-
-    fn show<S: Sink>(&self, alloc: Global, name: &str, sink: &mut S) -> Result<(), AllocError> {
-        self.fields().show(alloc, name, sink)
     }
 }

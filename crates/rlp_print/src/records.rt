@@ -1,11 +1,11 @@
 //! Numbers and strings, withdrawals, accounts, logs, receipts, and faults of records.
 
-ghost use Rattle.std.specs.Prelude.{map, option_map};
-ghost use Rattle.std.specs.Vec.{vec_items};
+ghost use Rattle.std.specs.Prelude.{option_map};
 ghost use Rattle.rlp.specs.Codec.{uint};
 ghost use Rattle.rlp_headers.specs.{Account.account, Log.log, Receipt.receipt, ReceiptStatus.receipt_status, TypedReceipt.typed_receipt, Withdrawal.withdrawal, Withdrawal.withdrawals};
-ghost use Rattle.rlp_print.specs.Display.{a_bit, a_list, a_number, a_string, seen_as};
-ghost use Rattle.rlp_print.specs.Records.{account_display, fault_display, fault_fields, log_display, place_display, receipt_display, status_fields, typed_receipt_display, withdrawal_display};
+ghost use Rattle.rlp_print.specs.Display.{a_list, a_number, a_string, number_as, seen_as};
+ghost use Rattle.rlp_print.specs.declared.sink.NumberKind.TheVariants.{Place};
+ghost use Rattle.rlp_print.specs.Records.{account_display, fault_display, fault_fields, log_display, receipt_display, status_fields, typed_receipt_display, withdrawal_display};
 
 use crate::show::{
     ByForm, Items, Object, Show, ShowFields, field, fields, give_fields, show_fields,
@@ -13,7 +13,7 @@ use crate::show::{
 use crate::sink::{BytesKind, NumberKind, Shown, Sink, bytes, number};
 use rlp::Uint;
 use rlp_headers::{Account, Log, Receipt, ReceiptStatus, TypedReceipt, Withdrawal, Withdrawals};
-use rlp_records::{Address, Hash};
+use rlp_records::Hash;
 use std::alloc::{AllocError, Global};
 
 impl Show for u64 {
@@ -24,28 +24,11 @@ impl Show for u64 {
     }
 }
 
-/// 0 or 1.
-impl Show for bool {
-    ghost display = { seen_as (λ b. b) a_bit };
-
-    fn show<S: Sink>(&self, _alloc: Global, name: &str, sink: &mut S) -> Result<(), AllocError> {
-        sink.put(name, number(*self as u64))
-    }
-}
-
 impl Show for Uint<32> {
     ghost display = { seen_as (uint 32).reading.seen a_number };
 
     fn show<S: Sink>(&self, _alloc: Global, name: &str, sink: &mut S) -> Result<(), AllocError> {
         sink.put(name, Shown::Number(NumberKind::Decimal, *self))
-    }
-}
-
-impl Show for Vec<u8> {
-    ghost display = { seen_as vec_items a_string };
-
-    fn show<S: Sink>(&self, _alloc: Global, name: &str, sink: &mut S) -> Result<(), AllocError> {
-        sink.put(name, bytes(self.as_slice()))
     }
 }
 
@@ -65,14 +48,6 @@ impl Show for Hash {
     }
 }
 
-impl Show for Address {
-    ghost display = { seen_as (λ a. a.0) a_string };
-
-    fn show<S: Sink>(&self, _alloc: Global, name: &str, sink: &mut S) -> Result<(), AllocError> {
-        sink.put(name, bytes(&self.0))
-    }
-}
-
 impl Show for Withdrawal {
     ghost display = { seen_as withdrawal.reading.seen withdrawal_display };
 
@@ -80,7 +55,7 @@ impl Show for Withdrawal {
         show_fields!(alloc, name, sink;
             "index" "index" &self.index;
             "validator_index" "validatorIndex" &self.validator_index;
-            "address" "address" &self.address;
+            "address" "address" &self.address.0;
             "amount" "amount" &self.amount;
         )
     }
@@ -112,9 +87,9 @@ impl Show for Log {
 
     fn show<S: Sink>(&self, alloc: Global, name: &str, sink: &mut S) -> Result<(), AllocError> {
         show_fields!(alloc, name, sink;
-            "address" "address" &self.address;
+            "address" "address" &self.address.0;
             "topics" "topics" Items(&self.topics);
-            "data" "data" &self.data;
+            "data" "data" bytes(self.data.as_slice());
         )
     }
 }
@@ -173,7 +148,7 @@ impl Show for TypedReceipt {
 pub struct Place(pub u64);
 
 impl Show for Place {
-    ghost display = { seen_as (λ p. p.0) place_display };
+    ghost display = { seen_as (λ p. p.0) (number_as Place) };
 
     fn show<S: Sink>(&self, _alloc: Global, name: &str, sink: &mut S) -> Result<(), AllocError> {
         sink.put(name, Shown::Number(NumberKind::Place, Uint::from(self.0)))

@@ -4,7 +4,7 @@ ghost use Rattle.std.specs.Prelude.{◌≡◌, ◌==◌, ◌++◌, string_bytes,
 ghost use Rattle.std.specs.Fmt.{digit_glyph};
 ghost use Rattle.std.specs.Int.Digits.{number_from_digits};
 ghost use Rattle.std.specs.List.{list_all};
-ghost use Rattle.rlp_print.specs.Lines.{bytes_text, digits_text, hex_text, ip_text, is_word, meaning_text, path_text, said_by, sparse_text, v_text, word_text};
+ghost use Rattle.rlp_print.specs.Lines.{bytes_text, digits_text, hex_text, ip_text, is_word, is_word_byte, meaning_text, path_text, said_by, sparse_text, v_text, word_text};
 
 use rlp::Uint;
 use rlp_lines::push_bytes;
@@ -144,15 +144,21 @@ pub(crate) fn put_path(path: &[u8], out: &mut String) -> Result<(), AllocError>
     out.push_str("])")
 }
 
-/// Returns whether bytes are lower-case letters and digits, of which the first is a letter.
+/// Returns whether all bytes are lower-case letters and digits.
+fn are_word_bytes(bytes: &[u8]) -> bool
+    ensures { result ≡ list_all is_word_byte bytes.now }
+{
+    bytes
+        .iter()
+        .all(|byte| byte.is_ascii_lowercase() || byte.is_ascii_digit())
+}
+
+/// Returns whether bytes are a word, which begins with a letter.
 fn is_word(bytes: &[u8]) -> bool
     ensures { result ≡ is_word bytes.now }
 {
-    let are_word = bytes
-        .iter()
-        .all(|byte| byte.is_ascii_lowercase() || byte.is_ascii_digit());
     match bytes {
-        [first, ..] => first.is_ascii_lowercase() && are_word,
+        [first, ..] => first.is_ascii_lowercase() && are_word_bytes(bytes),
         [] => false,
     }
 }

@@ -3,13 +3,13 @@
 
 ghost use Rattle.std.specs.Int.Digits.{number_from_digits};
 ghost use Rattle.std.specs.Prelude.{◌≡◌, ◌==◌, IfOk, option_map};
-ghost use Rattle.rlp_transactions.specs.{Access.access_list, Access.access_list_item, AccessListTransaction.access_list_transaction_fields, AnyTransaction.any_transaction, Authorization.authorization_fields};
+ghost use Rattle.rlp_transactions.specs.{Access.access_list_item, AccessListTransaction.access_list_transaction_fields, AnyTransaction.any_transaction, Authorization.authorization_fields};
 ghost use Rattle.rlp_transactions.specs.{Authorization.signed_authorization, Blob.blob, BlobTransaction.blob_transaction_fields, BlobTransaction.signed_blob_transaction, Recipient.recipient};
 ghost use Rattle.rlp_transactions.specs.{BlobWrapper.with_cell_proofs, BlobWrapper.with_proofs, FeeMarketTransaction.fee_market_transaction_fields, Transaction.transaction};
 ghost use Rattle.rlp_transactions.specs.{LegacyTransaction.legacy_transaction_fields, LegacyTransaction.signed_legacy_transaction, SetCodeTransaction.set_code_transaction_fields};
 ghost use Rattle.rlp_transactions.specs.{UnsignedLegacyTransaction.unsigned_legacy_transaction, UnsignedTransaction.unsigned_transaction};
 ghost use Rattle.rlp_print.specs.Display.{bytes_as, seen_as};
-ghost use Rattle.rlp_print.specs.Transactions.{access_list_display, access_list_item_display, access_list_transaction_display, after_type, any_transaction_display, authorization_display, blob_display, blob_hash, by_type_display, fee_market_display, legacy_display, legacy_signing_hash};
+ghost use Rattle.rlp_print.specs.Transactions.{access_list_item_display, access_list_transaction_display, after_type, any_transaction_display, authorization_display, blob_display, blob_hash, fee_market_display, legacy_display, legacy_signing_hash};
 ghost use Rattle.rlp_print.specs.Transactions.{payload_display, payload_hash, recipient_display, said_display, said_of, said_seen, set_code_display, signed_authorization_display, signed_legacy_display, signing_hash, transaction_display, transaction_hash};
 ghost use Rattle.rlp_print.specs.Transactions.{typed_fields, typed_seen, unsigned_display, unsigned_legacy_display, v_content, v_seen, with_cell_proofs_display, with_proofs_display};
 ghost use Rattle.rlp_print.specs.Value.{content_of};
@@ -22,7 +22,7 @@ use keccak::keccak256;
 use rlp::Uint;
 use rlp_records::Hash;
 use rlp_transactions::{
-    AccessList, AccessListItem, AccessListTransaction, AnyTransaction, Authorization, Blob,
+    AccessListItem, AccessListTransaction, AnyTransaction, Authorization, Blob,
     BlobTransaction, BlobTransactionWithCellProofs, BlobTransactionWithProofs, Eip155,
     FeeMarketTransaction, LegacyTransaction, Recipient, SetCodeTransaction, Signed,
     SignedAuthorization, SignedLegacyTransaction, Tagged, Transaction, TypedTransaction,
@@ -46,17 +46,9 @@ impl Show for AccessListItem {
 
     fn show<S: Sink>(&self, alloc: Global, name: &str, sink: &mut S) -> Result<(), AllocError> {
         show_fields!(alloc, name, sink;
-            "address" "address" &self.address;
+            "address" "address" &self.address.0;
             "storage_keys" "storageKeys" Items(&self.storage_keys);
         )
-    }
-}
-
-impl Show for AccessList {
-    ghost display = { seen_as access_list.reading.seen access_list_display };
-
-    fn show<S: Sink>(&self, alloc: Global, name: &str, sink: &mut S) -> Result<(), AllocError> {
-        Items(&self.0).show(alloc, name, sink)
     }
 }
 
@@ -70,7 +62,7 @@ impl ShowFields for LegacyTransaction {
             "gas_limit" "gas" &self.gas_limit;
             "to" "to" &self.to;
             "value" "value" &self.value;
-            "data" "input" &self.data;
+            "data" "input" bytes(self.data.as_slice());
         )
     }
 }
@@ -87,8 +79,8 @@ impl ShowFields for AccessListTransaction {
             "gas_limit" "gas" &self.gas_limit;
             "to" "to" &self.to;
             "value" "value" &self.value;
-            "data" "input" &self.data;
-            "access_list" "accessList" &self.access_list;
+            "data" "input" bytes(self.data.as_slice());
+            "access_list" "accessList" Items(&self.access_list.0);
         )
     }
 }
@@ -105,8 +97,8 @@ impl ShowFields for FeeMarketTransaction {
             "gas_limit" "gas" &self.gas_limit;
             "to" "to" &self.to;
             "value" "value" &self.value;
-            "data" "input" &self.data;
-            "access_list" "accessList" &self.access_list;
+            "data" "input" bytes(self.data.as_slice());
+            "access_list" "accessList" Items(&self.access_list.0);
         )
     }
 }
@@ -121,10 +113,10 @@ impl ShowFields for BlobTransaction {
             "max_priority_fee_per_gas" "maxPriorityFeePerGas" &self.max_priority_fee_per_gas;
             "max_fee_per_gas" "maxFeePerGas" &self.max_fee_per_gas;
             "gas_limit" "gas" &self.gas_limit;
-            "to" "to" &self.to;
+            "to" "to" &self.to.0;
             "value" "value" &self.value;
-            "data" "input" &self.data;
-            "access_list" "accessList" &self.access_list;
+            "data" "input" bytes(self.data.as_slice());
+            "access_list" "accessList" Items(&self.access_list.0);
             "max_fee_per_blob_gas" "maxFeePerBlobGas" &self.max_fee_per_blob_gas;
             "blob_versioned_hashes" "blobVersionedHashes" Items(&self.blob_versioned_hashes);
         )
@@ -137,7 +129,7 @@ impl ShowFields for Authorization {
     fn give<S: Sink>(&self, alloc: Global, name: &str, sink: &mut S) -> Result<(), AllocError> {
         give_fields!(alloc, name, sink;
             "chain_id" "chainId" &self.chain_id;
-            "address" "address" &self.address;
+            "address" "address" &self.address.0;
             "nonce" "nonce" &self.nonce;
         )
     }
@@ -153,10 +145,10 @@ impl ShowFields for SetCodeTransaction {
             "max_priority_fee_per_gas" "maxPriorityFeePerGas" &self.max_priority_fee_per_gas;
             "max_fee_per_gas" "maxFeePerGas" &self.max_fee_per_gas;
             "gas_limit" "gas" &self.gas_limit;
-            "destination" "to" &self.destination;
+            "destination" "to" &self.destination.0;
             "value" "value" &self.value;
-            "data" "input" &self.data;
-            "access_list" "accessList" &self.access_list;
+            "data" "input" bytes(self.data.as_slice());
+            "access_list" "accessList" Items(&self.access_list.0);
             "authorization_list" "authorizationList" Items(&self.authorization_list);
         )
     }
@@ -180,8 +172,8 @@ impl<T: TypedTransaction + ShowFields> ShowFields for Signed<T, bool> {
         give_fields!(alloc, name, sink;
             "type" "type" Shown::TypeByte(T::TAG);
             &self.payload;
-            "y_parity" "yParity" &self.v;
-            ByForm((), field!("v" "v" &self.v));
+            "y_parity" "yParity" number(self.v as u64);
+            ByForm((), field!("v" "v" number(self.v as u64)));
             "r" "r" Shown::Number(NumberKind::Quantity, self.r);
             "s" "s" Shown::Number(NumberKind::Quantity, self.s);
             "signing_hash" "signingHash" &hash
@@ -211,7 +203,7 @@ impl ShowFields for Eip155 {
     fn give<S: Sink>(&self, alloc: Global, name: &str, sink: &mut S) -> Result<(), AllocError> {
         give_fields!(alloc, name, sink;
             "chain_id" "chainId" ? &self.chain_id;
-            "y_parity" "yParity" &self.y_parity
+            "y_parity" "yParity" number(self.y_parity as u64)
         )
     }
 }
@@ -297,21 +289,6 @@ impl ShowFields for Transaction {
     }
 }
 
-/// The fields without the hash.
-impl ShowFields for AnyTransaction {
-    ghost fields = { seen_as any_transaction.reading.seen by_type_display };
-
-    fn give<S: Sink>(&self, alloc: Global, name: &str, sink: &mut S) -> Result<(), AllocError> {
-        match self {
-            AnyTransaction::Known(tx) => tx.give(alloc, name, sink),
-            AnyTransaction::Other(tx) => give_fields!(alloc, name, sink;
-                "type" "type" Shown::TypeByte(tx.transaction_type());
-                "payload" "payload" Shown::Bytes(BytesKind::Payload, tx.payload())
-            ),
-        }
-    }
-}
-
 /// Returns the hash of a transaction.
 fn hash_of(alloc: Global, transaction: &AnyTransaction) -> Result<Hash, AllocError>
     ensures { IfOk result
@@ -326,7 +303,14 @@ impl Show for AnyTransaction {
 
     fn show<S: Sink>(&self, alloc: Global, name: &str, sink: &mut S) -> Result<(), AllocError> {
         let hash = hash_of(alloc, self)?;
-        show_fields!(alloc, name, sink; "hash" "hash" &hash; self)
+        match self {
+            AnyTransaction::Known(tx) => show_fields!(alloc, name, sink; "hash" "hash" &hash; tx),
+            AnyTransaction::Other(tx) => show_fields!(alloc, name, sink;
+                "hash" "hash" &hash;
+                "type" "type" Shown::TypeByte(tx.transaction_type());
+                "payload" "payload" Shown::Bytes(BytesKind::Payload, tx.payload())
+            ),
+        }
     }
 }
 
