@@ -13,7 +13,6 @@ pub mod Writing
 -- the same rules in smaller sets, passed on from `rlp_reading` and `rlp_write`
 pub mod Growth
 pub mod Filling
-
 -- lemmas for the laws of traits and for authors of types, passed on from the crates below
 pub use Rattle.rlp_reading.proofs.Lemmas
 -- the proofs of the laws of codecs, and what follows from them

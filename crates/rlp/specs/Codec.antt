@@ -54,11 +54,11 @@ codec_of Fits item reading laws = lawful (form_of Fits item reading) laws
 
 -- ---- the provided types
 
--- A type that is written as one string; `read` is what a string gives.
-abbrev pub string_type : {A M : Type 0} (Fits : A → Type 0) (bytes : A → List ℕ) (seen : A → M) (read : List ℕ → Result M Fault) (takes_memory : Bool)
-    → ReadsStrings Fits bytes seen read → Codec A
-string_type Fits bytes seen read takes_memory law =
-    lawful (form.string_type Fits bytes seen read takes_memory) (string_lawful Fits bytes seen read takes_memory law)
+-- A type that is written as one string; `written` is the bytes of a value, by what contracts see of the value, and `read` is what a string gives.
+abbrev pub string_type : {A M : Type 0} (Fits : A → Type 0) (bytes : A → List ℕ) (seen : A → M) (written : M → List ℕ) (read : List ℕ → Result M Fault)
+    (takes_memory : Bool) → ReadsStrings Fits bytes seen written read → Codec A
+string_type Fits bytes seen written read takes_memory law =
+    lawful (form.string_type Fits bytes seen written read takes_memory) (string_lawful Fits bytes seen written read takes_memory law)
 
 -- numbers of at most `width` bytes
 abbrev pub number : ℕ → Codec ℕ

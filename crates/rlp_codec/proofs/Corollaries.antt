@@ -12,8 +12,8 @@ use Rattle.rlp_reading.specs.Values.RoundTrip.{AlwaysReadsBack, AlwaysReadsStric
 use Rattle.rlp_reading.specs.Values.RoundTrip as words
 use Rattle.rlp_reading.specs.Values.ValueReading.{GivesValue}
 use Rattle.rlp_reading.specs.Views.View.{View, item_at, strict_view_of, view_of}
-use Rattle.std.proofs.lemmas.List.Elements.{All-from_recursion, recursion_from_All}
-use Rattle.rlp_codec.proofs.ListLaws.{each_told, item_back, items_sized, list_back, list_type_only}
+use Rattle.std.proofs.lemmas.List.Elements.{recursion_from_All}
+use Rattle.rlp_codec.proofs.ListLaws.{each_told, item_back, items_sized, list_back, list_type_only, seen_alike}
 use Rattle.rlp_reading.specs.Values.ListReading.{GivesEach, GivesList}
 use Rattle.rlp_reading.proofs.Lemmas.ListRoundTrips.{list_item_reads_back}
 use Rattle.rlp_codec.specs.Form.{Form, Fault, Faults, Gives, Reading, and_then, fault_of, list_reading, reading_at, seen_fault}
@@ -47,7 +47,7 @@ given_at r x (Err e) = (λ none. absurd none, λ is. absurd (let no : ⊥ = cc i
 
 module _ {A : Type 0} (c : Form A) where
   alike_by : IsSeen c → (v : View) (x : A) → c.Fits x → Gives c.reading v x → (w : A) → Gives c.reading v w → c.Fits w × AreAlike c.item w x
-  alike_by law v x fit given w also = law.told x w (one_value c.reading v x w given also) fit
+  alike_by law v x fit given w also = seen_alike c law x w (one_value c.reading v x w given also) fit
 
   -- ---- the law of `RoundTrip`
 
@@ -134,9 +134,7 @@ module _ {A : Type 0} (c : Form A) where
       → Gives (list_reading (λ xs. xs) c.reading) (view_of b) ws
       → All c.Fits ws × (map c.item ws ≡ map c.item vs)
   alike_lists law b vs ws fits all begins given =
-      let same : map c.reading.seen vs ≡ map c.reading.seen ws = same_value _ _ (sym (lists_back law b vs fits all begins) ∙ given) in
-      let h = each_told c law.told vs ws same (recursion_from_All c.Fits vs all) in
-      (All-from_recursion c.Fits ws h.0, h.1)
+      each_told c law.told vs ws (same_value _ _ (sym (lists_back law b vs fits all begins) ∙ given)) all
 
   -- from the encoding of a list of values, values with the same items are read, each in the same place
   pub list_alike : {B : Type 0} (values : B → List A) → IsReadBack c → (b : List ℕ) (vs : List A) (r : Result B DecoderError) → length b < 2 ^ 64
@@ -201,9 +199,7 @@ module _ {A : Type 0} (c : Form A) where
       → IfOk r (λ w. All c.Fits (values w) × (map c.item (values w) ≡ map c.item vs))
   strict_list_alike values law b vs (Err e) fits all whole given = tt
   strict_list_alike values law b vs (Ok w) fits all whole given =
-      let same : map c.reading.seen vs ≡ map c.reading.seen (values w) = same_value _ _ (sym (strict_lists law b vs fits all whole) ∙ given) in
-      let h = each_told c law.told vs (values w) same (recursion_from_All c.Fits vs all) in
-      (All-from_recursion c.Fits (values w) h.0, h.1)
+      each_told c law.told vs (values w) (same_value _ _ (sym (strict_lists law b vs fits all whole) ∙ given)) all
 
   pub strict_list_memory : {B : Type 0} → IsLawful c → (b : List ℕ) (vs : List A) (r : Result B DecoderError) → length b < 2 ^ 64
       → All c.Fits vs → b ≡ encoding (list_of (map c.item vs))

@@ -1,7 +1,5 @@
 -- FieldsForm of one type, one by one as `each` has them, and together as the values of an array.
-use Rattle.std.proofs.Common.{◌≡◌, ℕ, zero, suc, List, [], ◌∷◌, ◌++◌, length, map, get_or, refl, sym, ap, ◌∙◌, subst, arith, append_assoc, length-append}
-use Rattle.std.specs.List.{All, AllByRecursion}
-use Rattle.std.proofs.lemmas.List.Elements.{recursion_from_All}
+use Rattle.std.proofs.Common.{◌≡◌, ℕ, zero, suc, List, [], ◌∷◌, ◌++◌, length, map, get_or, refl, sym, ap, ◌∙◌, arith, append_assoc, length-append}
 use Rattle.rlp_codec.specs.Form.{Form, FieldsForm, each}
 
 get_or-middle : {A : Type 0} (before after : List A) (x d : A) → get_or (before ++ x ∷ after) (length before) d ≡ x

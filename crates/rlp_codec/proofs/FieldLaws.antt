@@ -6,7 +6,7 @@ use Rattle.rlp_format.specs.Format.Encoding.{IsSized, encoding}
 use Rattle.rlp_format.specs.Format.Item.{Item}
 use Rattle.rlp_format.specs.Values.Value.{items_if}
 use Rattle.rlp_reading.specs.Views.View.{View}
-use Rattle.rlp_codec.proofs.ListLaws.{not_faulty, goes_on, is_mapped, item_back, item_only}
+use Rattle.rlp_codec.proofs.ListLaws.{not_faulty, goes_on, is_mapped, item_back, item_only, options_fit}
 use Rattle.rlp_codec.specs.Form.{Answer, Form, Fault, FieldsForm, Taken, and_then, each, end, field, group, map_fault, map_value, one, optional, optional_group, take_both, take_if, take_item}
 use Rattle.rlp_codec.specs.Laws.{AreLawful, AreSeen, GivesOnly, IsLawful, IsSeen, IsStrictPart, ReadsBack, TakesBack, TakesOnly, viewed, views_of}
 
@@ -52,7 +52,7 @@ pub end_only : {P : Type 0} → TakesOnly (end {P = P})
 end_only = record { only = λ p vs rest parts is. (tt, ap (λ t. t.1) (ok_same _ _ is)) }
 
 pub end_told : {P : Type 0} → AreSeen (end {P = P})
-end_told = record { told = λ p q same fit. (tt, refl) }
+end_told = record { fits = λ p q same fit. tt; written = λ p. refl }
 
 pub end_lawful : {P : Type 0} → AreLawful (end {P = P})
 end_lawful = record { told = end_told; back = end_back; exact = end_only }
@@ -84,7 +84,7 @@ module _ {A : Type 0} (c : Form A) where
   }
 
   pub one_told : IsSeen c → AreSeen (one c)
-  one_told law = record { told = λ x y same fit. let h = law.told x y same fit in (h.0, ap (λ i. i ∷ []) h.1) }
+  one_told law = record { fits = law.fits; written = λ x. ap (λ i. i ∷ []) (law.written x) }
 
   pub one_lawful : IsLawful c → AreLawful (one c)
   one_lawful law = record { told = one_told law.told; back = λ is_strict. one_back is_strict (law.back is_strict); exact = one_only law.exact }
@@ -150,10 +150,8 @@ module _ {A P : Type 0} (value : P → A) (f : FieldsForm A) (more : FieldsForm 
 
   pub group_told : AreSeen f → AreSeen more → AreSeen (group value f more)
   group_told law others = record {
-    told = λ p q same (fit, fits).
-        let h = law.told (value p) (value q) (ap (λ m. m.0) same) fit in
-        let hs = others.told p q (ap (λ m. m.1) same) fits in
-        ((h.0, hs.0), ap (λ is. is ++ more.items q) h.1 ∙ ap (λ is. f.items (value p) ++ is) hs.1);
+    fits = λ p q same (fit, fits). (law.fits (value p) (value q) (ap (λ m. m.0) same) fit, others.fits p q (ap (λ m. m.1) same) fits);
+    written = λ p. let mine = law.written (value p) in let next = others.written p in cc;
   }
 
   -- that the fields of the part are always the same number of items is proved by `refl`
@@ -234,15 +232,15 @@ module _ {A P : Type 0} (value : P → Option A) (f : FieldsForm A) where
   pub optional_group_only : TakesOnly f → TakesOnly (optional_group value f)
   optional_group_only law = record { only = λ p vs rest parts is. if_only law (value p) vs rest parts is }
 
-  if_told : AreSeen f → (o u : Option A) → option_map f.reading.seen o ≡ option_map f.reading.seen u → IfSome o f.Fits
-      → IfSome u f.Fits × (items_if f.items u ≡ items_if f.items o)
-  if_told law None None same fit = (tt, refl)
-  if_told law None (Some y) same fit = absurd (let no : ⊥ = cc in no)
-  if_told law (Some x) None same fit = absurd (let no : ⊥ = cc in no)
-  if_told law (Some x) (Some y) same fit = let one : f.reading.seen x ≡ f.reading.seen y = cc in law.told x y one fit
+  if_written : AreSeen f → (o : Option A) → items_if f.reading.items (option_map f.reading.seen o) ≡ items_if f.items o
+  if_written law None = refl
+  if_written law (Some x) = law.written x
 
   pub optional_group_told : AreSeen f → AreSeen (optional_group value f)
-  optional_group_told law = record { told = λ p q. if_told law (value p) (value q) }
+  optional_group_told law = record {
+    fits = λ p q. options_fit f.reading.seen f.Fits law.fits (value p) (value q);
+    written = λ p. if_written law (value p);
+  }
 
   -- that one of the fields is always present is proved by `refl`
   pub optional_group_lawful : f.reading.accepts 0 ≡ false → AreLawful f → AreLawful (optional_group value f)

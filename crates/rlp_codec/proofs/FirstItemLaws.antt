@@ -17,10 +17,11 @@ use Rattle.rlp_codec.proofs.ListLaws.{held_sized}
 use Rattle.rlp_codec.proofs.RawLaws.{frame_held, held_short}
 
 -- what the bytes of an item give: back what is written, and nothing else
-pub record ReadsItems {A M : Type 0} (Fits : A → Type 0) (item : A → Item) (seen : A → M) (read : List ℕ → Answer M Fault) : Type 0 where
+pub record ReadsItems {A M : Type 0} (Fits : A → Type 0) (item : A → Item) (seen : A → M) (written : M → Item) (read : List ℕ → Answer M Fault) : Type 0 where
   pub back : (x : A) → Fits x → IsSized (item x) → (read (encoding (item x))).result ≡ Ok (seen x)
   pub only : (b : List ℕ) (x : A) → AreBytes b → length b < 2 ^ 64 → (read b).result ≡ Ok (seen x) → Fits x × (b ≡ encoding (item x))
-  pub told : (x y : A) → seen x ≡ seen y → Fits x → Fits y × (item y ≡ item x)
+  pub fits : (x y : A) → seen x ≡ seen y → Fits x → Fits y
+  pub same : (x : A) → written (seen x) ≡ item x
 
 -- the bytes that a view holds are bytes
 held_bytes : (is_strict : Bool) (b f : List ℕ) → AreBytes b → Holds is_strict b f → AreBytes f
@@ -29,9 +30,9 @@ held_bytes false b f bytes (rest, is) =
     (front_bytes f rest (subst Bytes is (recursion_from_All (λ byte. byte < 2 ^ 8) b bytes)))
 held_bytes true b f bytes is = subst AreBytes is bytes
 
-module _ {A M : Type 0} (Fits : A → Type 0) (item : A → Item) (seen : A → M) (read : List ℕ → Answer M Fault) (takes_memory : Bool)
-    (law : ReadsItems Fits item seen read) where
-  pub items_back : (is_strict : Bool) → ReadsBack is_strict (item_type Fits item seen read takes_memory)
+module _ {A M : Type 0} (Fits : A → Type 0) (item : A → Item) (seen : A → M) (written : M → Item) (read : List ℕ → Answer M Fault) (takes_memory : Bool)
+    (law : ReadsItems Fits item seen written read) where
+  pub items_back : (is_strict : Bool) → ReadsBack is_strict (item_type Fits item seen written read takes_memory)
   items_back is_strict = record {
     back = λ b x fits fit holds.
         ap (λ r. and_then (seen_fault r) (λ f. (read f).result)) (view_frame-held (viewed is_strict b) (item x) fits holds)
@@ -46,8 +47,8 @@ module _ {A M : Type 0} (Fits : A → Type 0) (item : A → Item) (seen : A → 
       let h = law.only f x (held_bytes is_strict b f bytes holds) (held_short is_strict b f fits holds) is in
       (h.0, subst (Holds is_strict b) h.1 holds)
 
-  pub items_only : (is_strict : Bool) → GivesOnly is_strict (item_type Fits item seen read takes_memory)
+  pub items_only : (is_strict : Bool) → GivesOnly is_strict (item_type Fits item seen written read takes_memory)
   items_only is_strict = record { only = λ b x bytes fits is. only_by is_strict b x (view_frame (viewed is_strict b)) bytes fits refl is }
 
-  pub items_lawful : IsLawful (item_type Fits item seen read takes_memory)
-  items_lawful = record { told = record { told = law.told }; back = items_back; exact = items_only true }
+  pub items_lawful : IsLawful (item_type Fits item seen written read takes_memory)
+  items_lawful = record { told = record { fits = law.fits; written = law.same }; back = items_back; exact = items_only true }

@@ -9,7 +9,7 @@ use Rattle.rlp_format.specs.Format.Item.{Item}
 use Rattle.rlp_format.specs.Values.Value.{all_items}
 use Rattle.rlp_reading.proofs.Lemmas.Groups.{groups_counted, groups_right}
 use Rattle.rlp_reading.specs.Views.View.{View}
-use Rattle.rlp_codec.proofs.ListLaws.{goes_on, is_mapped}
+use Rattle.rlp_codec.proofs.ListLaws.{goes_on, is_mapped, lists_fit}
 use Rattle.rlp_codec.specs.Form.{Fault, FieldsForm, Taken, and_then, groups, map_value, take_each}
 use Rattle.rlp_codec.specs.Laws.{AreLawful, AreSeen, IsStrictPart, TakesBack, TakesOnly, viewed, views_of}
 use Rattle.rlp_codec.proofs.FieldLaws.{all_first, ok_same, views_append}
@@ -122,22 +122,14 @@ module _ {A P : Type 0} (values : P → List A) (f : FieldsForm A) (fixed : f.re
         let h = each_only law (length vs) vs rest (values p) parts is in (All-from_recursion f.Fits (values p) h.0, h.1);
   }
 
-  each_told : AreSeen f → (xs ys : List A) → map f.reading.seen xs ≡ map f.reading.seen ys → AllByRecursion f.Fits xs
-      → AllByRecursion f.Fits ys × (all_items f.items ys ≡ all_items f.items xs)
-  each_told law [] [] same all = (tt, refl)
-  each_told law [] (y ∷ ys) same all = absurd (let no : ⊥ = cc in no)
-  each_told law (x ∷ xs) [] same all = absurd (let no : ⊥ = cc in no)
-  each_told law (x ∷ xs) (y ∷ ys) same (fit, all) =
-      let head : f.reading.seen x ≡ f.reading.seen y = cc in
-      let tail : map f.reading.seen xs ≡ map f.reading.seen ys = cc in
-      let h = law.told x y head fit in
-      let hs = each_told law xs ys tail all in
-      ((h.0, hs.0), ap (λ is. is ++ all_items f.items ys) h.1 ∙ ap (λ is. f.items x ++ is) hs.1)
+  each_written : AreSeen f → (xs : List A) → all_items f.reading.items (map f.reading.seen xs) ≡ all_items f.items xs
+  each_written law [] = refl
+  each_written law (x ∷ xs) = let one = law.written x in let more = each_written law xs in cc
 
   pub groups_told : AreSeen f → AreSeen (groups values f)
   groups_told law = record {
-    told = λ p q same fit.
-        let h = each_told law (values p) (values q) same (recursion_from_All f.Fits (values p) fit) in (All-from_recursion f.Fits (values q) h.0, h.1);
+    fits = λ p q. lists_fit f.reading.seen f.Fits law.fits (values p) (values q);
+    written = λ p. each_written law (values p);
   }
 
   -- that each group is the same number of items, and not none, is proved by `refl`

@@ -19,14 +19,12 @@ module _ {A K : Type 0} (Fits : A → Type 0) (bytes : A → List ℕ) (kind : A
       let same : (k, d) ≡ (kind x, bytes x) = same_value _ _ (sym r ∙ given) in
       (is ∙ ap Ok (ap (λ m. m.0) same), ap (λ m. m.1) same)
 
-  pub kinds_read : HaveKinds → ReadsStrings Fits bytes (λ x. (kind x, bytes x)) (read_kind kind_of)
+  pub kinds_read : HaveKinds → ReadsStrings Fits bytes (λ x. (kind x, bytes x)) (λ m. m.1) (read_kind kind_of)
   kinds_read law = record {
     back = λ x fit short. ap (map_value (λ k. (k, bytes x))) ((law.of_kind x).0 fit);
     only = λ d x held short is.
         let h = only_by d x (kind_of d) refl is in
         ((law.of_kind x).1 (ap kind_of (sym h.1) ∙ h.0), h.1);
-    told = λ x y same fit.
-        let first : kind x ≡ kind y = ap (λ m. m.0) same in
-        let second : bytes x ≡ bytes y = ap (λ m. m.1) same in
-        ((law.of_kind y).1 (ap kind_of (sym second) ∙ (law.of_kind x).0 fit ∙ ap Ok first), sym second);
+    fits = λ x y same fit. (law.of_kind y).1 (ap kind_of (sym (ap (λ m. m.1) same)) ∙ (law.of_kind x).0 fit ∙ ap Ok (ap (λ m. m.0) same));
+    same = λ x. refl;
   }

@@ -1,7 +1,7 @@
 -- Types that are written as lists.
 use Rattle.std.proofs.Common.{◌≡◌, ℕ, ◌^◌, ◌<◌, Bool, true, false, List, [], ◌∷◌, ◌++◌, length, map, refl, sym, ap, ◌∙◌, subst}
 use Rattle.std.proofs.Common.{arith, Result, Ok, Err, Option, None, Some, option_map, IfSome, append-nil, append_assoc, length-append}
-use Rattle.std.specs.List.{AllByRecursion}
+use Rattle.std.specs.List.{All, AllByRecursion}
 use Rattle.std.proofs.lemmas.List.Elements.{All-from_recursion, recursion_from_All}
 use Rattle.std.proofs.lemmas.List.{map-append}
 use Rattle.std.proofs.lemmas.Simd.{map-map}
@@ -145,6 +145,33 @@ pub not_faulty : {A E F : Type 0} (f : E → F) (r : Result A E) (x : A) → map
 not_faulty f (Ok y) x is = let same : y ≡ x = cc in ap Ok same
 not_faulty f (Err e) x is = absurd (let no : ⊥ = cc in no)
 
+-- ---- values that contracts see alike
+
+-- values that contracts see alike are written alike
+pub same_written : {A M I : Type 0} (seen : A → M) (item : A → I) (of : M → I) → ((x : A) → of (seen x) ≡ item x) → (x y : A) → seen x ≡ seen y → item x ≡ item y
+same_written seen item of is x y same = sym (is x) ∙ ap of same ∙ is y
+
+-- if contracts see two values alike and one of the two fits, both fit and have the same item
+pub seen_alike : {A : Type 0} (c : Form A) → IsSeen c → (x y : A) → c.reading.seen x ≡ c.reading.seen y → c.Fits x → c.Fits y × (c.item y ≡ c.item x)
+seen_alike c law x y same fit = (law.fits x y same fit, same_written c.reading.seen c.item c.reading.item law.written y x (sym same))
+
+module _ {A M : Type 0} (seen : A → M) (Fits : A → Type 0) (law : (x y : A) → seen x ≡ seen y → Fits x → Fits y) where
+  -- if contracts see two options alike and one of the two fits, both fit
+  pub options_fit : (o u : Option A) → option_map seen o ≡ option_map seen u → IfSome o Fits → IfSome u Fits
+  options_fit o None same fit = tt
+  options_fit None (Some y) same fit = absurd (let no : ⊥ = cc in no)
+  options_fit (Some x) (Some y) same fit = law x y (let one : seen x ≡ seen y = cc in one) fit
+
+  each_fits : (xs ys : List A) → map seen xs ≡ map seen ys → AllByRecursion Fits xs → AllByRecursion Fits ys
+  each_fits xs [] same all = tt
+  each_fits [] (y ∷ ys) same all = absurd (let no : ⊥ = cc in no)
+  each_fits (x ∷ xs) (y ∷ ys) same (fit, all) =
+      (law x y (let head : seen x ≡ seen y = cc in head) fit, each_fits xs ys (let tail : map seen xs ≡ map seen ys = cc in tail) all)
+
+  -- if contracts see the values of two lists alike and the values of one fit, the values of both fit
+  pub lists_fit : (xs ys : List A) → map seen xs ≡ map seen ys → All Fits xs → All Fits ys
+  lists_fit xs ys same all = All-from_recursion Fits ys (each_fits xs ys same (recursion_from_All Fits xs all))
+
 -- ---- one item that is read
 
 module _ {A : Type 0} (c : Form A) where
@@ -209,16 +236,13 @@ module _ {A : Type 0} (c : Form A) where
         (h.0, h.1 b are);
   }
 
-  option_told_by : IsSeen c → (o u : Option A) → option_map c.reading.seen o ≡ option_map c.reading.seen u → IfSome o c.Fits
-      → IfSome u c.Fits × (option_item c.item u ≡ option_item c.item o)
-  option_told_by law None None same fit = (tt, refl)
-  option_told_by law None (Some y) same fit = absurd (let no : ⊥ = cc in no)
-  option_told_by law (Some x) None same fit = absurd (let no : ⊥ = cc in no)
-  option_told_by law (Some x) (Some y) same fit =
-      let one : seen x ≡ seen y = cc in let h = law.told x y one fit in (h.0, ap (λ i. list_of (i ∷ [])) h.1)
+  pub option_written : ((x : A) → c.reading.item (c.reading.seen x) ≡ c.item x) → (o : Option A)
+      → option_item c.reading.item (option_map c.reading.seen o) ≡ option_item c.item o
+  option_written written None = refl
+  option_written written (Some x) = ap (λ i. list_of (i ∷ [])) (written x)
 
   pub option_told : IsSeen c → IsSeen (option c)
-  option_told law = record { told = option_told_by law }
+  option_told law = record { fits = options_fit seen c.Fits law.fits; written = option_written law.written }
 
   pub option_read_back : IsReadBack c → IsReadBack (option c)
   option_read_back law = record { told = option_told law.told; back = option_back false law.back }
@@ -257,24 +281,20 @@ module _ {A : Type 0} (c : Form A) where
       let m = is_mapped (read_all n vs) (λ (ys : List c.reading.M). g.value ∷ ys) (map seen xs) g.then in
       each_more law n v vs xs part (λ ys is. each_only law n vs ys parts is) g.value m.value g.is m.is m.then
 
-  pub each_told : IsSeen c → (xs ys : List A) → map c.reading.seen xs ≡ map c.reading.seen ys → AllByRecursion c.Fits xs
-      → AllByRecursion c.Fits ys × (map c.item ys ≡ map c.item xs)
-  each_told law [] [] same all = (tt, refl)
-  each_told law [] (y ∷ ys) same all = absurd (let no : ⊥ = cc in no)
-  each_told law (x ∷ xs) [] same all = absurd (let no : ⊥ = cc in no)
-  each_told law (x ∷ xs) (y ∷ ys) same (fit, all) =
-      let head : seen x ≡ seen y = cc in
-      let tail : map seen xs ≡ map seen ys = cc in
-      let h = law.told x y head fit in
-      let hs = each_told law xs ys tail all in
-      ((h.0, hs.0), ap (λ i. i ∷ map c.item ys) h.1 ∙ ap (λ is. c.item x ∷ is) hs.1)
+  each_written : IsSeen c → (xs : List A) → map c.reading.item (map c.reading.seen xs) ≡ map c.item xs
+  each_written law [] = refl
+  each_written law (x ∷ xs) = let one = law.written x in let more = each_written law xs in cc
+
+  -- if contracts see the values of two lists alike and the values of one fit, the values of both fit and have the same items
+  pub each_told : IsSeen c → (xs ys : List A) → map c.reading.seen xs ≡ map c.reading.seen ys → All c.Fits xs → All c.Fits ys × (map c.item ys ≡ map c.item xs)
+  each_told law xs ys same all =
+      (lists_fit seen c.Fits law.fits xs ys same all, same_written (map seen) (map c.item) (map c.reading.item) (each_written law) ys xs (sym same))
 
   module _ {B : Type 0} (values : B → List A) where
     pub list_told : IsSeen c → IsSeen (list_type values c)
     list_told law = record {
-      told = λ x y same fit.
-          let h = each_told law (values x) (values y) same (recursion_from_All c.Fits (values x) fit) in
-          (All-from_recursion c.Fits (values y) h.0, ap list_of h.1);
+      fits = λ x y. lists_fit seen c.Fits law.fits (values x) (values y);
+      written = λ x. ap list_of (each_written law (values x));
     }
 
     pub list_back : (is_strict : Bool) → ReadsBack is_strict c → ReadsBack is_strict (list_type values c)
@@ -306,7 +326,7 @@ module _ {A : Type 0} (c : Form A) where
     newtype_only is_strict law = record { only = λ b x. law.only b (value x) }
 
     pub newtype_told : IsSeen c → IsSeen (newtype value c)
-    newtype_told law = record { told = λ x y. law.told (value x) (value y) }
+    newtype_told law = record { fits = λ x y. law.fits (value x) (value y); written = λ x. law.written (value x) }
 
     pub newtype_lawful : IsLawful c → IsLawful (newtype value c)
     newtype_lawful law = record { told = newtype_told law.told; back = λ is_strict. newtype_back is_strict (law.back is_strict); exact = newtype_only true law.exact }
@@ -318,7 +338,7 @@ module _ {A : Type 0} (c : Form A) where
     holding_only is_strict law = record { only = λ b x. law.only b (value x) }
 
     pub holding_told : IsSeen c → IsSeen (holding value c)
-    holding_told law = record { told = λ x y. law.told (value x) (value y) }
+    holding_told law = record { fits = λ x y. law.fits (value x) (value y); written = λ x. law.written (value x) }
 
     pub holding_read_back : IsReadBack c → IsReadBack (holding value c)
     holding_read_back law = record { told = holding_told law.told; back = holding_back false law.back }

@@ -134,7 +134,7 @@ raw_only is_strict = record { only = λ b x bytes fits is. given_by is_strict b 
 
 pub raw_lawful : IsLawful raw_item
 raw_lawful = record {
-  told = record { told = λ x y same fit. (subst (λ b. b ≡ encoding (raw_item_of b)) same fit, ap raw_item_of (sym same)) };
+  told = record { fits = λ x y same fit. subst (λ b. b ≡ encoding (raw_item_of b)) same fit; written = λ b. refl };
   back = raw_back;
   exact = raw_only true;
 }

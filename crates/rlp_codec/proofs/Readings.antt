@@ -1,8 +1,8 @@
 -- Each view gives one value or has one fault.
 use Rattle.std.proofs.Common.{◌≡◌, ℕ, zero, suc, ◌^◌, ◌<◌, ◌⊎◌, inl, inr, List, [], ◌∷◌, Bool, length, map, refl, sym, ap, subst, ◌∙◌, Option, Some, None, option_map, Result, Ok, Err}
-use Rattle.rlp_format.specs.Format.Item.{Item, list_of, string}
+use Rattle.rlp_format.specs.Format.Item.{Item, list_of}
 use Rattle.rlp_format.specs.Format.WrittenHeader.{AreBytes}
-use Rattle.rlp_format.specs.Values.Value.{bit, number_item, option_item}
+use Rattle.rlp_format.specs.Values.Value.{option_item}
 use Rattle.rlp_reading.specs.declared.error.DecoderError.{DecoderError}
 use Rattle.rlp_reading.specs.declared.error.DecoderError.TheVariants.{RlpIsTooBig, RlpIsTooShort, RlpExpectedToBeList, RlpExpectedToBeData}
 use Rattle.rlp_reading.specs.declared.error.DecoderError.TheVariants.{RlpIncorrectListLen, RlpDataLenWithZeroPrefix, RlpListLenWithZeroPrefix}
@@ -11,14 +11,14 @@ use Rattle.rlp_reading.specs.declared.error.DecoderError.TheVariants.{OutOfMemor
 use Rattle.rlp_reading.specs.Format.Split.{items}
 use Rattle.rlp_reading.proofs.Lemmas.Numbered.{item_at-slice_get}
 use Rattle.rlp_reading.proofs.Lemmas.StrictLists.{IsPart, item_parts}
-use Rattle.rlp_reading.specs.Values.RawItem.{raw_item_of}
 use Rattle.std.specs.List.{AllByRecursion, slice_get}
 use Rattle.rlp_reading.specs.Values.StructReading.{HoldsOrHasOneFault}
 use Rattle.rlp_reading.specs.Values.ValueReading.{HasOneReading, IsSameFault}
 use Rattle.rlp_reading.specs.Views.Text.{error_name}
 use Rattle.rlp_reading.specs.Views.View.{View, item_at, item_count, item_views}
 use Rattle.rlp_codec.proofs.Corollaries.{not_both, one_fault, one_value}
-use Rattle.rlp_codec.specs.Form.{Answer, Fault, Faults, Form, Gives, Reading, and_then, custom, data_len_with_zero, expected_data, expected_list, fault_of}
+use Rattle.rlp_codec.proofs.ListLaws.{option_written, same_written}
+use Rattle.rlp_codec.specs.Form.{Fault, Faults, Form, Gives, Reading, and_then, custom, data_len_with_zero, expected_data, expected_list, fault_of}
 use Rattle.rlp_codec.specs.Form.{inconsistent_len, incorrect_list_len, invalid_indirection, invalid_len, is_too_big, is_too_short, items_of, list_len_with_zero}
 use Rattle.rlp_codec.specs.Form.{map_value, option_reading, out_of_memory, read_option, reading_at, seen_fault}
 use Rattle.rlp_codec.specs.Form.{byte_array, byte_string, number, option, raw_item, text, truth_value}
@@ -80,7 +80,7 @@ one_answer r v = record {
 -- A type of which each value that contracts see is the value of one item.
 pub record IsSeenWhole {A : Type 0} (c : Form A) : Type 0 where
   pub some : (m : c.reading.M) → (x : A) × (c.reading.seen x ≡ m)
-  pub told : (x y : A) → c.reading.seen x ≡ c.reading.seen y → c.item x ≡ c.item y
+  pub written : (x : A) → c.reading.item (c.reading.seen x) ≡ c.item x
 
 module _ {A : Type 0} (c : Form A) (v : View) where
   some_by : (some : (m : c.reading.M) → (x : A) × (c.reading.seen x ≡ m)) (r : Result c.reading.M Fault)
@@ -93,7 +93,7 @@ module _ {A : Type 0} (c : Form A) (v : View) where
   pub one_reading : IsSeenWhole c → HasOneReading c.item (Gives c.reading v) (Faults c.reading v)
   one_reading whole = record {
     some = some_by whole.some (c.reading.read v).result (some_answer (c.reading.read v).result);
-    one_value = λ x y given also. whole.told x y (one_value c.reading v x y given also);
+    one_value = λ x y given also. same_written c.reading.seen c.item c.reading.item whole.written x y (one_value c.reading v x y given also);
     one_fault = λ e f bad also. same_fault e f (one_fault c.reading v e f bad also);
     not_both = not_both c.reading v;
   }
@@ -101,37 +101,29 @@ module _ {A : Type 0} (c : Form A) (v : View) where
 -- ---- types whose values contracts see as they are
 
 pub number_whole : (width : ℕ) → IsSeenWhole (number width)
-number_whole width = record { some = λ m. (m, refl); told = λ m n same. ap number_item same }
+number_whole width = record { some = λ m. (m, refl); written = λ n. refl }
 
 pub truth_whole : IsSeenWhole truth_value
-truth_whole = record { some = λ m. (m, refl); told = λ b c same. ap (λ b. number_item (bit b)) same }
+truth_whole = record { some = λ m. (m, refl); written = λ b. refl }
 
 pub bytes_whole : IsSeenWhole (byte_string {B = List ℕ} (λ d. d))
-bytes_whole = record { some = λ m. (m, refl); told = λ d s same. ap string same }
+bytes_whole = record { some = λ m. (m, refl); written = λ d. refl }
 
 pub text_whole : IsSeenWhole (text {B = List ℕ} (λ d. d))
-text_whole = record { some = λ m. (m, refl); told = λ d s same. ap string same }
+text_whole = record { some = λ m. (m, refl); written = λ d. refl }
 
 pub array_whole : (n : ℕ) → IsSeenWhole (byte_array n)
-array_whole n = record { some = λ m. (m, refl); told = λ d s same. ap string same }
+array_whole n = record { some = λ m. (m, refl); written = λ d. refl }
 
 pub raw_whole : IsSeenWhole raw_item
-raw_whole = record { some = λ m. (m, refl); told = λ b c same. ap raw_item_of same }
+raw_whole = record { some = λ m. (m, refl); written = λ b. refl }
 
 option_some : {A : Type 0} (c : Form A) → IsSeenWhole c → (m : Option c.reading.M) → (o : Option A) × (option_map c.reading.seen o ≡ m)
 option_some c whole None = (None, refl)
 option_some c whole (Some m) = let x = whole.some m in (Some x.0, ap Some x.1)
 
-option_same : {A : Type 0} (c : Form A) → IsSeenWhole c → (o u : Option A) → option_map c.reading.seen o ≡ option_map c.reading.seen u
-    → option_item c.item o ≡ option_item c.item u
-option_same c whole None None same = refl
-option_same c whole None (Some y) same = absurd (let no : ⊥ = cc in no)
-option_same c whole (Some x) None same = absurd (let no : ⊥ = cc in no)
-option_same c whole (Some x) (Some y) same =
-    let one : c.reading.seen x ≡ c.reading.seen y = cc in ap (λ i. list_of (i ∷ [])) (whole.told x y one)
-
 pub option_whole : {A : Type 0} (c : Form A) → IsSeenWhole c → IsSeenWhole (option c)
-option_whole c whole = record { some = option_some c whole; told = option_same c whole }
+option_whole c whole = record { some = option_some c whole; written = option_written c whole.written }
 
 -- ---- options
 

@@ -52,14 +52,15 @@ string_short v d fits holds =
 -- ---- a type that is read from one string
 
 -- what a string gives: back what is written, and nothing else
-pub record ReadsStrings {A M : Type 0} (Fits : A → Type 0) (bytes : A → List ℕ) (seen : A → M) (read : List ℕ → Result M Fault) : Type 0 where
+pub record ReadsStrings {A M : Type 0} (Fits : A → Type 0) (bytes : A → List ℕ) (seen : A → M) (written : M → List ℕ) (read : List ℕ → Result M Fault) : Type 0 where
   pub back : (x : A) → Fits x → length (bytes x) < 2 ^ 64 → read (bytes x) ≡ Ok (seen x)
   pub only : (d : List ℕ) (x : A) → AreBytes d → length d < 2 ^ 64 → read d ≡ Ok (seen x) → Fits x × (d ≡ bytes x)
-  pub told : (x y : A) → seen x ≡ seen y → Fits x → Fits y × (bytes y ≡ bytes x)
+  pub fits : (x y : A) → seen x ≡ seen y → Fits x → Fits y
+  pub same : (x : A) → written (seen x) ≡ bytes x
 
-module _ {A M : Type 0} (Fits : A → Type 0) (bytes : A → List ℕ) (seen : A → M) (read : List ℕ → Result M Fault) (takes_memory : Bool)
-    (law : ReadsStrings Fits bytes seen read) where
-  pub string_back : (is_strict : Bool) → ReadsBack is_strict (string_type Fits bytes seen read takes_memory)
+module _ {A M : Type 0} (Fits : A → Type 0) (bytes : A → List ℕ) (seen : A → M) (written : M → List ℕ) (read : List ℕ → Result M Fault) (takes_memory : Bool)
+    (law : ReadsStrings Fits bytes seen written read) where
+  pub string_back : (is_strict : Bool) → ReadsBack is_strict (string_type Fits bytes seen written read takes_memory)
   string_back is_strict = record {
     back = λ b x fits fit holds.
         ap (λ r. and_then (seen_fault r) read) (held_only (record { bytes = b; is_strict = is_strict }) (bytes x) fits holds)
@@ -73,19 +74,15 @@ module _ {A M : Type 0} (Fits : A → Type 0) (bytes : A → List ℕ) (seen : A
       let h = law.only d x (string_bytes v.bytes d held (held_begins v (string d) holds)) (string_short v d fits holds) is in
       (h.0, subst (HoldsString v) h.1 holds)
 
-  pub string_only : (is_strict : Bool) → GivesOnly is_strict (string_type Fits bytes seen read takes_memory)
+  pub string_only : (is_strict : Bool) → GivesOnly is_strict (string_type Fits bytes seen written read takes_memory)
   string_only is_strict = record {
     only = λ b x held fits is.
         only_by (record { bytes = b; is_strict = is_strict }) x (view_string (record { bytes = b; is_strict = is_strict })) held fits
         (held_reads (record { bytes = b; is_strict = is_strict }) held fits) is;
   }
 
-  pub string_lawful : IsLawful (string_type Fits bytes seen read takes_memory)
-  string_lawful = record {
-    told = record { told = λ x y same fit. let h = law.told x y same fit in (h.0, ap string h.1) };
-    back = string_back;
-    exact = string_only true;
-  }
+  pub string_lawful : IsLawful (string_type Fits bytes seen written read takes_memory)
+  string_lawful = record { told = record { fits = law.fits; written = λ x. ap string (law.same x) }; back = string_back; exact = string_only true }
 
 -- ---- numbers
 
@@ -119,11 +116,12 @@ number_only_by width d n false false bytes long leads is =
       sym (again d bytes leads) ∙ ap big_endian value,
     )
 
-pub number_strings : (width : ℕ) → ReadsStrings (FitsBytes width) big_endian (λ n. n) (number_of width)
+pub number_strings : (width : ℕ) → ReadsStrings (FitsBytes width) big_endian (λ n. n) big_endian (number_of width)
 number_strings width = record {
   back = λ n fit short. number_back width n fit;
   only = λ d n bytes short is. number_only_by width d n (ltb width (length d)) (begins_with_zero d) bytes refl refl is;
-  told = λ m n same fit. (subst (FitsBytes width) same fit, ap big_endian (sym same));
+  fits = λ m n same fit. subst (FitsBytes width) same fit;
+  same = λ n. refl;
 }
 
 -- ---- truth values
@@ -148,18 +146,24 @@ truth_only_by d b (Err e) bytes is same = absurd (let no : ⊥ = cc in no)
 truth_only_by d b (Ok n) bytes is same =
     (number_only_by 1 d n (ltb 1 (length d)) (begins_with_zero d) bytes refl refl is).1 ∙ ap big_endian (bit_only n b same)
 
-pub truth_strings : ReadsStrings (λ b. ⊤) (λ b. big_endian (bit b)) (λ b. b) (λ d. and_then (number_of 1 d) bit_of)
+pub truth_strings : ReadsStrings (λ b. ⊤) (λ b. big_endian (bit b)) (λ b. b) (λ b. big_endian (bit b)) (λ d. and_then (number_of 1 d) bit_of)
 truth_strings = record {
   back = λ b fit short. ap (λ r. and_then r bit_of) (number_back 1 (bit b) (bit_below b)) ∙ bit_back b;
   only = λ d b bytes short is. (tt, truth_only_by d b (number_of 1 d) bytes refl is);
-  told = λ b c same fit. (tt, ap (λ b. big_endian (bit b)) (sym same));
+  fits = λ b c same fit. tt;
+  same = λ b. refl;
 }
 
 -- ---- byte strings and texts
 
 module _ {B : Type 0} (bytes : B → List ℕ) where
-  pub byte_strings : ReadsStrings (λ b. ⊤) bytes bytes (λ d. Ok d)
-  byte_strings = record { back = λ b fit short. refl; only = λ d b held short is. (tt, let same : d ≡ bytes b = cc in same); told = λ b c same fit. (tt, sym same) }
+  pub byte_strings : ReadsStrings (λ b. ⊤) bytes bytes (λ d. d) (λ d. Ok d)
+  byte_strings = record {
+    back = λ b fit short. refl;
+    only = λ d b held short is. (tt, let same : d ≡ bytes b = cc in same);
+    fits = λ b c same fit. tt;
+    same = λ b. refl;
+  }
 
   text_only_by : (d : List ℕ) (b : B) (valid : Bool) → is_utf8 d ≡ valid → text_of d ≡ Ok (bytes b) → IsUtf8 (bytes b) × (d ≡ bytes b)
   text_only_by d b false valid is = let r : text_of d ≡ Err expected_data = cond-false (is_utf8 d) _ _ valid in absurd (let no : ⊥ = cc in no)
@@ -168,11 +172,12 @@ module _ {B : Type 0} (bytes : B → List ℕ) where
       let same : d ≡ bytes b = cc in
       (subst IsUtf8 same (IsUtf8-from_is_utf8 d valid), same)
 
-  pub text_strings : ReadsStrings (λ b. IsUtf8 (bytes b)) bytes bytes text_of
+  pub text_strings : ReadsStrings (λ b. IsUtf8 (bytes b)) bytes bytes (λ d. d) text_of
   text_strings = record {
     back = λ b fit short. cond-true (is_utf8 (bytes b)) _ _ (is_utf8-from_IsUtf8 (bytes b) fit);
     only = λ d b held short is. text_only_by d b (is_utf8 d) refl is;
-    told = λ b c same fit. (subst IsUtf8 same fit, sym same);
+    fits = λ b c same fit. subst IsUtf8 same fit;
+    same = λ b. refl;
   }
 
 -- ---- arrays
@@ -193,11 +198,12 @@ array_back : (n : ℕ) (a : List ℕ) → length a ≡ n → fixed_of n a ≡ Ok
 array_back n a is =
     cond-false (ltb (length a) n) _ _ (le-ltb _ _ (omega arith)) ∙ cond-false (ltb n (length a)) _ _ (le-ltb _ _ (omega arith))
 
-pub array_strings : (n : ℕ) → ReadsStrings (λ a. length a ≡ n) (λ a. a) (λ a. a) (fixed_of n)
+pub array_strings : (n : ℕ) → ReadsStrings (λ a. length a ≡ n) (λ a. a) (λ a. a) (λ a. a) (fixed_of n)
 array_strings n = record {
   back = λ a fit short. array_back n a fit;
   only = λ d a bytes short is. array_only_by n d a (ltb (length d) n) (ltb n (length d)) refl refl is;
-  told = λ a d same fit. (subst (λ a. length a ≡ n) same fit, sym same);
+  fits = λ a d same fit. subst (λ a. length a ≡ n) same fit;
+  same = λ a. refl;
 }
 
 -- ---- for bodies of `decode`
@@ -208,7 +214,7 @@ number_fits width d bytes few = digits_fit width d (bytes_held d bytes) few
 
 -- a view that holds the digits of a number gives the number
 pub number_given : (width n : ℕ) (v : View) → length v.bytes < 2 ^ 64 → GivesNumber width v n → and_then (string_of v) (number_of width) ≡ Ok n
-number_given width n v fits given = (string_back _ _ _ _ false (number_strings width) v.is_strict).back v.bytes n fits given.fits given.begins
+number_given width n v fits given = (string_back _ _ _ _ _ false (number_strings width) v.is_strict).back v.bytes n fits given.fits given.begins
 
 other_bit : (n : ℕ) → n ≢ 0 → n ≢ 1 → bit_of n ≡ Err (custom (codes "invalid boolean value"))
 other_bit zero none one = absurd (none refl)
@@ -242,33 +248,33 @@ pub ruleset texts = (is_text, no_text)
 -- ---- the laws
 
 pub number_lawful : (width : ℕ) → IsLawful (number width)
-number_lawful width = string_lawful _ _ _ _ _ (number_strings width)
+number_lawful width = string_lawful _ _ _ _ _ _ (number_strings width)
 
 pub truth_lawful : IsLawful truth_value
-truth_lawful = string_lawful _ _ _ _ _ truth_strings
+truth_lawful = string_lawful _ _ _ _ _ _ truth_strings
 
 pub bytes_lawful : {B : Type 0} (bytes : B → List ℕ) → IsLawful (byte_string bytes)
-bytes_lawful bytes = string_lawful _ _ _ _ _ (byte_strings bytes)
+bytes_lawful bytes = string_lawful _ _ _ _ _ _ (byte_strings bytes)
 
 pub text_lawful : {B : Type 0} (bytes : B → List ℕ) → IsLawful (text bytes)
-text_lawful bytes = string_lawful _ _ _ _ _ (text_strings bytes)
+text_lawful bytes = string_lawful _ _ _ _ _ _ (text_strings bytes)
 
 pub array_lawful : (n : ℕ) → IsLawful (byte_array n)
-array_lawful n = string_lawful _ _ _ _ _ (array_strings n)
+array_lawful n = string_lawful _ _ _ _ _ _ (array_strings n)
 
 -- ---- the same for bytes that begin with the encoding
 
 pub number_scalar : (width : ℕ) → GivesOnly false (number width)
-number_scalar width = string_only _ _ _ _ _ (number_strings width) false
+number_scalar width = string_only _ _ _ _ _ _ (number_strings width) false
 
 pub truth_scalar : GivesOnly false truth_value
-truth_scalar = string_only _ _ _ _ _ truth_strings false
+truth_scalar = string_only _ _ _ _ _ _ truth_strings false
 
 pub bytes_scalar : {B : Type 0} (bytes : B → List ℕ) → GivesOnly false (byte_string bytes)
-bytes_scalar bytes = string_only _ _ _ _ _ (byte_strings bytes) false
+bytes_scalar bytes = string_only _ _ _ _ _ _ (byte_strings bytes) false
 
 pub text_scalar : {B : Type 0} (bytes : B → List ℕ) → GivesOnly false (text bytes)
-text_scalar bytes = string_only _ _ _ _ _ (text_strings bytes) false
+text_scalar bytes = string_only _ _ _ _ _ _ (text_strings bytes) false
 
 pub array_scalar : (n : ℕ) → GivesOnly false (byte_array n)
-array_scalar n = string_only _ _ _ _ _ (array_strings n) false
+array_scalar n = string_only _ _ _ _ _ _ (array_strings n) false

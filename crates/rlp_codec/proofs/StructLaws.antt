@@ -1,5 +1,5 @@
 -- Structs are read back, and strictly from nothing else.
-use Rattle.std.proofs.Common.{Bool, Err, List, Ok, Result, [], ap, append-nil, arith, false, leb, length, refl, sym, true, ℕ, ◌&&◌, ◌-◌, ◌<◌, ◌^◌, ◌∙◌, ◌∷◌, ◌≡◌, ◌≤◌}
+use Rattle.std.proofs.Common.{Bool, Err, List, Ok, Result, [], ap, append-nil, arith, false, leb, length, refl, sym, true, ℕ, ◌&&◌, ◌<◌, ◌^◌, ◌∙◌, ◌∷◌, ◌≡◌, ◌≤◌}
 use Rattle.std.proofs.lemmas.Bool.{cond-false, cond-true, lt-leb}
 use Rattle.std.proofs.lemmas.List.{length-map}
 use Rattle.std.specs.List.{AllByRecursion}
@@ -7,7 +7,7 @@ use Rattle.rlp_format.specs.Format.Encoding.{IsSized, encoding}
 use Rattle.rlp_format.specs.Format.Item.{list_of}
 use Rattle.rlp_reading.specs.Views.View.{View, strict_view_of}
 use Rattle.rlp_codec.proofs.ListLaws.{not_faulty, goes_on, is_mapped, items_held, items_only, items_sized}
-use Rattle.rlp_codec.specs.Form.{Answer, Fault, FieldsForm, Path, Taken, and_then, go_on, here, incorrect_list_len, items_of, map_fault, map_value, path_by, path_in, read_struct, struct_of, all_taken}
+use Rattle.rlp_codec.specs.Form.{Answer, Fault, FieldsForm, Path, Taken, and_then, go_on, here, incorrect_list_len, items_of, map_fault, map_value, path_by, read_struct, struct_of, all_taken}
 use Rattle.rlp_codec.specs.Laws.{AreLawful, AreSeen, GivesOnly, IsLawful, IsSeen, ReadsBack, TakesBack, TakesOnly, viewed, views_of}
 use Rattle.rlp_codec.proofs.FieldLaws.{ok_same}
 
@@ -100,7 +100,7 @@ module _ {P : Type 0} (f : FieldsForm P) where
   }
 
   pub struct_told : AreSeen f → IsSeen (struct_of f)
-  struct_told law = record { told = λ p q same fit. let h = law.told p q same fit in (h.0, ap list_of h.1) }
+  struct_told law = record { fits = law.fits; written = λ p. ap list_of (law.written p) }
 
   pub struct_lawful : AreLawful f → IsLawful (struct_of f)
   struct_lawful law = record { told = struct_told law.told; back = λ is_strict. struct_back is_strict (law.back is_strict); exact = struct_only law.exact }

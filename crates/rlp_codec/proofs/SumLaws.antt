@@ -5,7 +5,7 @@ use Rattle.std.proofs.lemmas.Bool.{cases_lt, cond-true, cond-false, lt-leb}
 use Rattle.std.proofs.lemmas.Bool.{eqb-true}
 use Rattle.std.proofs.lemmas.List.Elements.{All-from_recursion, recursion_from_All}
 use Rattle.rlp_reading.specs.declared.error.DecoderError.TheVariants.{RlpExpectedToBeData}
-use Rattle.rlp_format.specs.Format.Item.{Item, is_list, list, list_of, string}
+use Rattle.rlp_format.specs.Format.Item.{Item, is_list, list, string}
 use Rattle.rlp_format.specs.Format.WrittenHeader.{AreBytes}
 use Rattle.rlp_format.specs.Format.Encoding.{BeginsWith, IsSized, encoding}
 use Rattle.rlp_reading.specs.Format.Split.{begins_as_list}
@@ -17,9 +17,9 @@ use Rattle.rlp_reading.proofs.Lemmas.Sums.{list_first}
 use Rattle.std.specs.List.{AllByRecursion}
 use Rattle.rlp_format.specs.Values.Value.{FitsBytes, number_item}
 use Rattle.rlp_codec.specs.Form.{Answer, Form, Fault, and_then, custom, items_of, map_value, number}
-use Rattle.rlp_codec.specs.Sums.{CasesForm, Unless, and_case, envelope, envelope_of, enveloped, last_case, list_or_string, read_either, read_first, read_last, read_tagged, sum_map, tagged_list}
-use Rattle.rlp_codec.specs.Laws.{CasesAreLawful, ReadsBack, GivesOnly, IsLawful, IsSeen, IsStrictPart, viewed, views_of}
-use Rattle.rlp_codec.proofs.ListLaws.{goes_on, held_itself, is_mapped, item_back, item_only, items_held, items_only, items_sized}
+use Rattle.rlp_codec.specs.Sums.{CasesForm, Unless, and_case, envelope, envelope_of, enveloped, last_case, list_or_string, read_either, read_first, read_last, read_tagged, seen_envelope, sum_map, tagged_list}
+use Rattle.rlp_codec.specs.Laws.{CasesAreLawful, ReadsBack, GivesOnly, IsLawful, IsStrictPart, viewed, views_of}
+use Rattle.rlp_codec.proofs.ListLaws.{goes_on, held_itself, is_mapped, item_back, item_only, items_held, items_only, items_sized, same_written}
 use Rattle.rlp_codec.proofs.StringLaws.{ReadsStrings, number_lawful, string_lawful}
 
 -- ---- lists and strings
@@ -67,6 +67,21 @@ not_right : {M N : Type 0} (r : Result N Fault) (y : M) → map_value {B = M ⊎
 not_right (Ok x) y is = cc
 not_right (Err e) y is = cc
 
+module _ {A B M N : Type 0} (seen : A → M) (other : B → N) where
+  -- if contracts see two values of a sum alike and one of the two fits, both fit
+  pub sums_fit : (Fits : A → Type 0) (Also : B → Type 0) → ((x y : A) → seen x ≡ seen y → Fits x → Fits y) → ((x y : B) → other x ≡ other y → Also x → Also y)
+      → (s t : A ⊎ B) → sum_map seen other s ≡ sum_map seen other t → OnSum Fits Also s → OnSum Fits Also t
+  sums_fit Fits Also left right (inl x) (inl y) same fit = left x y (same_left _ _ same) fit
+  sums_fit Fits Also left right (inl x) (inr y) same fit = absurd (let no : ⊥ = cc in no)
+  sums_fit Fits Also left right (inr x) (inl y) same fit = absurd (let no : ⊥ = cc in no)
+  sums_fit Fits Also left right (inr x) (inr y) same fit = right x y (same_right _ _ same) fit
+
+  -- a sum is written as contracts see it if the values of both types are
+  pub sums_written : (item : A → Item) (also : B → Item) (of : M → Item) (by : N → Item) → ((x : A) → of (seen x) ≡ item x) → ((y : B) → by (other y) ≡ also y)
+      → (s : A ⊎ B) → sum_item of by (sum_map seen other s) ≡ sum_item item also s
+  sums_written item also of by left right (inl x) = left x
+  sums_written item also of by left right (inr y) = right y
+
 module _ {A B : Type 0} (c : Form A) (d : Form B) (lists : (x : A) → is_list (c.item x) ≡ true) (strings : (y : B) → is_list (d.item y) ≡ false) where
   either_back_by : (is_strict : Bool) → ReadsBack is_strict c → ReadsBack is_strict d → (b : List ℕ) (s : A ⊎ B) → length b < 2 ^ 64 → OnSum c.Fits d.Fits s
       → Holds is_strict b (encoding (sum_item c.item d.item s))
@@ -90,16 +105,12 @@ module _ {A B : Type 0} (c : Form A) (d : Form B) (lists : (x : A) → is_list (
   either_only_by law other b (inr y) false bytes fits kind is =
       other.only b y bytes fits (right_taken (d.reading.read (strict_view_of b)).result (d.reading.seen y) (sym (whole (cond-false (begins_as_list b) _ _ kind)) ∙ is))
 
-  either_told : IsSeen c → IsSeen d → (s t : A ⊎ B) → sum_map c.reading.seen d.reading.seen s ≡ sum_map c.reading.seen d.reading.seen t → OnSum c.Fits d.Fits s
-      → OnSum c.Fits d.Fits t × (sum_item c.item d.item t ≡ sum_item c.item d.item s)
-  either_told law other (inl x) (inl y) same fit = law.told x y (same_left _ _ same) fit
-  either_told law other (inl x) (inr y) same fit = absurd (let no : ⊥ = cc in no)
-  either_told law other (inr x) (inl y) same fit = absurd (let no : ⊥ = cc in no)
-  either_told law other (inr x) (inr y) same fit = other.told x y (same_right _ _ same) fit
-
   pub either_lawful : IsLawful c → IsLawful d → IsLawful (list_or_string c d)
   either_lawful law other = record {
-    told = record { told = either_told law.told other.told };
+    told = record {
+      fits = sums_fit c.reading.seen d.reading.seen c.Fits d.Fits law.told.fits other.told.fits;
+      written = sums_written c.reading.seen d.reading.seen c.item d.item c.reading.item d.reading.item law.told.written other.told.written;
+    };
     back = λ is_strict. record { back = either_back_by is_strict (law.back is_strict) (other.back is_strict) };
     exact = record { only = λ b s bytes fits is. either_only_by law.exact other.exact b s (begins_as_list b) bytes fits refl is };
   }
@@ -117,7 +128,9 @@ module _ {A : Type 0} (unknown : List ℕ) (tag : ℕ) (c : Form A) where
 
   pub last_case_lawful : IsLawful c → CasesAreLawful (last_case unknown tag c)
   last_case_lawful law = record {
-    told = λ x y same fit. let h = law.told.told x y same fit in (h.0, refl, h.1);
+    fits = law.told.fits;
+    tagged = λ x. refl;
+    written = law.told.written;
     back = λ is_strict b x fits fit is. whole (cond-true (tag == tag) _ _ (eq-eqb tag tag refl)) ∙ (law.back is_strict).back b x fits fit is;
     only = λ k b x bytes fits is. last_only_by law.exact k b x (k == tag) bytes fits refl is;
   }
@@ -150,32 +163,24 @@ module _ {A B : Type 0} (tag : ℕ) (c : Form A) (more : CasesForm B) where
       let other : (more.tag y == tag) ≡ false = ap (λ n. n == tag) (sym h.1) ∙ same in
       (subst (λ b. Unless b (more.Fits y)) (sym other) h.0, h.1, h.2)
 
-  unless_told : (s t : Bool) (F G : Type 0) → s ≡ t → (F → G) → Unless s F → Unless t G
-  unless_told true true F G same f fit = absurd fit
-  unless_told true false F G same f fit = absurd fit
-  unless_told false true F G same f fit = absurd (let no : ⊥ = cc in no)
-  unless_told false false F G same f fit = f fit
+  unless_fits : (s : Bool) (F G : Type 0) → (F → G) → Unless s F → Unless s G
+  unless_fits true F G f fit = absurd fit
+  unless_fits false F G f fit = f fit
 
-  unless_fits : (s : Bool) (F : Type 0) → Unless s F → F
-  unless_fits true F fit = absurd fit
-  unless_fits false F fit = fit
+  other_fits : CasesAreLawful more → (x y : B) → more.seen x ≡ more.seen y → Unless (more.tag x == tag) (more.Fits x) → Unless (more.tag y == tag) (more.Fits y)
+  other_fits others x y same fit =
+      subst (λ n. Unless (n == tag) (more.Fits y)) (same_written more.seen more.tag more.seen_tag others.tagged x y same)
+      (unless_fits (more.tag x == tag) (more.Fits x) (more.Fits y) (others.fits x y same) fit)
 
-  first_told : IsLawful c → CasesAreLawful more → (s t : A ⊎ B) → sum_map c.reading.seen more.seen s ≡ sum_map c.reading.seen more.seen t
-      → (and_case tag c more).Fits s
-      → (and_case tag c more).Fits t × ((and_case tag c more).tag t ≡ (and_case tag c more).tag s) × ((and_case tag c more).item t ≡ (and_case tag c more).item s)
-  first_told law others (inl x) (inl y) same fit = let h = law.told.told x y (same_left _ _ same) fit in (h.0, refl, h.1)
-  first_told law others (inl x) (inr y) same fit = absurd (let no : ⊥ = cc in no)
-  first_told law others (inr x) (inl y) same fit = absurd (let no : ⊥ = cc in no)
-  first_told law others (inr x) (inr y) same fit =
-      let h = others.told x y (same_right _ _ same) (unless_fits (more.tag x == tag) (more.Fits x) fit) in (
-        unless_told (more.tag x == tag) (more.tag y == tag) (more.Fits x) (more.Fits y) (ap (λ n. n == tag) (sym h.1)) (λ fit. h.0) fit,
-        h.1,
-        h.2,
-      )
+  first_tagged : CasesAreLawful more → (s : A ⊎ B) → (and_case tag c more).seen_tag (sum_map c.reading.seen more.seen s) ≡ (and_case tag c more).tag s
+  first_tagged others (inl x) = refl
+  first_tagged others (inr y) = others.tagged y
 
   pub and_case_lawful : IsLawful c → CasesAreLawful more → CasesAreLawful (and_case tag c more)
   and_case_lawful law others = record {
-    told = first_told law others;
+    fits = sums_fit c.reading.seen more.seen c.Fits (λ y. Unless (more.tag y == tag) (more.Fits y)) law.told.fits (other_fits others);
+    tagged = first_tagged others;
+    written = sums_written c.reading.seen more.seen c.item more.item c.reading.item more.seen_item law.told.written others.written;
     back = first_back law others;
     only = λ k b s bytes fits is. first_only law others k b s (k == tag) bytes fits refl is;
   }
@@ -194,18 +199,19 @@ module _ {A : Type 0} (cases : CasesForm A) (law : CasesAreLawful cases) where
   abbrev opened : List ℕ → Result cases.M Fault
   opened d = (envelope_of cases.read d).result
 
-  pub envelope_strings : ReadsStrings cases.Fits (envelope cases) cases.seen opened
+  pub envelope_strings : ReadsStrings cases.Fits (envelope cases) cases.seen (seen_envelope cases) opened
   envelope_strings = record {
     back = λ x fit short. law.back true (encoding (cases.item x)) x (omega arith) fit refl;
     only = envelope_only;
-    told = λ x y same fit. let h = law.told x y same fit in (h.0, ap (λ k. k ∷ encoding (cases.item y)) h.1 ∙ ap (λ i. cases.tag x ∷ encoding i) h.2);
+    fits = law.fits;
+    same = λ x. let tag = law.tagged x in let item = law.written x in cc;
   }
 
   pub enveloped_lawful : IsLawful (enveloped cases)
   enveloped_lawful =
-      let law = string_lawful cases.Fits (envelope cases) cases.seen opened cases.takes_memory envelope_strings in
+      let law = string_lawful cases.Fits (envelope cases) cases.seen (seen_envelope cases) opened cases.takes_memory envelope_strings in
       record {
-        told = record { told = law.told.told };
+        told = record { fits = law.told.fits; written = law.told.written };
         back = λ is_strict. record { back = (law.back is_strict).back };
         exact = record { only = law.exact.only };
       }
@@ -241,11 +247,11 @@ module _ {A : Type 0} (width : ℕ) (cases : CasesForm A) (law : CasesAreLawful 
   pub tagged_lawful : IsLawful (tagged_list width cases)
   tagged_lawful = record {
     told = record {
-      told = λ x y same fit.
-          let h = law.told x y same fit.1 in (
-            (subst (FitsBytes width) (sym h.1) fit.0, h.0),
-            ap (λ n. list_of (number_item n ∷ cases.item y ∷ [])) h.1 ∙ ap (λ i. list_of (number_item (cases.tag x) ∷ i ∷ [])) h.2,
-          );
+      fits = λ x y same fit. (
+        subst (FitsBytes width) (same_written cases.seen cases.tag cases.seen_tag law.tagged x y same) fit.0,
+        law.fits x y same fit.1,
+      );
+      written = λ x. let tag = law.tagged x in let item = law.written x in cc;
     };
     back = λ is_strict. record {
       back = λ b x fits fit holds.

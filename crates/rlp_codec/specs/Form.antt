@@ -101,10 +101,12 @@ go_on a f = record { result = and_then a.result (λ x. (f x).result); path = pat
 
 -- ---- what views give
 
--- How the values of a type are read: what contracts see of a value, what a view gives apart from memory, and whether reading may also fail with `OutOfMemory`.
+-- How the values of a type are read: what contracts see of a value, the item of a value, by what contracts see of the value, what a view gives apart from memory,
+-- and whether reading may also fail with `OutOfMemory`.
 pub record Reading (A : Type 0) : Type 1 where
   pub M : Type 0
   pub seen : A → M
+  pub item : M → Item
   pub read : View → Answer M Fault
   pub takes_memory : Bool
 
@@ -177,6 +179,7 @@ abbrev pub option_reading : {A : Type 0} → Reading A → Reading (Option A)
 option_reading r = record {
   M = Option r.M;
   seen = option_map r.seen;
+  item = option_item r.item;
   read = λ v. go_on (here (items_of v)) (read_option r.read);
   takes_memory = r.takes_memory;
 }
@@ -186,19 +189,21 @@ abbrev pub list_reading : {A B : Type 0} → (B → List A) → Reading A → Re
 list_reading values r = record {
   M = List r.M;
   seen = λ b. map r.seen (values b);
+  item = λ xs. list_of (map r.item xs);
   read = λ v. go_on (here (list_of_views v)) (λ vs. read_each r.read (length vs) vs);
   takes_memory = true;
 }
 
 -- The reading of a type that holds one value.
 abbrev pub held_reading : {A B : Type 0} → Bool → (B → A) → Reading A → Reading B
-held_reading takes_memory value r = record { M = r.M; seen = λ b. r.seen (value b); read = r.read; takes_memory = takes_memory }
+held_reading takes_memory value r = record { M = r.M; seen = λ b. r.seen (value b); item = r.item; read = r.read; takes_memory = takes_memory }
 
 -- The reading of item i of a list.
 abbrev pub reading_at : {A : Type 0} → ℕ → Reading A → Reading A
 reading_at i r = record {
   M = r.M;
   seen = r.seen;
+  item = r.item;
   read = λ v. go_on (here (seen_fault (item_at v i))) (λ item. within i (r.read item));
   takes_memory = r.takes_memory;
 }
@@ -211,40 +216,53 @@ pub record Form (A : Type 0) : Type 1 where
   pub item : A → Item
   pub reading : Reading A
 
--- A type of strings: which values fit, the bytes of a value, what contracts see of a value, what a string gives, and whether reading takes memory.
-abbrev pub string_type : {A M : Type 0} → (A → Type 0) → (A → List ℕ) → (A → M) → (List ℕ → Result M Fault) → Bool → Form A
-string_type {M = M} Fits bytes seen read takes_memory = record {
+-- A type of strings: which values fit, the bytes of a value, what contracts see of a value, the bytes of a value, by what contracts see of the value, what a
+-- string gives, and whether reading takes memory.
+abbrev pub string_type : {A M : Type 0} → (A → Type 0) → (A → List ℕ) → (A → M) → (M → List ℕ) → (List ℕ → Result M Fault) → Bool → Form A
+string_type {M = M} Fits bytes seen written read takes_memory = record {
   Fits = Fits;
   item = λ x. string (bytes x);
-  reading = record { M = M; seen = seen; read = λ v. here (and_then (string_of v) read); takes_memory = takes_memory };
+  reading = record {
+    M = M;
+    seen = seen;
+    item = λ m. string (written m);
+    read = λ v. here (and_then (string_of v) read);
+    takes_memory = takes_memory;
+  };
 }
 
 -- Numbers of at most `width` bytes.
 abbrev pub number : ℕ → Form ℕ
-number width = string_type (FitsBytes width) big_endian (λ n. n) (number_of width) false
+number width = string_type (FitsBytes width) big_endian (λ n. n) big_endian (number_of width) false
 
 -- Truth values.
 abbrev pub truth_value : Form Bool
-truth_value = string_type (λ b. ⊤) (λ b. big_endian (bit b)) (λ b. b) (λ d. and_then (number_of 1 d) bit_of) false
+truth_value = string_type (λ b. ⊤) (λ b. big_endian (bit b)) (λ b. b) (λ b. big_endian (bit b)) (λ d. and_then (number_of 1 d) bit_of) false
 
 -- A type that contracts see as byte strings.
 abbrev pub byte_string : {B : Type 0} → (B → List ℕ) → Form B
-byte_string bytes = string_type (λ b. ⊤) bytes bytes (λ d. Ok d) true
+byte_string bytes = string_type (λ b. ⊤) bytes bytes (λ d. d) (λ d. Ok d) true
 
 -- A type that contracts see as texts.
 abbrev pub text : {B : Type 0} → (B → List ℕ) → Form B
-text bytes = string_type (λ b. IsUtf8 (bytes b)) bytes bytes text_of true
+text bytes = string_type (λ b. IsUtf8 (bytes b)) bytes bytes (λ d. d) text_of true
 
 -- Arrays of n bytes.
 abbrev pub byte_array : ℕ → Form (List ℕ)
-byte_array n = string_type (λ a. length a ≡ n) (λ a. a) (λ a. a) (fixed_of n) false
+byte_array n = string_type (λ a. length a ≡ n) (λ a. a) (λ a. a) (λ a. a) (fixed_of n) false
 
 -- Items of any kind, kept as bytes that are the encoding of the item that the bytes are read as.
 abbrev pub raw_item : Form (List ℕ)
 raw_item = record {
   Fits = λ b. b ≡ encoding (raw_item_of b);
   item = raw_item_of;
-  reading = record { M = List ℕ; seen = λ b. b; read = λ v. here (and_then (seen_fault (view_frame v)) raw_of); takes_memory = true };
+  reading = record {
+    M = List ℕ;
+    seen = λ b. b;
+    item = raw_item_of;
+    read = λ v. here (and_then (seen_fault (view_frame v)) raw_of);
+    takes_memory = true;
+  };
 }
 
 -- Options of a type.
@@ -277,11 +295,12 @@ uint n = newtype (λ (u : Uint n). number_from_digits 256 u.bytes) (number n)
 abbrev pub Taken : Type 0 → Type 0
 Taken M = Answer (M × List View) (List View × Fault)
 
--- How fields are read: what contracts see of the fields, what a list of views gives, which numbers of items are possible, the least number, whether the least
--- number is the only one, and whether reading may also fail with `OutOfMemory`.
+-- How fields are read: what contracts see of the fields, the items of the fields, by what contracts see of the fields, what a list of views gives, which numbers
+-- of items are possible, the least number, whether the least number is the only one, and whether reading may also fail with `OutOfMemory`.
 pub record FieldsReading (P : Type 0) : Type 1 where
   pub M : Type 0
   pub seen : P → M
+  pub items : M → List Item
   pub read : List View → Taken M
   pub accepts : ℕ → Bool
   pub width : ℕ
@@ -342,19 +361,30 @@ abbrev pub struct_reading : {P : Type 0} → FieldsReading P → Reading P
 struct_reading r = record {
   M = r.M;
   seen = r.seen;
+  item = λ m. list_of (r.items m);
   read = λ v. go_on (here (items_of v)) (read_struct r.accepts r.read);
   takes_memory = r.takes_memory;
 }
 
 -- The reading of no fields.
 abbrev pub no_fields : {P : Type 0} → FieldsReading P
-no_fields = record { M = ⊤; seen = λ p. tt; read = λ vs. here (Ok (tt, vs)); accepts = λ n. n == 0; width = 0; is_fixed = true; takes_memory = false }
+no_fields = record {
+  M = ⊤;
+  seen = λ p. tt;
+  items = λ m. [];
+  read = λ vs. here (Ok (tt, vs));
+  accepts = λ n. n == 0;
+  width = 0;
+  is_fixed = true;
+  takes_memory = false;
+}
 
 -- The reading of one field.
 abbrev pub one_field : {A : Type 0} → Reading A → FieldsReading A
 one_field r = record {
   M = r.M;
   seen = r.seen;
+  items = λ m. r.item m ∷ [];
   read = take_item r.read;
   accepts = λ n. n == 1;
   width = 1;
@@ -367,6 +397,7 @@ abbrev pub group_before : {A P : Type 0} → (P → A) → FieldsReading A → F
 group_before value r more = record {
   M = r.M × more.M;
   seen = λ p. (r.seen (value p), more.seen p);
+  items = λ m. r.items m.0 ++ more.items m.1;
   read = take_both r.read more.read;
   accepts = λ n. nat_le r.width n && more.accepts (n - r.width);
   width = r.width + more.width;
@@ -379,6 +410,7 @@ abbrev pub optional_fields : {A P : Type 0} → (P → Option A) → FieldsReadi
 optional_fields value r = record {
   M = Option r.M;
   seen = λ p. option_map r.seen (value p);
+  items = items_if r.items;
   read = take_if r.read;
   accepts = λ n. (n == 0) || r.accepts n;
   width = 0;
@@ -391,6 +423,7 @@ abbrev pub group_fields : {A P : Type 0} → (P → List A) → FieldsReading A 
 group_fields values r = record {
   M = List r.M;
   seen = λ p. map r.seen (values p);
+  items = all_items r.items;
   read = λ vs. take_each r.read (length vs) vs;
   accepts = λ n. n % r.width == 0;
   width = 0;
@@ -403,6 +436,7 @@ abbrev pub part_fields : {P Q : Type 0} → (P → Q) → FieldsReading Q → Fi
 part_fields part r = record {
   M = r.M;
   seen = λ p. r.seen (part p);
+  items = r.items;
   read = r.read;
   accepts = r.accepts;
   width = r.width;

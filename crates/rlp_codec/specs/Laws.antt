@@ -34,9 +34,10 @@ pub record GivesOnly {A : Type 0} (is_strict : Bool) (c : Form A) : Type 0 where
   pub only : (b : List ℕ) (x : A) → AreBytes b → length b < 2 ^ 64 → (c.reading.read (viewed is_strict b)).result ≡ Ok (c.reading.seen x)
       → c.Fits x × Holds is_strict b (encoding (c.item x))
 
--- If contracts see two values alike and one of the two fits, both fit and have the same item.
+-- If contracts see two values alike and one of the two fits, both fit; and each value has the item that `reading` gives by what contracts see of the value.
 pub record IsSeen {A : Type 0} (c : Form A) : Type 0 where
-  pub told : (x y : A) → c.reading.seen x ≡ c.reading.seen y → c.Fits x → c.Fits y × (c.item y ≡ c.item x)
+  pub fits : (x y : A) → c.reading.seen x ≡ c.reading.seen y → c.Fits x → c.Fits y
+  pub written : (x : A) → c.reading.item (c.reading.seen x) ≡ c.item x
 
 -- Each value that fits is read back, and a strict view gives no other value.
 pub record IsLawful {A : Type 0} (c : Form A) : Type 0 where
@@ -74,9 +75,11 @@ pub record TakesOnly {P : Type 0} (f : FieldsForm P) : Type 0 where
   pub only : (p : P) (vs rest : List View) → AllByRecursion IsStrictPart vs → (f.reading.read vs).result ≡ Ok (f.reading.seen p, rest)
       → f.Fits p × (vs ≡ views_of true (f.items p) ++ rest)
 
--- If contracts see fields of two values alike and the fields of one fit, the fields of both fit and have the same items.
+-- If contracts see fields of two values alike and the fields of one fit, the fields of both fit; and the fields of each value have the items that `reading` gives by
+-- what contracts see of the fields.
 pub record AreSeen {P : Type 0} (f : FieldsForm P) : Type 0 where
-  pub told : (p q : P) → f.reading.seen p ≡ f.reading.seen q → f.Fits p → f.Fits q × (f.items q ≡ f.items p)
+  pub fits : (p q : P) → f.reading.seen p ≡ f.reading.seen q → f.Fits p → f.Fits q
+  pub written : (p : P) → f.reading.items (f.reading.seen p) ≡ f.items p
 
 -- FieldsForm that fit are read back, and strict views give no other fields.
 pub record AreLawful {P : Type 0} (f : FieldsForm P) : Type 0 where
@@ -90,9 +93,12 @@ fields_of Fits items reading = record { Fits = Fits; items = items; reading = re
 
 -- ---- the same for the types of a sum
 
--- If contracts see two values alike, tags and payloads are the same; each payload that fits is read back by the tag; and a tag and a strict view give no other value.
+-- If contracts see two values alike and one of the two fits, both fit; each value has the tag and the payload that `cases` gives by what contracts see of the value;
+-- each payload that fits is read back by the tag; and a tag and a strict view give no other value.
 pub record CasesAreLawful {A : Type 0} (cases : CasesForm A) : Type 0 where
-  pub told : (x y : A) → cases.seen x ≡ cases.seen y → cases.Fits x → cases.Fits y × (cases.tag y ≡ cases.tag x) × (cases.item y ≡ cases.item x)
+  pub fits : (x y : A) → cases.seen x ≡ cases.seen y → cases.Fits x → cases.Fits y
+  pub tagged : (x : A) → cases.seen_tag (cases.seen x) ≡ cases.tag x
+  pub written : (x : A) → cases.seen_item (cases.seen x) ≡ cases.item x
   pub back : (is_strict : Bool) (b : List ℕ) (x : A) → length b < 2 ^ 64 → cases.Fits x → Holds is_strict b (encoding (cases.item x))
       → (cases.read (cases.tag x) (viewed is_strict b)).result ≡ Ok (cases.seen x)
   pub only : (tag : ℕ) (b : List ℕ) (x : A) → AreBytes b → length b < 2 ^ 64 → (cases.read tag (strict_view_of b)).result ≡ Ok (cases.seen x)

@@ -28,6 +28,7 @@ list_or_string c d = record {
   reading = record {
     M = c.reading.M ⊎ d.reading.M;
     seen = sum_map c.reading.seen d.reading.seen;
+    item = sum_item c.reading.item d.reading.item;
     read = read_either c.reading.read d.reading.read;
     takes_memory = c.reading.takes_memory || d.reading.takes_memory;
   };
@@ -35,14 +36,16 @@ list_or_string c d = record {
 
 -- ---- tags
 
--- How the values of a sum are written and read: which values fit, the tag of a value, the item of the payload, what contracts see of a value, what a tag and a
--- view of a payload give, and whether reading may also fail with `OutOfMemory`.
+-- How the values of a sum are written and read: which values fit, the tag of a value, the item of the payload, what contracts see of a value, the tag and the item
+-- of the payload of a value, by what contracts see of the value, what a tag and a view of a payload give, and whether reading may also fail with `OutOfMemory`.
 pub record CasesForm (A : Type 0) : Type 1 where
   pub Fits : A → Type 0
   pub tag : A → ℕ
   pub item : A → Item
   pub M : Type 0
   pub seen : A → M
+  pub seen_tag : M → ℕ
+  pub seen_item : M → Item
   pub read : ℕ → View → Answer M Fault
   pub takes_memory : Bool
 
@@ -67,6 +70,8 @@ last_case unknown tag c = record {
   item = c.item;
   M = c.reading.M;
   seen = c.reading.seen;
+  seen_tag = λ m. tag;
+  seen_item = c.reading.item;
   read = read_last unknown tag c.reading.read;
   takes_memory = c.reading.takes_memory;
 }
@@ -79,6 +84,8 @@ and_case tag c more = record {
   item = sum_item c.item more.item;
   M = c.reading.M ⊎ more.M;
   seen = sum_map c.reading.seen more.seen;
+  seen_tag = sum_tag tag more.seen_tag;
+  seen_item = sum_item c.reading.item more.seen_item;
   read = read_first tag c.reading.read more.read;
   takes_memory = c.reading.takes_memory || more.takes_memory;
 }
@@ -86,6 +93,10 @@ and_case tag c more = record {
 -- The bytes of an envelope: the tag, and the encoding of the payload.
 abbrev pub envelope : {A : Type 0} → CasesForm A → A → List ℕ
 envelope cases x = cases.tag x ∷ encoding (cases.item x)
+
+-- The bytes of the envelope of a value, by what contracts see of the value.
+abbrev pub seen_envelope : {A : Type 0} (cases : CasesForm A) → cases.M → List ℕ
+seen_envelope cases m = cases.seen_tag m ∷ encoding (cases.seen_item m)
 
 -- What the bytes of an envelope give, with the payload read strictly.
 abbrev pub envelope_of : {M : Type 0} → (ℕ → View → Answer M Fault) → List ℕ → Answer M Fault
@@ -100,6 +111,7 @@ enveloped cases = record {
   reading = record {
     M = cases.M;
     seen = cases.seen;
+    item = λ m. string (seen_envelope cases m);
     read = λ v. go_on (here (string_of v)) (envelope_of cases.read);
     takes_memory = cases.takes_memory;
   };
@@ -120,6 +132,7 @@ tagged_list width cases = record {
   reading = record {
     M = cases.M;
     seen = cases.seen;
+    item = λ m. list_of (number_item (cases.seen_tag m) ∷ cases.seen_item m ∷ []);
     read = λ v. go_on (here (items_of v)) (read_tagged width cases.read);
     takes_memory = cases.takes_memory;
   };

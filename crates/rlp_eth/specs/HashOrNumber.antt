@@ -5,7 +5,7 @@ use Rattle.std.proofs.lemmas.Bool.{cond-true, cond-false, eqb-true}
 use Rattle.rlp.specs.Codec.{Codec, string_type}
 use Rattle.rlp.specs.Form.{Fault, map_value, number_of}
 use Rattle.rlp.specs.Format.WrittenHeader.{AreBytes, big_endian}
-use Rattle.rlp.proofs.Lemmas.OneReading.{few_digits}
+use Rattle.rlp_reading.proofs.Lemmas.OneReading.{few_digits}
 use Rattle.rlp.specs.Values.Value.{FitsBytes}
 use Rattle.rlp_codec.proofs.ListLaws.{is_mapped}
 use Rattle.rlp_codec.proofs.StringLaws.{ReadsStrings, number_strings}
@@ -26,6 +26,11 @@ IsHashOrNumber (Number n) = FitsBytes 8 n
 abbrev pub seen_hash_or_number : HashOrNumber → List ℕ ⊎ ℕ
 seen_hash_or_number (Hash h) = inl h.0
 seen_hash_or_number (Number n) = inr n
+
+-- the bytes of a hash or number, by what contracts see of it
+abbrev pub written_hash_or_number : List ℕ ⊎ ℕ → List ℕ
+written_hash_or_number (inl h) = h
+written_hash_or_number (inr n) = big_endian n
 
 -- what a string gives: a hash if it has 32 bytes, and else a number of at most eight
 abbrev pub hash_or_number_of : List ℕ → Result (List ℕ ⊎ ℕ) Fault
@@ -65,20 +70,25 @@ found_by d (Number n) false bytes short long is =
     same_number : (m n : ℕ) → as_number m ≡ inr n → m ≡ n
     same_number m n is = cc
 
-found_told : (x y : HashOrNumber) → seen_hash_or_number x ≡ seen_hash_or_number y → IsHashOrNumber x
-    → IsHashOrNumber y × (hash_or_number_bytes y ≡ hash_or_number_bytes x)
-found_told (Hash h) (Hash k) same fit = let bytes : h.0 ≡ k.0 = cc in (subst (λ d. length d ≡ 32) bytes fit, sym bytes)
-found_told (Hash h) (Number n) same fit = absurd (let no : ⊥ = cc in no)
-found_told (Number n) (Hash h) same fit = absurd (let no : ⊥ = cc in no)
-found_told (Number n) (Number m) same fit = let numbers : n ≡ m = cc in (subst (FitsBytes 8) numbers fit, ap big_endian (sym numbers))
+found_same : (x : HashOrNumber) → written_hash_or_number (seen_hash_or_number x) ≡ hash_or_number_bytes x
+found_same (Hash h) = refl
+found_same (Number n) = refl
 
-pub hash_or_number_strings : ReadsStrings IsHashOrNumber hash_or_number_bytes seen_hash_or_number hash_or_number_of
+found_fits : (x y : HashOrNumber) → seen_hash_or_number x ≡ seen_hash_or_number y → IsHashOrNumber x → IsHashOrNumber y
+found_fits (Hash h) (Hash k) same fit = subst (λ d. length d ≡ 32) (let bytes : h.0 ≡ k.0 = cc in bytes) fit
+found_fits (Hash h) (Number n) same fit = absurd (let no : ⊥ = cc in no)
+found_fits (Number n) (Hash h) same fit = absurd (let no : ⊥ = cc in no)
+found_fits (Number n) (Number m) same fit = subst (FitsBytes 8) (let numbers : n ≡ m = cc in numbers) fit
+
+pub hash_or_number_strings : ReadsStrings IsHashOrNumber hash_or_number_bytes seen_hash_or_number written_hash_or_number hash_or_number_of
 hash_or_number_strings = record {
   back = found_back;
   only = λ d x bytes short is. found_by d x (length d == 32) bytes short refl is;
-  told = found_told;
+  fits = found_fits;
+  same = found_same;
 }
 
 -- the string of the hash or of the number
 abbrev pub hash_or_number : Codec HashOrNumber
-hash_or_number = string_type IsHashOrNumber hash_or_number_bytes seen_hash_or_number hash_or_number_of false hash_or_number_strings
+hash_or_number =
+    string_type IsHashOrNumber hash_or_number_bytes seen_hash_or_number written_hash_or_number hash_or_number_of false hash_or_number_strings

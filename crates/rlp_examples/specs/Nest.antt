@@ -6,9 +6,9 @@ use Rattle.rlp.specs.Codec.{Codec, end, field, list_type, struct_of}
 use Rattle.rlp.specs.Form.{Form, Reading, group_before, list_reading, no_fields, one_field, struct_reading}
 use Rattle.rlp.specs.Form as form
 use Rattle.rlp.specs.Laws.{IsReadBack}
-use Rattle.rlp.proofs.ListLaws.{list_back, list_told}
-use Rattle.rlp.proofs.FieldLaws.{end_back, end_told, field_back, field_told}
-use Rattle.rlp.proofs.StructLaws.{struct_back, struct_told}
+use Rattle.rlp_codec.proofs.ListLaws.{list_back, list_told}
+use Rattle.rlp_codec.proofs.FieldLaws.{end_back, end_told, field_back, field_told}
+use Rattle.rlp_codec.proofs.StructLaws.{struct_back, struct_told}
 use Rattle.rlp_examples.specs.declared.nest.Nest.{Nest}
 
 -- the list of one list of values

@@ -16,6 +16,7 @@ low (inr (inl r)) = omega arith
 low (inr (inr (inl r))) = omega arith
 low (inr (inr (inr r))) = omega arith
 
-pub receipt_strings : ReadsStrings typed_receipt.Fits (λ r. bytes_alone (typed_receipt.item r)) typed_receipt.reading.seen (alone (plain receipt) typed_receipts.cases)
+pub receipt_strings : ReadsStrings typed_receipt.Fits (λ r. bytes_alone (typed_receipt.item r)) typed_receipt.reading.seen
+    (λ m. bytes_alone (typed_receipt.reading.item m)) (alone (plain receipt) typed_receipts.cases)
 receipt_strings =
-    strings_held receipt_as_sum _ _ _ _ (alone_strings (plain receipt) typed_receipts.cases (λ r. refl) low receipt.reads_strictly typed_receipts.laws)
+    strings_held receipt_as_sum _ _ _ _ _ (alone_strings (plain receipt) typed_receipts.cases (λ r. refl) low receipt.reads_strictly typed_receipts.laws)

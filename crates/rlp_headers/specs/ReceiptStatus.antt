@@ -73,7 +73,7 @@ status_kinds = record { of_kind = of_kind }
 
 -- the string of these bytes
 abbrev pub receipt_status : Codec ReceiptStatus
-receipt_status = string_type IsStatus status_bytes (λ s. (succeeded s, status_bytes s)) (read_kind status_kind) false
+receipt_status = string_type IsStatus status_bytes (λ s. (succeeded s, status_bytes s)) (λ m. m.1) (read_kind status_kind) false
     (kinds_read IsStatus status_bytes succeeded status_kind status_kinds)
 
 pub ruleset statuses = (no_status, is_root)

@@ -149,23 +149,23 @@ pub record_only : (b : List ℕ) (f : NodeFields) → AreBytes b → (read_recor
     → IsNodeRecord f × (b ≡ encoding (node_fields.item f))
 record_only b f bytes is = only_by b f (ltb longest_record (length b)) bytes refl is
 
-record_told : (f g : NodeFields) → node_fields.reading.seen f ≡ node_fields.reading.seen g → IsNodeRecord f
-    → IsNodeRecord g × (node_fields.item g ≡ node_fields.item f)
-record_told f g same is =
-    ((record_only (encoding (node_fields.item f)) g is.bytes (record_back f is ∙ ap Ok same)).0, (node_fields.reads_strictly.told.told f g same is.fits).1)
+record_fits : (f g : NodeFields) → node_fields.reading.seen f ≡ node_fields.reading.seen g → IsNodeRecord f → IsNodeRecord g
+record_fits f g same is = (record_only (encoding (node_fields.item f)) g is.bytes (record_back f is ∙ ap Ok same)).0
 
 -- the bytes of a record are read back, and no other bytes are read
-pub record_items : ReadsItems IsNodeRecord node_fields.item node_fields.reading.seen read_record
+pub record_items : ReadsItems IsNodeRecord node_fields.item node_fields.reading.seen node_fields.reading.item read_record
 record_items = record {
   back = λ f is sized. record_back f is;
   only = λ b f bytes short is. record_only b f bytes is;
-  told = record_told;
+  fits = record_fits;
+  same = node_fields.reads_strictly.told.written;
 }
 
 -- A node record, seen as its fields: the list of the fields. It is read from the bytes of the first item, also from a lenient view.
 abbrev pub node_record : Codec NodeFields
-node_record = lawful (item_type IsNodeRecord node_fields.item node_fields.reading.seen read_record node_fields.reading.takes_memory)
-    (items_lawful IsNodeRecord node_fields.item node_fields.reading.seen read_record node_fields.reading.takes_memory record_items)
+node_record =
+    lawful (item_type IsNodeRecord node_fields.item node_fields.reading.seen node_fields.reading.item read_record node_fields.reading.takes_memory)
+    (items_lawful _ _ _ _ _ node_fields.reading.takes_memory record_items)
 
 -- two records with the same encoding have the same fields
 pub records_tell : (f g : NodeFields) → IsNodeRecord f → IsNodeRecord g → encoding (node_fields.item f) ≡ encoding (node_fields.item g)

@@ -44,10 +44,11 @@ module _ {A : Type 0} (kind : ℕ) (other : List ℕ) (c : Form A) (law : IsLawf
       (envelope_strings (last_case other kind c) (last_case_lawful other kind c law)).only (first ∷ payload) x held short is
 
   -- the bytes of a value after the byte are read back, and no other bytes are read
-  pub after_strings : ReadsStrings c.Fits (λ x. kind ∷ encoding (c.item x)) c.reading.seen (λ d. (read_after kind other c.reading.read d).result)
+  pub after_strings : ReadsStrings c.Fits (λ x. kind ∷ encoding (c.item x)) c.reading.seen (λ m. kind ∷ encoding (c.reading.item m))
+      (λ d. (read_after kind other c.reading.read d).result)
   after_strings =
       let strings = envelope_strings (last_case other kind c) (last_case_lawful other kind c law) in
-      record { back = strings.back; only = after_only; told = strings.told }
+      record { back = strings.back; only = after_only; fits = strings.fits; same = strings.same }
 
 module _ (kind : ℕ) (d payload : List ℕ) (is : d ≡ kind ∷ payload) where
   -- what follows the byte is the rest

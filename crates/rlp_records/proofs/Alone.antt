@@ -9,9 +9,9 @@ use Rattle.rlp.specs.Values.Sums.{OnSum, sum_item}
 use Rattle.rlp_reading.proofs.Lemmas.Sums.{list_first}
 use Rattle.rlp_codec.specs.Form.{Answer, Fault, Form, map_value}
 use Rattle.rlp_codec.specs.Laws.{CasesAreLawful, IsLawful}
-use Rattle.rlp_codec.specs.Sums.{CasesForm, envelope, sum_map}
+use Rattle.rlp_codec.specs.Sums.{CasesForm, envelope, seen_envelope, sum_map}
 use Rattle.rlp_codec.proofs.StringLaws.{ReadsStrings}
-use Rattle.rlp_codec.proofs.SumLaws.{envelope_strings}
+use Rattle.rlp_codec.proofs.SumLaws.{envelope_strings, sums_fit, sums_written}
 use Rattle.rlp_records.specs.Alone.{bytes_alone, read_alone}
 
 -- a list by itself is its encoding
@@ -58,6 +58,10 @@ module _ {A B : Type 0} (c : Form A) (cases : CasesForm B) where
   abbrev seen_alone : A ⊎ B → c.reading.M ⊎ cases.M
   seen_alone s = sum_map c.reading.seen cases.seen s
 
+  -- the bytes of a value, by what contracts see of the value
+  abbrev written_alone : c.reading.M ⊎ cases.M → List ℕ
+  written_alone m = bytes_alone (sum_item c.reading.item (λ n. string (seen_envelope cases n)) m)
+
   -- the result of bytes by themselves
   abbrev pub alone : List ℕ → Result (c.reading.M ⊎ cases.M) Fault
   alone d = (read_alone c.reading.read cases.read d).result
@@ -83,16 +87,13 @@ module _ {A B : Type 0} (c : Form A) (cases : CasesForm B) where
     alone_only d (inr y) false held short kind is =
         (envelope_strings cases others).only d y held short (right_only _ _ (sym (result_same (cond-false (begins_as_list d) _ _ kind)) ∙ is))
 
-    alone_told : (s t : A ⊎ B) → seen_alone s ≡ seen_alone t → FitsAlone s → FitsAlone t × (sum_alone t ≡ sum_alone s)
-    alone_told (inl x) (inl y) same fit = let h = law.told.told x y (let e : c.reading.seen x ≡ c.reading.seen y = cc in e) fit in (h.0, ap bytes_alone h.1)
-    alone_told (inl x) (inr y) same fit = absurd (let no : ⊥ = cc in no)
-    alone_told (inr x) (inl y) same fit = absurd (let no : ⊥ = cc in no)
-    alone_told (inr x) (inr y) same fit = (envelope_strings cases others).told x y (let e : cases.seen x ≡ cases.seen y = cc in e) fit
-
     -- the bytes of a value are read back, and no other bytes are read
-    pub alone_strings : ReadsStrings FitsAlone sum_alone seen_alone alone
+    pub alone_strings : ReadsStrings FitsAlone sum_alone seen_alone written_alone alone
     alone_strings = record {
       back = alone_back;
       only = λ d s held short is. alone_only d s (begins_as_list d) held short refl is;
-      told = alone_told;
+      fits = sums_fit c.reading.seen cases.seen c.Fits cases.Fits law.told.fits others.fits;
+      same = λ s. ap bytes_alone
+          (sums_written c.reading.seen cases.seen c.item (λ y. string (envelope cases y)) c.reading.item (λ m. string (seen_envelope cases m)) law.told.written
+          (λ y. ap string ((envelope_strings cases others).same y)) s);
     }

@@ -1,5 +1,5 @@
 -- What follows for a body that reads a type from bytes: `law` says that the bytes of a value are read back, and no other bytes are read.
-use Rattle.std.proofs.Common.{◌≡◌, ℕ, ◌^◌, ◌<◌, ◌⊎◌, inl, inr, List, length, sym, ap, ◌∙◌, subst, Result, Ok, Err, IfOk, IfErr, IsOkAnd}
+use Rattle.std.proofs.Common.{◌≡◌, ℕ, ◌^◌, ◌<◌, ◌⊎◌, inl, inr, List, length, sym, ap, ◌∙◌, subst, Result, Ok, Err, IfOk, IfErr}
 use Rattle.rlp.specs.DecoderError.{DecoderError}
 use Rattle.rlp.specs.DecoderError.TheVariants.{OutOfMemory}
 use Rattle.rlp.specs.Format.WrittenHeader.{AreBytes}
@@ -7,18 +7,20 @@ use Rattle.rlp_codec.specs.Form.{Fault, fault_of}
 use Rattle.rlp_codec.proofs.StringLaws.{ReadsStrings}
 
 -- a type that holds a value of another type is read as the other type
-pub strings_held : {A B M : Type 0} (value : B → A) (Fits : A → Type 0) (bytes : A → List ℕ) (seen : A → M) (read : List ℕ → Result M Fault)
-    → ReadsStrings Fits bytes seen read → ReadsStrings (λ b. Fits (value b)) (λ b. bytes (value b)) (λ b. seen (value b)) read
-strings_held value Fits bytes seen read law = record {
+pub strings_held : {A B M : Type 0} (value : B → A) (Fits : A → Type 0) (bytes : A → List ℕ) (seen : A → M) (written : M → List ℕ) (read : List ℕ → Result M Fault)
+    → ReadsStrings Fits bytes seen written read → ReadsStrings (λ b. Fits (value b)) (λ b. bytes (value b)) (λ b. seen (value b)) written read
+strings_held value Fits bytes seen written read law = record {
   back = λ b fit short. law.back (value b) fit short;
   only = λ d b held short is. law.only d (value b) held short is;
-  told = λ b c same fit. law.told (value b) (value c) same fit;
+  fits = λ b c same fit. law.fits (value b) (value c) same fit;
+  same = λ b. law.same (value b);
 }
 
 same_value : {M : Type 0} (x y : M) → (let r : Result M Fault = Ok x in r) ≡ Ok y → x ≡ y
 same_value x y is = cc
 
-module _ {A M : Type 0} (Fits : A → Type 0) (bytes : A → List ℕ) (seen : A → M) (read : List ℕ → Result M Fault) (law : ReadsStrings Fits bytes seen read) where
+module _ {A M : Type 0} (Fits : A → Type 0) (bytes : A → List ℕ) (seen : A → M) (written : M → List ℕ) (read : List ℕ → Result M Fault)
+    (law : ReadsStrings Fits bytes seen written read) where
   -- contracts see values that have the same bytes as the same
   pub bytes_tell : (x y : A) → Fits x → Fits y → length (bytes x) < 2 ^ 64 → bytes x ≡ bytes y → seen x ≡ seen y
   bytes_tell x y fit other short same =

@@ -1,8 +1,7 @@
 -- The scan of the encoding of an item for envelopes, header by header.
-use Rattle.std.proofs.Common.{◌≡◌, ℕ, ◌+◌, ◌-◌, ◌^◌, ◌<◌, ◌≤◌, ⊎_elim, Bool, true, false, if◌then◌else◌, List, [], ◌∷◌, ◌++◌, length, take, drop, get_or}
+use Rattle.std.proofs.Common.{◌≡◌, ℕ, ◌+◌, ◌-◌, ◌^◌, ◌<◌, ◌≤◌, ⊎_elim, true, false, if◌then◌else◌, List, [], ◌∷◌, ◌++◌, length, take, drop, get_or}
 use Rattle.std.proofs.Common.{refl, sym, ap, ◌∙◌, subst, arith, length-append, append_assoc, append-nil, take_at, drop_at, zero-add, Some, None, Ok, Err}
 use Rattle.std.proofs.lemmas.Bool.{cond-false, cond-true}
-use Rattle.std.proofs.lemmas.Slice.Eq.{bytes_eq-Decides}
 use Rattle.rlp.specs.DecoderError.{DecoderError}
 use Rattle.rlp.specs.FlatItem.{FlatItem}
 use Rattle.rlp.specs.PayloadInfo.{PayloadInfo}
@@ -16,7 +15,7 @@ use Rattle.rlp.specs.Format.Strict.{IsCanonical, IsCanonicalWithin, strict_fault
 use Rattle.rlp.specs.Format.Walk.{IsWalked}
 use Rattle.rlp.proofs.Lemmas.Encodings.{first_of_header, list_written, string_cases}
 use Rattle.rlp.proofs.Lemmas.Frames.{encoding_item, frame_front, framed_same, framing_is, item_some, value_is}
-use Rattle.rlp.proofs.Lemmas.RawItems.{list_by, raw_item_of-encoding, shallow_within}
+use Rattle.rlp.proofs.Lemmas.RawItems.{list_by, raw_item_of-encoding}
 use Rattle.rlp.specs.Values.RawItem.{raw_item_of}
 use Rattle.rlp_records.proofs.AfterByte.{with_first}
 use Rattle.rlp_records.proofs.Bounds.{one_item, told_encoding, told_no_encoding}

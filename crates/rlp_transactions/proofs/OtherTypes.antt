@@ -8,11 +8,12 @@ use Rattle.rlp.specs.Values.Sums.{OnSum, sum_item}
 use Rattle.rlp_codec.specs.Form.{Answer, Fault, map_value}
 use Rattle.rlp_codec.specs.Sums.{sum_map}
 use Rattle.rlp_codec.proofs.StringLaws.{ReadsStrings}
+use Rattle.rlp_codec.proofs.SumLaws.{sums_fit}
 use Rattle.rlp_records.specs.Alone.{bytes_alone}
 use Rattle.rlp_transactions.specs.OtherStrings.{string_or}
 
-module _ {A M : Type 0} (is : List ℕ → Bool) (Fits : A → Type 0) (item : A → Item) (seen : A → M) (read : List ℕ → Answer M Fault)
-    (law : ReadsStrings Fits (λ x. bytes_alone (item x)) seen (λ d. (read d).result))
+module _ {A M : Type 0} (is : List ℕ → Bool) (Fits : A → Type 0) (item : A → Item) (seen : A → M) (written : M → Item) (read : List ℕ → Answer M Fault)
+    (law : ReadsStrings Fits (λ x. bytes_alone (item x)) seen (λ m. bytes_alone (written m)) (λ d. (read d).result))
     (apart : (x : A) → length (bytes_alone (item x)) < 2 ^ 64 → is (bytes_alone (item x)) ≡ false) where
   -- the bytes of a value, or the string itself
   abbrev bytes_or : A ⊎ List ℕ → List ℕ
@@ -44,16 +45,14 @@ module _ {A M : Type 0} (is : List ℕ → Bool) (Fits : A → Type 0) (item : A
       let same : d ≡ e = cc in
       (subst (λ d. IsTrue (is d)) same told, same)
 
-  or_told : (s t : A ⊎ List ℕ) → sum_map seen (λ d. d) s ≡ sum_map seen (λ d. d) t → OnSum Fits (λ d. IsTrue (is d)) s
-      → OnSum Fits (λ d. IsTrue (is d)) t × (bytes_or t ≡ bytes_or s)
-  or_told (inl x) (inl y) same fit = law.told x y (let equal : seen x ≡ seen y = cc in equal) fit
-  or_told (inl x) (inr d) same fit = absurd (let no : ⊥ = cc in no)
-  or_told (inr d) (inl y) same fit = absurd (let no : ⊥ = cc in no)
-  or_told (inr d) (inr e) same fit = let equal : d ≡ e = cc in (subst (λ d. IsTrue (is d)) equal fit, sym equal)
+  written_by : (s : A ⊎ List ℕ) → bytes_alone (sum_item written string (sum_map seen (λ d. d) s)) ≡ bytes_or s
+  written_by (inl x) = law.same x
+  written_by (inr d) = refl
 
-  pub or_strings : ReadsStrings (OnSum Fits (λ d. IsTrue (is d))) bytes_or (sum_map seen (λ d. d)) read_or
+  pub or_strings : ReadsStrings (OnSum Fits (λ d. IsTrue (is d))) bytes_or (sum_map seen (λ d. d)) (λ m. bytes_alone (sum_item written string m)) read_or
   or_strings = record {
     back = or_back;
     only = λ d s held short given. or_only d s (is d) held short refl given;
-    told = or_told;
+    fits = sums_fit seen (λ d. d) Fits (λ d. IsTrue (is d)) law.fits (λ d e same. subst (λ d. IsTrue (is d)) same);
+    same = written_by;
   }

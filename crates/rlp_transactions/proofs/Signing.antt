@@ -29,9 +29,9 @@ transaction_apart t a fit short same =
 -- the same bytes have one meaning
 pub one_meaning : (one other : Signable) → FitsSigning one → FitsSigning other → length (signed_bytes one) < 2 ^ 64
     → signed_bytes one ≡ signed_bytes other → HaveOneMeaning one other
-one_meaning (a_transaction t) (a_transaction u) fit other short same = bytes_tell _ _ _ _ unsigned_strings t u fit other short same
+one_meaning (a_transaction t) (a_transaction u) fit other short same = bytes_tell _ _ _ _ _ unsigned_strings t u fit other short same
 one_meaning (a_transaction t) (an_authorization b) fit other short same = absurd (transaction_apart t b fit short same)
 one_meaning (an_authorization a) (a_transaction u) fit other short same = absurd (transaction_apart u a other (omega (arith, short, ap length same)) (sym same))
 one_meaning (an_authorization a) (an_authorization b) fit other short same =
     let c = struct_of authorization_fields in
-    bytes_tell _ _ _ _ (after_strings 5 [] (plain c) c.reads_strictly) a b fit other short same
+    bytes_tell _ _ _ _ _ (after_strings 5 [] (plain c) c.reads_strictly) a b fit other short same

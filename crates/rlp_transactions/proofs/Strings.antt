@@ -32,16 +32,17 @@ unsigned_low (inr (inr (inl t))) = omega arith
 unsigned_low (inr (inr (inr t))) = omega arith
 
 -- transactions of the types that are known
-pub transaction_strings : ReadsStrings transaction.Fits (λ t. bytes_alone (transaction.item t)) transaction.reading.seen (λ d. (transaction_alone d).result)
+pub transaction_strings : ReadsStrings transaction.Fits (λ t. bytes_alone (transaction.item t)) transaction.reading.seen
+    (λ m. bytes_alone (transaction.reading.item m)) (λ d. (transaction_alone d).result)
 transaction_strings =
-    strings_held as_sum _ _ _ _
+    strings_held as_sum _ _ _ _ _
     (alone_strings (plain signed_legacy_transaction) typed_transactions.cases (λ x. refl) low signed_legacy_transaction.reads_strictly typed_transactions.laws)
 
 -- transactions before they are signed
 pub unsigned_strings : ReadsStrings unsigned_transaction.Fits (λ t. bytes_alone (unsigned_transaction.item t)) unsigned_transaction.reading.seen
-    (λ d. (unsigned_alone d).result)
+    (λ m. bytes_alone (unsigned_transaction.reading.item m)) (λ d. (unsigned_alone d).result)
 unsigned_strings =
-    strings_held unsigned_sum _ _ _ _
+    strings_held unsigned_sum _ _ _ _ _
     (alone_strings (plain unsigned_legacy_transaction) unsigned_types.cases (λ x. refl) unsigned_low unsigned_legacy_transaction.reads_strictly unsigned_types.laws)
 
 list_known : (d : List ℕ) → begins_as_list d ≡ true → is_other d ≡ false
@@ -61,6 +62,8 @@ known_bytes t short = by (as_sum t) short
     by (inr y) short = known_type y
 
 -- transactions of every type
-pub any_strings : ReadsStrings any_transaction.Fits (λ t. bytes_alone (any_transaction.item t)) any_transaction.reading.seen (λ d. (any_alone d).result)
+pub any_strings : ReadsStrings any_transaction.Fits (λ t. bytes_alone (any_transaction.item t)) any_transaction.reading.seen
+    (λ m. bytes_alone (any_transaction.reading.item m)) (λ d. (any_alone d).result)
 any_strings =
-    strings_held any_sum _ _ _ _ (or_strings is_other transaction.Fits transaction.item transaction.reading.seen transaction_alone transaction_strings known_bytes)
+    strings_held any_sum _ _ _ _ _
+    (or_strings is_other transaction.Fits transaction.item transaction.reading.seen transaction.reading.item transaction_alone transaction_strings known_bytes)

@@ -39,10 +39,11 @@ version_by d false same is =
 
 -- the string of the byte 1
 abbrev pub wrapper_version : Codec WrapperVersion
-wrapper_version = string_type (λ version. ⊤) version_bytes (λ version. tt) version_of false (record {
+wrapper_version = string_type (λ version. ⊤) version_bytes (λ version. tt) (λ seen. 1 ∷ []) version_of false (record {
   back = λ version fit short. refl;
   only = λ d version held short is. (tt, version_by d (bytes_eq d (1 ∷ [])) refl is);
-  told = λ version other same fit. (tt, refl);
+  fits = λ version other same fit. tt;
+  same = λ version. refl;
 })
 
 -- EIP-7594: rlp([tx_payload_body, wrapper_version, blobs, commitments, cell_proofs])

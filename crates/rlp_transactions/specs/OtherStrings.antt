@@ -15,8 +15,9 @@ use Rattle.rlp_reading.proofs.Lemmas.Strings.{string_list}
 use Rattle.rlp_reading.proofs.Lemmas.StringsHeld.{ReadsHeld, held_begins, held_fault, held_only, held_reads}
 use Rattle.rlp_reading.proofs.Lemmas.Sums.{list_first}
 use Rattle.rlp_codec.specs.Form.{Answer, Fault, Form, here, map_answer, map_value, seen_fault, string_of}
-use Rattle.rlp_codec.specs.Laws.{GivesOnly, IsLawful, IsSeen, viewed}
+use Rattle.rlp_codec.specs.Laws.{GivesOnly, IsLawful, viewed}
 use Rattle.rlp_codec.specs.Sums.{sum_map}
+use Rattle.rlp_codec.proofs.SumLaws.{sums_fit, sums_written}
 
 -- What a view gives whose string is r: the string if it is one that `is` tells, and else what the type gives.
 abbrev pub string_or : {M : Type 0} → (List ℕ → Bool) → Answer M Fault → Result (List ℕ) Fault → Answer (M ⊎ List ℕ) Fault
@@ -31,6 +32,7 @@ or_string c is = record {
   reading = record {
     M = c.reading.M ⊎ List ℕ;
     seen = sum_map c.reading.seen (λ d. d);
+    item = sum_item c.reading.item string;
     read = λ v. string_or is (c.reading.read v) (string_of v);
     takes_memory = true;
   };
@@ -97,17 +99,12 @@ module _ {A : Type 0} (c : Form A) (is : List ℕ → Bool) (apart : (x : A) (d 
   or_only law b s (Err e) bytes fits held given = value_only law b s (c.reading.read (strict_view_of b)).result bytes fits refl given
   or_only law b s (Ok d) bytes fits held given = string_only law b d s (is d) bytes fits held refl given
 
-  or_told : IsSeen c → (s t : A ⊎ List ℕ) → (or_string c is).reading.seen s ≡ (or_string c is).reading.seen t → (or_string c is).Fits s
-      → (or_string c is).Fits t × (sum_item c.item string t ≡ sum_item c.item string s)
-  or_told law (inl x) (inl y) same fit = law.told x y (let equal : c.reading.seen x ≡ c.reading.seen y = cc in equal) fit
-  or_told law (inl x) (inr d) same fit = absurd (let no : ⊥ = cc in no)
-  or_told law (inr d) (inl y) same fit = absurd (let no : ⊥ = cc in no)
-  or_told law (inr d) (inr e) same fit =
-      let equal : d ≡ e = cc in (subst (λ d. IsTrue (is d)) equal fit, ap string (sym equal))
-
   pub or_lawful : IsLawful c → IsLawful (or_string c is)
   or_lawful law = record {
-    told = record { told = or_told law.told };
+    told = record {
+      fits = sums_fit c.reading.seen (λ d. d) c.Fits (λ d. IsTrue (is d)) law.told.fits (λ d e same. subst (λ d. IsTrue (is d)) same);
+      written = sums_written c.reading.seen (λ d. d) c.item string c.reading.item string law.told.written (λ d. refl);
+    };
     back = λ is_strict. record { back = or_back law is_strict };
     exact = record {
       only = λ b s bytes fits given. or_only law.exact b s (view_string (strict_view_of b)) bytes fits (held_reads (strict_view_of b) bytes fits) given;

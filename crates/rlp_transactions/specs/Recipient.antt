@@ -54,5 +54,5 @@ recipient_told (Account address) =
 -- the string of the account's bytes, or the empty string
 abbrev pub recipient : Codec Recipient
 recipient =
-    string_type IsRecipient recipient_bytes (λ r. (is_account r, recipient_bytes r)) (read_kind account_of) false
+    string_type IsRecipient recipient_bytes (λ r. (is_account r, recipient_bytes r)) (λ m. m.1) (read_kind account_of) false
     (kinds_read IsRecipient recipient_bytes is_account account_of (record { of_kind = recipient_told }))

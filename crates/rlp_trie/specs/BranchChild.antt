@@ -8,10 +8,10 @@ use Rattle.rlp.specs.Format.WrittenHeader.{AreBytes}
 use Rattle.rlp_codec.specs.FirstItems.{item_type}
 use Rattle.rlp.specs.Form.{Fault, here, map_value}
 use Rattle.rlp_codec.proofs.FirstItemLaws.{ReadsItems, items_lawful}
-use Rattle.rlp_codec.proofs.ListLaws.{is_mapped}
+use Rattle.rlp_codec.proofs.ListLaws.{is_mapped, options_fit}
 use Rattle.rlp.specs.Codec.{Codec, lawful, newtype}
-use Rattle.rlp_trie.specs.Child.{IsChild, child_item, child_of, seen_child}
-use Rattle.rlp_trie.specs.ChildLaws.{child_back, child_only, child_some, child_told}
+use Rattle.rlp_trie.specs.Child.{IsChild, child_item, child_of, seen_child, written_child}
+use Rattle.rlp_trie.specs.ChildLaws.{child_back, child_fits, child_only, child_same, child_some}
 use Rattle.rlp_trie.specs.EmptyString.{empty_found, empty_only, is_empty_string, other_item}
 use Rattle.rlp_trie.specs.declared.branch_child.BranchChild.{BranchChild}
 use Rattle.rlp_trie.specs.declared.child.Child.{Child}
@@ -28,6 +28,11 @@ IsPlace o = IfSome o IsChild
 -- what is seen of the child, if there is one
 abbrev pub seen_place : Option Child → Option (List ℕ ⊎ List ℕ)
 seen_place o = option_map seen_child o
+
+-- the item of a place, by what contracts see of the place
+abbrev pub written_place : Option (List ℕ ⊎ List ℕ) → Item
+written_place None = string []
+written_place (Some m) = written_child m
 
 -- what the bytes of an item give: no child for the empty string, and else a child
 abbrev pub place_of : List ℕ → Result (Option (List ℕ ⊎ List ℕ)) Fault
@@ -55,18 +60,21 @@ place_by b (Some c) false bytes fits found is =
     let m = is_mapped (child_of b) Some _ (sym (cond-false (is_empty_string b) _ _ found) ∙ is) in
     child_only b c bytes fits (m.is ∙ ap Ok (some_same m.value (seen_child c) m.then))
 
-place_told : (o p : Option Child) → seen_place o ≡ seen_place p → IsPlace o → IsPlace p × (place_item p ≡ place_item o)
-place_told None None same is = (tt, refl)
-place_told None (Some d) same is = absurd (let no : ⊥ = cc in no)
-place_told (Some c) None same is = absurd (let no : ⊥ = cc in no)
-place_told (Some c) (Some d) same is = child_told c d (let one : seen_child c ≡ seen_child d = cc in one) is
+place_same : (o : Option Child) → written_place (seen_place o) ≡ place_item o
+place_same None = refl
+place_same (Some c) = child_same c
 
-pub place_items : ReadsItems IsPlace place_item seen_place (λ b. here (place_of b))
-place_items = record { back = place_back; only = λ b o bytes fits is. place_by b o (is_empty_string b) bytes fits refl is; told = place_told }
+pub place_items : ReadsItems IsPlace place_item seen_place written_place (λ b. here (place_of b))
+place_items = record {
+  back = place_back;
+  only = λ b o bytes fits is. place_by b o (is_empty_string b) bytes fits refl is;
+  fits = options_fit seen_child IsChild child_fits;
+  same = place_same;
+}
 
 -- the first item
 abbrev pub place : Codec (Option Child)
-place = lawful (item_type IsPlace place_item seen_place (λ b. here (place_of b)) true) (items_lawful IsPlace place_item seen_place (λ b. here (place_of b)) true place_items)
+place = lawful (item_type IsPlace place_item seen_place written_place (λ b. here (place_of b)) true) (items_lawful _ _ _ _ _ true place_items)
 
 -- the place that it holds
 abbrev pub branch_child : Codec BranchChild

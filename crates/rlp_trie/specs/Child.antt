@@ -4,6 +4,7 @@ use Rattle.std.proofs.Common.{inl, inr}
 use Rattle.rlp.specs.Format.Item.{Item, string}
 use Rattle.rlp.specs.Format.Split.{begins_as_list}
 use Rattle.rlp.specs.Values.RawItem.{raw_item_of}
+use Rattle.rlp.specs.Values.Sums.{sum_item}
 use Rattle.rlp.specs.Views.View.{strict_view_of}
 use Rattle.rlp.specs.Form.{Fault, and_then, fixed_of, is_too_big, map_value, raw_item, raw_of, string_of}
 use Rattle.rlp_trie.specs.declared.child.Child.{Child}
@@ -23,6 +24,10 @@ IsChild (Inline node) = raw_item.Fits node.item
 abbrev pub seen_child : Child → List ℕ ⊎ List ℕ
 seen_child (Node hash) = inl hash.0
 seen_child (Inline node) = inr node.item
+
+-- the item of a child, by what contracts see of the child
+abbrev pub written_child : List ℕ ⊎ List ℕ → Item
+written_child = sum_item string raw_item_of
 
 -- ---- what the bytes of an item give
 

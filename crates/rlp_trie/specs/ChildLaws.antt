@@ -10,7 +10,7 @@ use Rattle.rlp.specs.Format.Split.{begins_as_list}
 use Rattle.rlp.specs.Format.WrittenHeader.{AreBytes}
 use Rattle.rlp.specs.Values.RawItem.{deepest_raw_item, raw_item_of}
 use Rattle.rlp.specs.Views.Depth.{depth}
-use Rattle.rlp.proofs.Lemmas.RawItems.{raw_is, string_kind}
+use Rattle.rlp_reading.proofs.Lemmas.RawItems.{raw_is, string_kind}
 use Rattle.rlp_codec.specs.FirstItems.{item_type}
 use Rattle.rlp.specs.Form.{Fault, custom, here, is_too_big, map_value, raw_of}
 use Rattle.rlp_codec.proofs.FirstItemLaws.{ReadsItems, items_lawful}
@@ -18,7 +18,7 @@ use Rattle.rlp_codec.proofs.ListLaws.{is_mapped}
 use Rattle.rlp_codec.proofs.RawLaws.{raw_fits, raw_of-canonical}
 use Rattle.rlp_codec.proofs.StringLaws.{array_lawful}
 use Rattle.rlp.specs.Codec.{Codec, lawful}
-use Rattle.rlp_trie.specs.Child.{IsChild, child_item, child_of, hash_of, inline_of, seen_child}
+use Rattle.rlp_trie.specs.Child.{IsChild, child_item, child_of, hash_of, inline_of, seen_child, written_child}
 use Rattle.rlp_trie.specs.declared.child.Child.{Child}
 use Rattle.rlp_trie.specs.declared.child.Child.TheVariants.{Node, Inline}
 use Rattle.rlp_trie.specs.declared.inline_node.InlineNode.{InlineNode}
@@ -95,20 +95,23 @@ child_by b c false bytes fits kind is = string_only b c bytes fits (sym (cond-fa
 pub child_only : (b : List ℕ) (c : Child) → AreBytes b → length b < 2 ^ 64 → child_of b ≡ Ok (seen_child c) → IsChild c × (b ≡ encoding (child_item c))
 child_only b c bytes fits is = child_by b c (begins_as_list b) bytes fits refl is
 
-pub child_told : (c d : Child) → seen_child c ≡ seen_child d → IsChild c → IsChild d × (child_item d ≡ child_item c)
-child_told (Node hash) (Node other) same is =
-    let bytes : hash.0 ≡ other.0 = cc in (subst (λ d. length d ≡ 32) bytes is, ap string (sym bytes))
-child_told (Node hash) (Inline node) same is = absurd (let no : ⊥ = cc in no)
-child_told (Inline node) (Node hash) same is = absurd (let no : ⊥ = cc in no)
-child_told (Inline node) (Inline other) same is =
-    let bytes : node.item ≡ other.item = cc in (subst (λ d. d ≡ encoding (raw_item_of d)) bytes is, ap raw_item_of (sym bytes))
+pub child_fits : (c d : Child) → seen_child c ≡ seen_child d → IsChild c → IsChild d
+child_fits (Node hash) (Node other) same is = subst (λ d. length d ≡ 32) (let bytes : hash.0 ≡ other.0 = cc in bytes) is
+child_fits (Node hash) (Inline node) same is = absurd (let no : ⊥ = cc in no)
+child_fits (Inline node) (Node hash) same is = absurd (let no : ⊥ = cc in no)
+child_fits (Inline node) (Inline other) same is =
+    subst (λ d. d ≡ encoding (raw_item_of d)) (let bytes : node.item ≡ other.item = cc in bytes) is
 
-pub child_items : ReadsItems IsChild child_item seen_child (λ b. here (child_of b))
-child_items = record { back = child_back; only = child_only; told = child_told }
+pub child_same : (c : Child) → written_child (seen_child c) ≡ child_item c
+child_same (Node hash) = refl
+child_same (Inline node) = refl
+
+pub child_items : ReadsItems IsChild child_item seen_child written_child (λ b. here (child_of b))
+child_items = record { back = child_back; only = child_only; fits = child_fits; same = child_same }
 
 -- the first item
 abbrev pub child : Codec Child
-child = lawful (item_type IsChild child_item seen_child (λ b. here (child_of b)) true) (items_lawful IsChild child_item seen_child (λ b. here (child_of b)) true child_items)
+child = lawful (item_type IsChild child_item seen_child written_child (λ b. here (child_of b)) true) (items_lawful _ _ _ _ _ true child_items)
 
 -- ---- what children are written as
 

@@ -5,7 +5,7 @@ use Rattle.std.proofs.lemmas.Bool.{eqb-true}
 use Rattle.rlp.specs.Format.Encoding.{IsSized, encoding}
 use Rattle.rlp.specs.Format.Item.{Item, string}
 use Rattle.rlp.specs.Format.WrittenHeader.{big_endian, written_header}
-use Rattle.rlp.proofs.Lemmas.Encodings.{encoding_same}
+use Rattle.rlp_format.proofs.Lemmas.Encodings.{encoding_same}
 
 -- whether bytes are the encoding of the empty string: the byte 0x80
 abbrev pub is_empty_string : List ℕ → Bool

@@ -1,6 +1,6 @@
 -- How paths of leaves and of extensions are written and read.
 use Rattle.std.specs.Prelude.{ℕ, ◌≡◌, ⊤, Bool, true, false, List, Option, Some, None, Result, Ok, Err}
-use Rattle.std.proofs.Common.{refl, sym, ap, ◌∙◌}
+use Rattle.std.proofs.Common.{refl, ap, ◌∙◌}
 use Rattle.std.specs.Vec.{vec_items}
 use Rattle.std.proofs.lemmas.Bool.{cond-false}
 use Rattle.rlp_codec.proofs.StringLaws.{ReadsStrings}
@@ -26,14 +26,16 @@ kind_only false d x (Some false) true none is = absurd (let no : ⊥ = cc in no)
 kind_only false d x (Some false) false none is = cc
 
 -- the bytes of a path are read back, and no others
-pub path_strings : (flag : ℕ) → ReadsStrings (λ (p : Path flag). ⊤) (λ p. vec_items p.bytes) (λ p. vec_items p.bytes) (path_of (is_leaf_flag flag))
+pub path_strings : (flag : ℕ) → ReadsStrings (λ (p : Path flag). ⊤) (λ p. vec_items p.bytes) (λ p. vec_items p.bytes) (λ d. d) (path_of (is_leaf_flag flag))
 path_strings flag = record {
   back = λ p fit short. path_again (is_leaf_flag flag) (vec_items p.bytes) p.encoded p.some_nibble;
   only = λ d p bytes short is.
       (tt, kind_only (is_leaf_flag flag) d (vec_items p.bytes) (ends_in_leaf d) (is_empty_extension d) refl is);
-  told = λ p q same fit. (tt, sym same);
+  fits = λ p q same fit. tt;
+  same = λ p. refl;
 }
 
 -- the string of the bytes
 abbrev pub path : (flag : ℕ) → Codec (Path flag)
-path flag = string_type (λ (p : Path flag). ⊤) (λ p. vec_items p.bytes) (λ p. vec_items p.bytes) (path_of (is_leaf_flag flag)) true (path_strings flag)
+path flag =
+    string_type (λ (p : Path flag). ⊤) (λ p. vec_items p.bytes) (λ p. vec_items p.bytes) (λ d. d) (path_of (is_leaf_flag flag)) true (path_strings flag)

@@ -3,6 +3,7 @@ use Rattle.std.specs.Prelude.{ℕ, ⊤, ◌⊎◌, ◌==◌, if◌then◌else◌
 use Rattle.std.proofs.Common.{inl, inr}
 use Rattle.rlp.specs.DecoderError.{DecoderError}
 use Rattle.rlp.specs.Format.Item.{Item, string}
+use Rattle.rlp.specs.Values.Sums.{sum_item}
 use Rattle.rlp.specs.Views.View.{View, item_at, item_count, strict_view_of, view_string}
 use Rattle.rlp.specs.Form.{Answer, Fault, go_on, here, incorrect_list_len, map_answer, seen_fault}
 use Rattle.rlp_trie.specs.EmptyString.{is_empty_string}
@@ -36,6 +37,10 @@ seen_node Empty = inl tt
 seen_node (Leaf l) = inr (inl (leaf.reading.seen l))
 seen_node (Extension e) = inr (inr (inl (extension.reading.seen e)))
 seen_node (Branch b) = inr (inr (inr (branch.reading.seen b)))
+
+-- the item of a node, by what contracts see of the node
+abbrev pub written_node : SeenNode → Item
+written_node = sum_item (λ empty. string []) (sum_item leaf.reading.item (sum_item extension.reading.item branch.reading.item))
 
 -- ---- reading
 

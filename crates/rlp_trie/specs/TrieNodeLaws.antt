@@ -6,8 +6,8 @@ use Rattle.rlp.specs.DecoderError.{DecoderError}
 use Rattle.rlp.specs.Format.Encoding.{IsSized, encoding}
 use Rattle.rlp.specs.Format.Item.{Item, list_of, string}
 use Rattle.rlp.specs.Format.WrittenHeader.{AreBytes}
-use Rattle.rlp.proofs.Lemmas.StringsHeld.{held_only}
-use Rattle.rlp.proofs.Lemmas.WholeLists.{strict_first, strict_item_count, strict_items, strict_list_told}
+use Rattle.rlp_reading.proofs.Lemmas.StringsHeld.{held_only}
+use Rattle.rlp_reading.proofs.Lemmas.WholeLists.{strict_first, strict_item_count, strict_items, strict_list_told}
 use Rattle.rlp.specs.Views.View.{item_at, item_count, strict_view_of}
 use Rattle.rlp_codec.specs.FirstItems.{item_type}
 use Rattle.rlp.specs.Form.{Answer, Fault, and_then, incorrect_list_len, map_value, seen_fault}
@@ -19,7 +19,7 @@ use Rattle.rlp_trie.specs.EmptyString.{empty_found, empty_only, is_empty_string,
 use Rattle.rlp_trie.specs.HexPrefix.{is_leaf_flag}
 use Rattle.rlp_trie.specs.Path.{path}
 use Rattle.rlp_trie.specs.Trie.{branch, branch_fields, extension, extension_fields, leaf, leaf_fields}
-use Rattle.rlp_trie.specs.TrieNode.{IsTrieNode, SeenNode, begins_as_leaf, is_leaf_item, is_leaf_string, list_of_len, node_item, node_of, pair_of, seen_node}
+use Rattle.rlp_trie.specs.TrieNode.{IsTrieNode, SeenNode, begins_as_leaf, is_leaf_item, is_leaf_string, list_of_len, node_item, node_of, pair_of, seen_node, written_node}
 use Rattle.rlp_trie.specs.declared.branch.Branch.{Branch}
 use Rattle.rlp_trie.specs.declared.extension.Extension.{Extension}
 use Rattle.rlp_trie.specs.declared.leaf.Leaf.{Leaf}
@@ -146,32 +146,35 @@ module _ (b : List ℕ) (bytes : AreBytes b) (fits : length b < 2 ^ 64) where
 pub node_only : (b : List ℕ) (n : TrieNode) → AreBytes b → length b < 2 ^ 64 → (node_of b).result ≡ Ok (seen_node n) → IsTrieNode n × (b ≡ encoding (node_item n))
 node_only b n bytes fits is = node_by b bytes fits n (is_empty_string b) refl is
 
--- nodes that are seen alike are written as one item
-node_told : (n m : TrieNode) → seen_node n ≡ seen_node m → IsTrieNode n → IsTrieNode m × (node_item m ≡ node_item n)
-node_told node.Empty node.Empty same fit = (tt, refl)
-node_told node.Empty (node.Leaf m) same fit = absurd (let no : ⊥ = cc in no)
-node_told node.Empty (node.Extension f) same fit = absurd (let no : ⊥ = cc in no)
-node_told node.Empty (node.Branch c) same fit = absurd (let no : ⊥ = cc in no)
-node_told (node.Leaf l) node.Empty same fit = absurd (let no : ⊥ = cc in no)
-node_told (node.Leaf l) (node.Leaf m) same fit = leaf.reads_strictly.told.told l m (let one : leaf.reading.seen l ≡ leaf.reading.seen m = cc in one) fit
-node_told (node.Leaf l) (node.Extension f) same fit = absurd (let no : ⊥ = cc in no)
-node_told (node.Leaf l) (node.Branch c) same fit = absurd (let no : ⊥ = cc in no)
-node_told (node.Extension e) node.Empty same fit = absurd (let no : ⊥ = cc in no)
-node_told (node.Extension e) (node.Leaf m) same fit = absurd (let no : ⊥ = cc in no)
-node_told (node.Extension e) (node.Extension f) same fit =
-    extension.reads_strictly.told.told e f (let one : extension.reading.seen e ≡ extension.reading.seen f = cc in one) fit
-node_told (node.Extension e) (node.Branch c) same fit = absurd (let no : ⊥ = cc in no)
-node_told (node.Branch b) node.Empty same fit = absurd (let no : ⊥ = cc in no)
-node_told (node.Branch b) (node.Leaf m) same fit = absurd (let no : ⊥ = cc in no)
-node_told (node.Branch b) (node.Extension f) same fit = absurd (let no : ⊥ = cc in no)
-node_told (node.Branch b) (node.Branch c) same fit = branch.reads_strictly.told.told b c (let one : branch.reading.seen b ≡ branch.reading.seen c = cc in one) fit
+-- if two nodes are seen alike and one of the two fits, both fit
+node_fits : (n m : TrieNode) → seen_node n ≡ seen_node m → IsTrieNode n → IsTrieNode m
+node_fits n node.Empty same fit = tt
+node_fits node.Empty (node.Leaf m) same fit = absurd (let no : ⊥ = cc in no)
+node_fits node.Empty (node.Extension f) same fit = absurd (let no : ⊥ = cc in no)
+node_fits node.Empty (node.Branch c) same fit = absurd (let no : ⊥ = cc in no)
+node_fits (node.Leaf l) (node.Leaf m) same fit = leaf.reads_strictly.told.fits l m (let one : leaf.reading.seen l ≡ leaf.reading.seen m = cc in one) fit
+node_fits (node.Leaf l) (node.Extension f) same fit = absurd (let no : ⊥ = cc in no)
+node_fits (node.Leaf l) (node.Branch c) same fit = absurd (let no : ⊥ = cc in no)
+node_fits (node.Extension e) (node.Leaf m) same fit = absurd (let no : ⊥ = cc in no)
+node_fits (node.Extension e) (node.Extension f) same fit =
+    extension.reads_strictly.told.fits e f (let one : extension.reading.seen e ≡ extension.reading.seen f = cc in one) fit
+node_fits (node.Extension e) (node.Branch c) same fit = absurd (let no : ⊥ = cc in no)
+node_fits (node.Branch b) (node.Leaf m) same fit = absurd (let no : ⊥ = cc in no)
+node_fits (node.Branch b) (node.Extension f) same fit = absurd (let no : ⊥ = cc in no)
+node_fits (node.Branch b) (node.Branch c) same fit = branch.reads_strictly.told.fits b c (let one : branch.reading.seen b ≡ branch.reading.seen c = cc in one) fit
 
-pub node_items : ReadsItems IsTrieNode node_item seen_node node_of
-node_items = record { back = node_back; only = node_only; told = node_told }
+node_same : (n : TrieNode) → written_node (seen_node n) ≡ node_item n
+node_same node.Empty = refl
+node_same (node.Leaf l) = leaf.reads_strictly.told.written l
+node_same (node.Extension e) = extension.reads_strictly.told.written e
+node_same (node.Branch b) = branch.reads_strictly.told.written b
+
+pub node_items : ReadsItems IsTrieNode node_item seen_node written_node node_of
+node_items = record { back = node_back; only = node_only; fits = node_fits; same = node_same }
 
 -- the first item
 abbrev pub trie_node : Codec TrieNode
-trie_node = lawful (item_type IsTrieNode node_item seen_node node_of true) (items_lawful IsTrieNode node_item seen_node node_of true node_items)
+trie_node = lawful (item_type IsTrieNode node_item seen_node written_node node_of true) (items_lawful _ _ _ _ _ true node_items)
 
 -- ---- what nodes are written as
 

@@ -1,4 +1,4 @@
-use Rattle.std.proofs.Common.{◌≡◌, ◌<◌, ◌^◌, length, arith, rules}
+use Rattle.std.proofs.Common.{◌≡◌, arith, rules}
 use Rattle.rlp.specs.Format.Encoding.{encoding}
 use Rattle.rlp_codec.specs.Laws.{form_of}
 use Rattle.rlp_records.proofs.SeenSame.{seen_same}

@@ -6,7 +6,7 @@ use Rattle.rlp_headers.proofs.typed_receipt.TypedReceipt.from_bytes.Goals as goa
 
 pub returns-clause-whole : goal.returns-clause-whole
 returns-clause-whole c =
-    read_whole _ _ _ _ receipt_strings c.args.bytes.now (omega arith) (bytes_held c.args.bytes.now c.type_inv.bytes) c.read_alone.result c.read_alone.ensures.value
+    read_whole _ _ _ _ _ receipt_strings c.args.bytes.now (omega arith) (bytes_held c.args.bytes.now c.type_inv.bytes) c.read_alone.result c.read_alone.ensures.value
 
 pub returns-clause-memory : goal.returns-clause-memory
-returns-clause-memory c = λ r fit is. read_memory _ _ _ _ receipt_strings c.args.bytes.now (omega arith) _ r fit is c.read_alone.result c.read_alone.ensures.fault
+returns-clause-memory c = λ r fit is. read_memory _ _ _ _ _ receipt_strings c.args.bytes.now (omega arith) _ r fit is c.read_alone.result c.read_alone.ensures.fault

@@ -6,8 +6,8 @@ use Rattle.rlp_transactions.proofs.transaction.Transaction.from_bytes.Goals as g
 
 pub returns-clause-whole : goal.returns-clause-whole
 returns-clause-whole c =
-    read_whole _ _ _ _ transaction_strings c.args.bytes.now (omega arith) (bytes_held c.args.bytes.now c.type_inv.bytes) c.read_alone.result c.read_alone.ensures.value
+    read_whole _ _ _ _ _ transaction_strings c.args.bytes.now (omega arith) (bytes_held c.args.bytes.now c.type_inv.bytes) c.read_alone.result c.read_alone.ensures.value
 
 pub returns-clause-memory : goal.returns-clause-memory
 returns-clause-memory c = λ t fit is.
-    read_memory _ _ _ _ transaction_strings c.args.bytes.now (omega arith) _ t fit is c.read_alone.result c.read_alone.ensures.fault
+    read_memory _ _ _ _ _ transaction_strings c.args.bytes.now (omega arith) _ t fit is c.read_alone.result c.read_alone.ensures.fault
