@@ -1,13 +1,12 @@
 -- What is shown of node records.
-use Rattle.std.specs.Prelude.{ℕ, ◌≡◌, ◌==◌, ◌&&◌, ◌||◌, ◌⊎◌, nat_lt, if◌then◌else◌, Bool, List, codes, length}
+use Rattle.std.specs.Prelude.{ℕ, ◌≡◌, ◌==◌, ◌&&◌, ◌||◌, ◌⊎◌, nat_lt, if◌then◌else◌, Bool, List, codes, length, refl, Result, Ok, Err}
 use Rattle.std.specs.{Int.Digits.number_from_digits, Str.bytes_eq}
 use Rattle.std.proofs.Common.{ap, inl, inr}
-use Rattle.rlp.specs.Format.Item.{Item, Items, string, list}
-use Rattle.rlp.specs.{Form.begins_with_zero, Values.RawItem.raw_item_of}
+use Rattle.rlp.specs.{DecoderError.DecoderError, Form.begins_with_zero, Format.Item.Item, Format.StringReading.read_string, Values.RawItem.raw_item_of}
 use Rattle.rlp_node_record.specs.NodeFields.{node_fields, pair_fields}
 use Rattle.rlp_print.specs.Display.{Display, a_list, a_number, a_string, an_object, bytes_as, content_same, field, one, through}
 use Rattle.rlp_print.specs.Value.{Content, Value, content, bytes, number}
-use Rattle.rlp_print.specs.Items.{item_told, item_value}
+use Rattle.rlp_print.specs.Items.{item_shown, raw_apart, shown_within}
 use Rattle.rlp_print.specs.declared.{sink.NumberKind.TheVariants.Decimal, sink.BytesKind.TheVariants.Any, sink.BytesKind.TheVariants.Ip, sink.BytesKind.TheVariants.Word}
 
 -- ---- values of the keys that EIP-778 defines
@@ -32,29 +31,43 @@ string_content key d =
     else if is_port_key key then port_content d
     else bytes Any d
 
--- the value of a key
-abbrev pub key_value : List ℕ → Item → Value
-key_value key (string d) = content (string_content key d)
-key_value key (list xs) = item_value (list xs)
+-- the value of a key, which is kept as these bytes, by the string that they begin with
+abbrev pub key_value_by : List ℕ → List ℕ → Result (List ℕ) DecoderError → Value
+key_value_by key b (Ok d) = content (string_content key d)
+key_value_by key b (Err e) = shown_within 256 false b
 
--- What is told of the value of a key: what is shown of a string, or the items of a list.
-abbrev pub key_told : List ℕ × Item → Content ⊎ Items
-key_told (key, string d) = inl (string_content key d)
-key_told (key, list xs) = inr xs
+abbrev pub key_value : List ℕ → List ℕ → Value
+key_value key b = key_value_by key b (read_string b)
 
-pub key_apart : (p q : List ℕ × Item) → key_value p.0 p.1 ≡ key_value q.0 q.1 → key_told p ≡ key_told q
-key_apart (key, string d) (other, string e) is = ap inl (content_same is)
-key_apart (key, list xs) (other, list ys) is = let same = item_told (list xs) (list ys) is in cc
-key_apart _ _ is = absurd cc
+-- What is told of the value of a key: what is shown of a string, or another item.
+abbrev pub key_told_by : List ℕ → List ℕ → Result (List ℕ) DecoderError → Content ⊎ Item
+key_told_by key b (Ok d) = inl (string_content key d)
+key_told_by key b (Err e) = inr (raw_item_of b)
+
+by_strings : (key other b c : List ℕ) (r s : Result (List ℕ) DecoderError) → read_string b ≡ r → read_string c ≡ s
+    → key_value_by key b r ≡ key_value_by other c s → key_told_by key b r ≡ key_told_by other c s
+unfolding shown_within
+by_strings key other b c (Ok d) (Ok e) first second is = ap inl (content_same is)
+by_strings key other b c (Err d) (Err e) first second is = ap inr (raw_apart false b c is)
+by_strings key other b c (Ok d) (Err e) first second is = let items = ap (item_shown (shown_within 255) false c) second in absurd cc
+by_strings key other b c (Err d) (Ok e) first second is = let items = ap (item_shown (shown_within 255) false b) first in absurd cc
+
+pub key_apart : (p q : List ℕ × List ℕ) → key_value p.0 p.1 ≡ key_value q.0 q.1 → key_told_by p.0 p.1 (read_string p.1) ≡ key_told_by q.0 q.1 (read_string q.1)
+key_apart p q is = by_strings p.0 q.0 p.1 q.1 (read_string p.1) (read_string q.1) refl refl is
 
 -- ---- records
 
 -- values, each with its key
-abbrev pub key_value_display : Display (List ℕ × Item)
-key_value_display = record { shown = λ p. key_value p.0 p.1; Told = Content ⊎ Items; told = key_told; apart = key_apart }
+abbrev pub key_value_display : Display (List ℕ × List ℕ)
+key_value_display = record {
+  shown = λ p. key_value p.0 p.1;
+  Told = Content ⊎ Item;
+  told = λ p. key_told_by p.0 p.1 (read_string p.1);
+  apart = key_apart;
+}
 
 abbrev pub node_pair_display : Display pair_fields.reading.M
-node_pair_display = an_object (through (λ p. (p.0, (p.0, raw_item_of p.1.0))) (
+node_pair_display = an_object (through (λ p. (p.0, (p.0, p.1.0))) (
     field (codes "key") (codes "key") (bytes_as Word) (one (codes "value") (codes "value") key_value_display)))
 
 abbrev pub node_fields_display : Display node_fields.reading.M

@@ -1,15 +1,12 @@
 //! Items of any kind, and nodes of the trie.
 
-ghost use Rattle.std.specs.Prelude.{◌≡◌, ◌≢◌, ◌∷◌, [], IfOk, length, MatchOption, not, OnOk};
-ghost use Rattle.rlp.specs.Format.Item.{list};
-ghost use Rattle.rlp.specs.Format.StringReading.{read_string};
-ghost use Rattle.rlp.specs.Values.RawItem.{item_within, string_or_none};
-ghost use Rattle.rlp.specs.Views.View.{item_views, view_of};
+ghost use Rattle.std.specs.Prelude.{◌≡◌, IfOk, not, OnOk, true, false};
 ghost use Rattle.rlp.specs.Codec.{raw_item};
-ghost use Rattle.rlp_trie.specs.{BranchChild.place_item, Child.child_item};
+ghost use Rattle.rlp.specs.Views.View.{item_views};
+ghost use Rattle.rlp_trie.specs.{BranchChild.branch_child, ChildLaws.child};
 ghost use Rattle.rlp_print.specs.Display.{seen_as};
-ghost use Rattle.rlp_print.specs.Items.{branch_entries, item_value, kept_value, key_of, kind_of, pair_entries, path_fields, raw_item_display, value_by, view_items, kept_display, node_display, node_hash, node_parts};
-ghost use Rattle.rlp_print.specs.Value.{after, array, object, values_of};
+ghost use Rattle.rlp_print.specs.Items.{branch_entries, child_display, items_shown, key_of, kind_of, node_display, node_hash, node_parts, node_shown, pair_entries, path_fields, place_display, raw_item_display, shown_within, string_at};
+ghost use Rattle.rlp_print.specs.Value.{after, object, values_of};
 
 use crate::show::{
     ByForm, Items, Show, ShowFields, field, fields, give_fields, inside, place_in, show_fields,
@@ -59,22 +56,11 @@ fn items_in<'a>(alloc: Global, list: &Rlp<'a>) -> Result<Vec<Rlp<'a>>, AllocErro
 
 /// Returns the string that bytes begin with, or no bytes.
 fn string_in(bytes: &[u8]) -> &[u8]
-    ensures { result.now ≡ string_or_none (read_string bytes.now) }
+    ensures { result.now ≡ string_at bytes.now }
 {
     match Rlp::new(bytes).decoder().string() {
         Ok(string) => string,
         Err(_) => &[],
-    }
-}
-
-/// Returns the items of a list of two.
-fn pair_in<'a, 'b>(items: &'b [Rlp<'a>]) -> Option<(&'b Rlp<'a>, &'b Rlp<'a>)>
-    ensures { MatchOption result (length items.now ≢ 2)
-        (λ p. items.now ≡ p.0.now ∷ p.1.now ∷ []) }
-{
-    match items {
-        [first, second] => Some((first, second)),
-        _ => None,
     }
 }
 
@@ -90,8 +76,8 @@ pub(crate) fn show_item<S: Sink>(
     is_node: bool,
     sink: &mut S,
 ) -> Result<(), AllocError>
-    ensures { OnOk result (S.seen sink.new ≡ after S.steps name.now
-        (value_by is_node (item_within most raw.now)) (S.seen sink.old)) }
+    ensures { OnOk result (S.seen sink.new
+        ≡ after S.steps name.now (shown_within most is_node raw.now) (S.seen sink.old)) }
 {
     let item = Rlp::new(raw);
     match item.decoder().string() {
@@ -118,8 +104,7 @@ fn show_items<S: Sink>(
     sink: &mut S,
 ) -> Result<(), AllocError>
     ensures { OnOk result (S.seen sink.new ≡ after S.steps name.now
-        (array (values_of (λ v. value_by is_node (item_within most v.bytes)) items.now))
-        (S.seen sink.old)) }
+        (items_shown (shown_within most) is_node items.now) (S.seen sink.old)) }
 {
     if items.is_empty() {
         return sink.put(name, Shown::EmptyList);
@@ -138,7 +123,6 @@ fn show_items<S: Sink>(
 
 /// Gives a list of items to a sink as a node: a leaf, an extension or a branch, or else the list.
 #[cycle(items)]
-#[tactic(auto, using(crate::proofs::ItemLemmas::nodes_by_items))]
 fn show_node<S: Sink>(
     alloc: Global,
     name: &str,
@@ -147,15 +131,12 @@ fn show_node<S: Sink>(
     sink: &mut S,
 ) -> Result<(), AllocError>
     ensures { OnOk result (S.seen sink.new ≡ after S.steps name.now
-        (kept_value (list (view_items most items.now))) (S.seen sink.old)) }
+        (node_shown (shown_within most) items.now) (S.seen sink.old)) }
 {
-    let Some((value, children)) = items.split_last() else {
-        return show_items(alloc, name, items, most, false, sink);
-    };
     if items.len() == 17 {
-        return show_branch(alloc, name, children, value.as_raw(), most, sink);
+        return show_branch(alloc, name, &items[..16], items[16].as_raw(), most, sink);
     }
-    let Some((first, second)) = pair_in(items) else {
+    let [first, second] = items else {
         return show_items(alloc, name, items, most, false, sink);
     };
     let path = string_in(first.as_raw());
@@ -183,20 +164,20 @@ fn show_pair<S: Sink>(
     name: &str,
     is_leaf: bool,
     path: &[u8],
-    bytes: &[u8],
+    raw: &[u8],
     most: usize,
     sink: &mut S,
 ) -> Result<(), AllocError>
     ensures { OnOk result (S.seen sink.new ≡ after S.steps name.now
-        (object (pair_entries is_leaf path.now
-        (value_by (not is_leaf) (item_within most bytes.now)))) (S.seen sink.old)) }
+        (object (pair_entries is_leaf path.now (shown_within most (not is_leaf) raw.now)))
+        (S.seen sink.old)) }
 {
     let (kind, key) = names_of(is_leaf);
     let field = inside(alloc, name, key)?;
     sink.begin(Bracket::Brace)?;
     give_fields!(alloc, name, sink; "node" "node" Shown::Text(kind); PathFields(path))?;
     sink.key(key)?;
-    show_item(alloc, field.as_str(), bytes, most, !is_leaf, sink)?;
+    show_item(alloc, field.as_str(), raw, most, !is_leaf, sink)?;
     sink.finish(Bracket::Brace)
 }
 
@@ -206,13 +187,13 @@ fn show_branch<S: Sink>(
     alloc: Global,
     name: &str,
     children: &[Rlp<'_>],
-    bytes: &[u8],
+    raw: &[u8],
     most: usize,
     sink: &mut S,
 ) -> Result<(), AllocError>
     ensures { OnOk result (S.seen sink.new ≡ after S.steps name.now
-        (object (branch_entries (values_of (λ v. kept_value (item_within most v.bytes)) children.now)
-        (item_value (item_within most bytes.now)))) (S.seen sink.old)) }
+        (object (branch_entries (values_of (λ v. shown_within most true v.bytes) children.now)
+        (shown_within most false raw.now))) (S.seen sink.old)) }
 {
     let children_name = inside(alloc, name, "children")?;
     let value_name = inside(alloc, name, "value")?;
@@ -221,13 +202,13 @@ fn show_branch<S: Sink>(
     sink.key("children")?;
     show_items(alloc, children_name.as_str(), children, most, true, sink)?;
     sink.key("value")?;
-    show_item(alloc, value_name.as_str(), bytes, most, false, sink)?;
+    show_item(alloc, value_name.as_str(), raw, most, false, sink)?;
     sink.finish(Bracket::Brace)
 }
 
 /// The hash in hexadecimal, or the fields of a node that is kept in its parent.
 impl Show for Child {
-    ghost display = { seen_as child_item kept_display };
+    ghost display = { seen_as child.reading.seen child_display };
 
     fn show<S: Sink>(&self, alloc: Global, name: &str, sink: &mut S) -> Result<(), AllocError> {
         match self {
@@ -242,7 +223,7 @@ impl Show for Child {
 
 /// The child, or no bytes if there is none.
 impl Show for BranchChild {
-    ghost display = { seen_as (λ c. place_item c.0) kept_display };
+    ghost display = { seen_as branch_child.reading.seen place_display };
 
     fn show<S: Sink>(&self, alloc: Global, name: &str, sink: &mut S) -> Result<(), AllocError> {
         match &self.0 {

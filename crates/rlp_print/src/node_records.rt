@@ -1,7 +1,6 @@
 //! Node records.
 
 ghost use Rattle.std.specs.Prelude.{◌≡◌};
-ghost use Rattle.rlp.specs.Values.RawItem.{raw_item_of};
 ghost use Rattle.rlp_node_record.specs.NodeFields.{node_fields, pair_fields};
 ghost use Rattle.rlp_print.specs.Display.{seen_as};
 ghost use Rattle.rlp_print.specs.Value.{content_of};
@@ -64,7 +63,7 @@ struct KeyValue<'a> {
 }
 
 impl Show for KeyValue<'_> {
-    ghost display = { seen_as (λ v. (v.key.now, raw_item_of v.value.now)) key_value_display };
+    ghost display = { seen_as (λ v. (v.key.now, v.value.now)) key_value_display };
 
     #[tactic(auto, using(crate::proofs::ItemLemmas::values_of_keys))]
     fn show<S: Sink>(&self, alloc: Global, name: &str, sink: &mut S) -> Result<(), AllocError> {
