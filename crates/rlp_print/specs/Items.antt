@@ -1,8 +1,8 @@
 -- What is shown of items of any kind, and of nodes of the trie.
 use Rattle.std.specs.Prelude.{ℕ, zero, suc, ◌==◌, if◌then◌else◌, not, Bool, true, false, List, [], ◌∷◌, codes, get_or, length, map, take, Option, Some, None, Result, Ok, Err, ⊤, ◌⊎◌}
 use Rattle.std.specs.Vec.{vec_items}
-use Rattle.std.proofs.Common.{◌≡◌, ◌∙◌, length-map, refl, sym, ap, arith, inl, inr}
-use Rattle.std.proofs.lemmas.Bool.Decides.{nat_tests}
+use Rattle.std.proofs.Common.{◌≡◌, ◌∙◌, refl, sym, ap, arith, inl, inr}
+use Rattle.std.proofs.lemmas.{Bool.Decides.nat_tests, List.length-map}
 use Rattle.keccak.specs.Keccak.{keccak256}
 use Rattle.rlp.specs.Format.Item.{Item, Items, string, list, no_items, item_and, items_from}
 use Rattle.rlp.specs.Values.RawItem.{item_by, item_within, raw_item_of, string_or_none}
@@ -143,7 +143,7 @@ module _ (inside : Bool → List ℕ → Value) (within : List ℕ → Item) (ba
 
   many_back : (many : Bool) (v : View) (bs : List (List ℕ)) → (length (map view_of bs) == 17) ≡ many
       → shown_item (if many then branch_shown inside v (map view_of bs) else few_shown inside (map view_of bs)) ≡ list (items_from (map within bs))
-  many_back true v bs is = ap list (last_back 16 bs v (grind (arith, nat_tests, is, length-map view_of bs)))
+  many_back true v bs is = ap list (last_back 16 bs v (grind (arith, nat_tests, is, length-map bs view_of)))
   many_back false v bs is = few_back bs
 
   node_back : (bs : List (List ℕ)) → shown_item (node_shown inside (map view_of bs)) ≡ list (items_from (map within bs))
@@ -225,14 +225,14 @@ node_told (inr (inr (inl extension))) = inr (inr (inl (extension.0, child_displa
 node_told (inr (inr (inr branch))) = inr (inr (inr (map place_display.told branch.0, branch.1)))
 
 pub node_apart : (m n : NodeSeen) → node_entries m ≡ node_entries n → node_told m ≡ node_told n
-node_apart (inl tt) (inl tt) is = refl
+node_apart (inl empty) (inl other) is = refl
 node_apart (inr (inl (d, v))) (inr (inl (e, w))) is = cc
 node_apart (inr (inr (inl (d, c)))) (inr (inr (inl (e, k)))) is = let same = child_display.apart c k cc in cc
 node_apart (inr (inr (inr (cs, v)))) (inr (inr (inr (ks, w)))) is = let same = list_apart place_display cs ks cc in cc
 node_apart _ _ is = absurd cc
 
 -- the hash of a node
-unfoldable pub node_hash : TrieNode → List ℕ
+abbrev pub node_hash : TrieNode → List ℕ
 node_hash n = keccak256 (encoding (trie_node.item n))
 
 -- the hash of a node, and then its fields

@@ -1,5 +1,5 @@
 -- What is shown of node records.
-use Rattle.std.specs.Prelude.{ℕ, ◌≡◌, ◌==◌, ◌&&◌, ◌||◌, ◌⊎◌, nat_lt, if◌then◌else◌, Bool, List, codes, length, refl, Result, Ok, Err}
+use Rattle.std.specs.Prelude.{ℕ, ◌≡◌, ◌==◌, ◌&&◌, ◌||◌, ◌⊎◌, nat_lt, if◌then◌else◌, Bool, false, List, codes, length, refl, Result, Ok, Err}
 use Rattle.std.specs.{Int.Digits.number_from_digits, Str.bytes_eq}
 use Rattle.std.proofs.Common.{ap, inl, inr}
 use Rattle.rlp.specs.{DecoderError.DecoderError, Form.begins_with_zero, Format.Item.Item, Format.StringReading.read_string, Values.RawItem.raw_item_of}

@@ -11,7 +11,7 @@ ghost use Rattle.rlp_print.specs.Display.{seen_as};
 use crate::show::{
     ByForm, Items, Object, Show, ShowFields, field, fields, give_fields, show_fields,
 };
-use crate::sink::{BytesKind, Shown, Sink, number};
+use crate::sink::{BytesKind, Shown, Sink, bytes, number};
 use rlp_ethereum::{Block, Body};
 use rlp_headers::{Cancun, Header, London, Shanghai};
 use rlp_records::Hash;
@@ -53,11 +53,11 @@ impl ShowFields for London {
 }
 
 /// Returns the hash of a header.
-fn hash_of(alloc: Global, header: &Header) -> Result<Hash, AllocError>
-    ensures { IfOk result (λ h. h.0 ≡ header_hash (header.reading.seen header.now)) }
+#[tactic(auto, using(crate::proofs::Written::header_written))]
+fn hash_of(alloc: Global, whole: &Header) -> Result<Hash, AllocError>
+    ensures { IfOk result (λ h. h.0 ≡ header_hash (header.reading.seen whole.now)) }
 {
-    let hash = header.hash(alloc)?;
-    Ok(hash)
+    whole.hash(alloc)
 }
 
 /// The hash of the header, and its fields.
@@ -115,18 +115,19 @@ fn hashes_of(alloc: Global, headers: &[Header]) -> Result<Vec<Hash>, AllocError>
 {
     let mut hashes = Vec::new(alloc);
     let mut rest = headers;
-    while let [header, others @ ..] = rest {
-        hashes.push(hash_of(alloc, header)?)?;
+    while let [first, others @ ..] = rest {
+        hashes.push(hash_of(alloc, first)?)?;
         rest = others;
     }
     Ok(hashes)
 }
 
 /// Returns the number of bytes of a block.
-fn size_of(alloc: Global, block: &Block) -> Result<usize, AllocError>
-    ensures { IfOk result (λ n. n ≡ block_size (block.reading.seen block.now)) }
+#[tactic(auto, using(crate::proofs::Written::block_written))]
+fn size_of(alloc: Global, whole: &Block) -> Result<usize, AllocError>
+    ensures { IfOk result (λ n. n ≡ block_size (block.reading.seen whole.now)) }
 {
-    let bytes = rlp::encode(alloc, block)?;
+    let bytes = rlp::encode(alloc, whole)?;
     Ok(bytes.len())
 }
 

@@ -16,7 +16,8 @@ use std::alloc::{AllocError, Global};
 fn is_port_key(key: &[u8]) -> bool
     ensures { result ≡ is_port_key key.now }
 {
-    (key == b"tcp" || key == b"udp") || (key == b"tcp6" || key == b"udp6")
+    (key == "tcp".as_bytes() || key == "udp".as_bytes())
+        || (key == "tcp6".as_bytes() || key == "udp6".as_bytes())
 }
 
 /// Returns a port, or the bytes if they are none.
@@ -36,14 +37,15 @@ fn port_in(port: &[u8]) -> Shown<'_>
 fn is_ip(key: &[u8], bytes: &[u8]) -> bool
     ensures { result ≡ is_ip key.now bytes.now }
 {
-    (key == b"ip" && bytes.len() == 4) || (key == b"ip6" && bytes.len() == 16)
+    (key == "ip".as_bytes() && bytes.len() == 4)
+        || (key == "ip6".as_bytes() && bytes.len() == 16)
 }
 
 /// Returns what is shown of the string at a key.
 fn string_at<'a>(key: &[u8], string: &'a [u8]) -> Shown<'a>
     ensures { content_of result ≡ string_content key.now string.now }
 {
-    if key == b"id" {
+    if key == "id".as_bytes() {
         return Shown::Bytes(BytesKind::Word, string);
     }
     if is_ip(key, string) {

@@ -159,8 +159,7 @@ fn signing_hash_of<T: Tagged>(alloc: Global, payload: &T) -> Result<Hash, AllocE
     ensures { IfOk result
         (λ h. h.0 ≡ signing_hash T.TAG T.reading (T.reading.seen payload.now)) }
 {
-    let hash = signing_hash(alloc, payload)?;
-    Ok(hash)
+    signing_hash(alloc, payload)
 }
 
 impl<T: TypedTransaction + ShowFields> ShowFields for Signed<T, bool> {
@@ -209,6 +208,7 @@ impl ShowFields for Eip155 {
 }
 
 /// Returns the hash that is signed of a transaction without a type, if `v` says what that is.
+#[tactic(auto, using(crate::proofs::Written::legacy_written))]
 fn legacy_signing_hash(
     alloc: Global,
     payload: &LegacyTransaction,
@@ -229,6 +229,7 @@ fn legacy_signing_hash(
 }
 
 /// Returns whether a number is zero.
+#[tactic(auto, using(crate::proofs::NumberLemmas::zero_digits))]
 fn is_zero(number: &Uint<32>) -> bool
     ensures { result ≡ (number_from_digits 256 number.now.bytes == 0) }
 {
@@ -237,24 +238,24 @@ fn is_zero(number: &Uint<32>) -> bool
 
 /// Returns what `v` says, if the transaction is signed: one of the two numbers of its signature isn't
 /// zero, as both are in what EIP-155 signs.
-fn said_of(transaction: &SignedLegacyTransaction) -> Option<Eip155>
-    ensures { result ≡ said_of (signed_legacy_transaction.reading.seen transaction.now) }
+fn said_of(tx: &SignedLegacyTransaction) -> Option<Eip155>
+    ensures { result ≡ said_of (signed_legacy_transaction.reading.seen tx.now) }
 {
-    if is_zero(&transaction.r) && is_zero(&transaction.s) {
+    if is_zero(&tx.r) && is_zero(&tx.s) {
         return None;
     }
-    said_by(&transaction.v)
+    said_by(&tx.v)
 }
 
 /// Returns the `v` of a transaction, which comes with what it says if the transaction is signed.
-fn v_of(transaction: &SignedLegacyTransaction) -> Shown<'static>
+fn v_of(tx: &SignedLegacyTransaction) -> Shown<'static>
     ensures { content_of result ≡ v_content
-        (v_seen (signed_legacy_transaction.reading.seen transaction.now)) }
+        (v_seen (signed_legacy_transaction.reading.seen tx.now)) }
 {
-    if is_zero(&transaction.r) && is_zero(&transaction.s) {
-        return Shown::Number(NumberKind::Decimal, transaction.v);
+    if is_zero(&tx.r) && is_zero(&tx.s) {
+        return Shown::Number(NumberKind::Decimal, tx.v);
     }
-    Shown::Number(NumberKind::LegacyV, transaction.v)
+    Shown::Number(NumberKind::LegacyV, tx.v)
 }
 
 impl ShowFields for SignedLegacyTransaction {
@@ -290,12 +291,12 @@ impl ShowFields for Transaction {
 }
 
 /// Returns the hash of a transaction.
-fn hash_of(alloc: Global, transaction: &AnyTransaction) -> Result<Hash, AllocError>
+#[tactic(auto, using(crate::proofs::Written::transaction_written))]
+fn hash_of(alloc: Global, tx: &AnyTransaction) -> Result<Hash, AllocError>
     ensures { IfOk result
-        (λ h. h.0 ≡ transaction_hash (any_transaction.reading.seen transaction.now)) }
+        (λ h. h.0 ≡ transaction_hash (any_transaction.reading.seen tx.now)) }
 {
-    let hash = transaction.hash(alloc)?;
-    Ok(hash)
+    tx.hash(alloc)
 }
 
 impl Show for AnyTransaction {
@@ -355,12 +356,12 @@ impl ShowFields for UnsignedTransaction {
 }
 
 /// Returns the hash that is signed of a transaction.
-fn payload_hash(alloc: Global, transaction: &UnsignedTransaction) -> Result<Hash, AllocError>
+#[tactic(auto, using(crate::proofs::Written::payload_written))]
+fn payload_hash(alloc: Global, tx: &UnsignedTransaction) -> Result<Hash, AllocError>
     ensures { IfOk result
-        (λ h. h.0 ≡ payload_hash (unsigned_transaction.reading.seen transaction.now)) }
+        (λ h. h.0 ≡ payload_hash (unsigned_transaction.reading.seen tx.now)) }
 {
-    let hash = transaction.signing_hash(alloc)?;
-    Ok(hash)
+    tx.signing_hash(alloc)
 }
 
 impl Show for UnsignedTransaction {
@@ -382,11 +383,12 @@ impl Show for Blob {
 
 /// Returns the hash that names a transaction with blobs, which is the hash of the transaction without
 /// its blobs.
-fn blob_hash(alloc: Global, transaction: &Signed<BlobTransaction>) -> Result<Hash, AllocError>
+#[tactic(auto, using(crate::proofs::Written::blob_written))]
+fn blob_hash(alloc: Global, tx: &Signed<BlobTransaction>) -> Result<Hash, AllocError>
     ensures { IfOk result
-        (λ h. h.0 ≡ blob_hash (signed_blob_transaction.reading.seen transaction.now)) }
+        (λ h. h.0 ≡ blob_hash (signed_blob_transaction.reading.seen tx.now)) }
 {
-    let bytes = transaction.to_bytes(alloc)?;
+    let bytes = tx.to_bytes(alloc)?;
     Ok(Hash(keccak256(bytes.as_slice())))
 }
 
