@@ -3,3 +3,4 @@ pub mod ItemLemmas
 pub mod DumpLemmas
 pub mod WordLemmas
 pub mod Written
+pub mod Given

@@ -1,18 +1,18 @@
 -- Hashes and sizes of what values are written as, by what contracts see of the values.
-use Rattle.std.proofs.Common.{◌≡◌, ◌∙◌, List, ℕ, ◌∷◌, Bool, Some, length, sym, ap}
+use Rattle.std.proofs.Common.{◌≡◌, ◌∙◌, List, ℕ, ◌∷◌, Bool, length, sym, ap}
 use Rattle.keccak.specs.Keccak.{keccak256}
 use Rattle.rlp.specs.Format.Encoding.{encoding}
 use Rattle.rlp_records.specs.Alone.{bytes_alone}
 use Rattle.rlp_headers.specs.Header.{header}
 use Rattle.rlp_headers.specs.declared.header.Header.{Header}
-use Rattle.rlp_transactions.specs.declared.{any_transaction.AnyTransaction.AnyTransaction, blob_transaction.BlobTransaction.BlobTransaction, eip155.Eip155.Eip155}
-use Rattle.rlp_transactions.specs.declared.{legacy_transaction.LegacyTransaction.LegacyTransaction, signed.Signed.Signed, unsigned_transaction.UnsignedTransaction.UnsignedTransaction}
+use Rattle.rlp_transactions.specs.declared.{any_transaction.AnyTransaction.AnyTransaction, blob_transaction.BlobTransaction.BlobTransaction}
+use Rattle.rlp_transactions.specs.declared.{signed.Signed.Signed, unsigned_legacy_transaction.UnsignedLegacyTransaction.UnsignedLegacyTransaction, unsigned_transaction.UnsignedTransaction.UnsignedTransaction}
 use Rattle.rlp_transactions.specs.{AnyTransaction.any_transaction, BlobTransaction.signed_blob_transaction, LegacyTransaction.legacy_transaction_fields}
 use Rattle.rlp_transactions.specs.{UnsignedLegacyTransaction.unsigned_legacy_transaction, UnsignedTransaction.unsigned_transaction}
 use Rattle.rlp_ethereum.specs.Block.{block}
 use Rattle.rlp_ethereum.specs.declared.block.Block.{Block}
 use Rattle.rlp_print.specs.Blocks.{block_size, header_hash}
-use Rattle.rlp_print.specs.Transactions.{blob_hash, legacy_signing_hash, payload_hash, transaction_hash}
+use Rattle.rlp_print.specs.Transactions.{blob_hash, legacy_hash, payload_hash, transaction_hash}
 
 pub header_written : (h : Header) (d : List ℕ) → d ≡ keccak256 (encoding (header.item h)) → d ≡ header_hash (header.reading.seen h)
 unfolding header_hash
@@ -36,9 +36,7 @@ pub blob_written : (t : Signed BlobTransaction Bool) (d : List ℕ) → d ≡ 3 
 unfolding blob_hash
 blob_written t d is = ap keccak256 (is ∙ ap (λ x. 3 ∷ encoding x) (sym (signed_blob_transaction.reads_strictly.told.written t)))
 
-pub legacy_written : (t : LegacyTransaction) (x : Eip155) (d : List ℕ)
-    → d ≡ encoding (unsigned_legacy_transaction.item (record { payload = t; chain_id = x.chain_id }))
-    → Some (keccak256 d) ≡ legacy_signing_hash (legacy_transaction_fields.reading.seen t) (Some x)
-unfolding legacy_signing_hash
-legacy_written t x d is =
-    ap (λ e. Some (keccak256 e)) (is ∙ ap encoding (sym (unsigned_legacy_transaction.reads_strictly.told.written (record { payload = t; chain_id = x.chain_id }))))
+pub legacy_written : (u : UnsignedLegacyTransaction) (d : List ℕ) → d ≡ encoding (unsigned_legacy_transaction.item u)
+    → keccak256 d ≡ legacy_hash (legacy_transaction_fields.reading.seen u.payload) u.chain_id
+unfolding legacy_hash
+legacy_written u d is = ap keccak256 (is ∙ ap encoding (sym (unsigned_legacy_transaction.reads_strictly.told.written u)))

@@ -1,5 +1,5 @@
 -- What is shown of items of any kind, and of nodes of the trie.
-use Rattle.std.specs.Prelude.{ℕ, zero, suc, ◌==◌, if◌then◌else◌, not, Bool, true, false, List, [], ◌∷◌, codes, get_or, length, map, take, Option, Some, None, Result, Ok, Err, ⊤, ◌⊎◌}
+use Rattle.std.specs.Prelude.{ℕ, zero, suc, ◌==◌, if◌then◌else◌, not, Bool, true, false, List, [], ◌∷◌, codes, get_or, length, map, take, Option, Some, None, Result, Ok, Err}
 use Rattle.std.specs.Vec.{vec_items}
 use Rattle.std.proofs.Common.{◌≡◌, ◌∙◌, refl, sym, ap, arith, inl, inr}
 use Rattle.std.proofs.lemmas.{Bool.Decides.nat_tests, List.length-map}
@@ -198,37 +198,40 @@ child_display = through Some place_display
 
 -- What is shown of a node besides its hash: nothing of the empty trie, the path and the value of a leaf, the path and the child of an extension, or the children and
 -- the value of a branch.
-abbrev pub NodeParts : Type 0 → Type 0 → Type 0
-NodeParts Child Place = ⊤ ⊎ ((List ℕ × List ℕ) ⊎ ((List ℕ × Child) ⊎ (List Place × List ℕ)))
+pub data NodeParts (Child Place : Type 0) : Type 0 where
+  empty : NodeParts Child Place
+  leaf : List ℕ → List ℕ → NodeParts Child Place
+  extension : List ℕ → Child → NodeParts Child Place
+  branch : List Place → List ℕ → NodeParts Child Place
 
 abbrev pub NodeSeen : Type 0
 NodeSeen = NodeParts child.reading.M branch_child.reading.M
 
 abbrev pub node_parts : TrieNode → NodeSeen
-node_parts node.Empty = inl tt
-node_parts (node.Leaf l) = inr (inl (vec_items l.path.bytes, vec_items l.value))
-node_parts (node.Extension e) = inr (inr (inl (vec_items e.path.bytes, child.reading.seen e.child)))
-node_parts (node.Branch b) = inr (inr (inr (map branch_child.reading.seen b.children, vec_items b.value)))
+node_parts node.Empty = empty
+node_parts (node.Leaf l) = leaf (vec_items l.path.bytes) (vec_items l.value)
+node_parts (node.Extension e) = extension (vec_items e.path.bytes) (child.reading.seen e.child)
+node_parts (node.Branch b) = branch (map branch_child.reading.seen b.children) (vec_items b.value)
 
 -- the kind of a node, and its parts
 abbrev pub node_entries : NodeSeen → Entries
-node_entries (inl empty) = kind_entries (codes "empty")
-node_entries (inr (inl leaf)) = pair_entries true leaf.0 (content (bytes Any leaf.1))
-node_entries (inr (inr (inl extension))) = pair_entries false extension.0 (child_display.shown extension.1)
-node_entries (inr (inr (inr branch))) = branch_entries (values_of place_value branch.0) (content (bytes Any branch.1))
+node_entries empty = kind_entries (codes "empty")
+node_entries (leaf d v) = pair_entries true d (content (bytes Any v))
+node_entries (extension d c) = pair_entries false d (child_display.shown c)
+node_entries (branch cs v) = branch_entries (values_of place_value cs) (content (bytes Any v))
 
 -- the parts of a node, with children as items
 abbrev pub node_told : NodeSeen → NodeParts Item Item
-node_told (inl empty) = inl tt
-node_told (inr (inl leaf)) = inr (inl leaf)
-node_told (inr (inr (inl extension))) = inr (inr (inl (extension.0, child_display.told extension.1)))
-node_told (inr (inr (inr branch))) = inr (inr (inr (map place_display.told branch.0, branch.1)))
+node_told empty = empty
+node_told (leaf d v) = leaf d v
+node_told (extension d c) = extension d (child_display.told c)
+node_told (branch cs v) = branch (map place_display.told cs) v
 
 pub node_apart : (m n : NodeSeen) → node_entries m ≡ node_entries n → node_told m ≡ node_told n
-node_apart (inl empty) (inl other) is = refl
-node_apart (inr (inl (d, v))) (inr (inl (e, w))) is = cc
-node_apart (inr (inr (inl (d, c)))) (inr (inr (inl (e, k)))) is = let same = child_display.apart c k cc in cc
-node_apart (inr (inr (inr (cs, v)))) (inr (inr (inr (ks, w)))) is = let same = list_apart place_display cs ks cc in cc
+node_apart empty empty is = refl
+node_apart (leaf d v) (leaf e w) is = cc
+node_apart (extension d c) (extension e k) is = let same = child_display.apart c k cc in cc
+node_apart (branch cs v) (branch ks w) is = let same = list_apart place_display cs ks cc in cc
 node_apart _ _ is = absurd cc
 
 -- the hash of a node

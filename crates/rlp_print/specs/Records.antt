@@ -74,4 +74,4 @@ typed_receipt_display = an_object (
     and_type 0 (after_derived (λ r. no_type_entries) receipt_display) (λ r. refl) (
     and_type 1 (receipt_of_type 1) (λ r. refl) (
     and_type 2 (receipt_of_type 2) (λ r. refl) (
-    and_type 3 (receipt_of_type 3) (λ r. refl) (last_type 4 (receipt_of_type 4) (λ r. refl))))).fields
+    and_type 3 (receipt_of_type 3) (λ r. refl) (last_type 4 (receipt_of_type 4) (λ r. refl)))))).fields

@@ -1,6 +1,6 @@
 -- What is shown of transactions of all types, with their signatures and without, and as they are sent with their blobs.
 use Rattle.std.specs.Prelude.{ℕ, List, codes, refl, ◌≡◌, ◌==◌, ◌&&◌, if◌then◌else◌, Bool, true, false, ◌∷◌, Option, Some, None, option_map, drop, ◌⊎◌, ⊤}
-use Rattle.std.proofs.Common.{inl, inr, ap, sym}
+use Rattle.std.proofs.Common.{inl, inr, ap, sym, ◌∙◌}
 use Rattle.keccak.specs.Keccak.{keccak256}
 use Rattle.rlp.specs.{Format.Encoding.encoding, Format.Item.Item, Format.Item.list_of}
 use Rattle.rlp.specs.Form.{FieldsReading}
@@ -13,7 +13,7 @@ use Rattle.rlp_transactions.specs.{BlobWrapper.with_cell_proofs, BlobWrapper.wit
 use Rattle.rlp_transactions.specs.{LegacyTransaction.legacy_transaction_fields, LegacyTransaction.signed_legacy_transaction, OtherTransaction.other_type}
 use Rattle.rlp_transactions.specs.{SetCodeTransaction.set_code_transaction_fields, UnsignedLegacyTransaction.chain_fields, UnsignedLegacyTransaction.unsigned_legacy_transaction}
 use Rattle.rlp_transactions.specs.{Signatures.number_of, UnsignedTransaction.unsigned_transaction, declared.signed.Signed.Signed}
-use Rattle.rlp_print.specs.Display.{Display, Fields, a_bit, a_content, a_list, a_number, a_quantity, a_string, a_type, after_derived, an_object, bytes_as, derived, end, field, field_if, if_there, in_order, one, through}
+use Rattle.rlp_print.specs.Display.{Display, Fields, a_bit, a_content, a_list, a_number, a_quantity, a_string, a_type, after_derived, an_object, bytes_as, derived, end, field, field_if, if_there, in_order, one, one_if, through}
 use Rattle.rlp_print.specs.{Lines.said_by, Records.hash_entries}
 use Rattle.rlp_print.specs.Value.{Content, Entries, both, by_form, bytes, content, entries_if, entry, nothing, number}
 use Rattle.rlp_print.specs.Types.{and_type, last_type, no_type_entries, on_either, type_entries}
@@ -173,17 +173,21 @@ said_seen x = (option_map (λ n. n) x.chain_id, x.y_parity)
 abbrev pub said_display : Fields (Option ℕ × Bool)
 said_display = field_if (codes "chain_id") (codes "chainId") a_number (one (codes "y_parity") (codes "yParity") a_bit)
 
+-- the hash that is signed of a payload, with the number of the chain if that is signed
+unfoldable pub legacy_hash : legacy_transaction_fields.reading.M → Option ℕ → List ℕ
+legacy_hash t chain = keccak256 (encoding (unsigned_legacy_transaction.reading.item (t, option_map chain_fields.reading.seen chain)))
+
 -- the hash that is signed, if `v` says what that is
-unfoldable pub legacy_signing_hash : legacy_transaction_fields.reading.M → Option Eip155 → Option (List ℕ)
-legacy_signing_hash t said =
-    option_map (λ (x : Eip155). keccak256 (encoding (unsigned_legacy_transaction.reading.item (t, option_map chain_fields.reading.seen x.chain_id)))) said
+abbrev pub legacy_signing_hash : legacy_transaction_fields.reading.M → Option Eip155 → Option (List ℕ)
+legacy_signing_hash t None = None
+legacy_signing_hash t (Some x) = Some (legacy_hash t x.chain_id)
 
 abbrev pub signed_legacy_display : Fields signed_legacy_transaction.reading.M
 signed_legacy_display = through (λ m. (m.0, (v_seen m, (m, (m.1.1.0, (m.1.1.1.0, m)))))) (after_derived (λ m. no_type_entries) (
     in_order legacy_display (
     field (codes "v") (codes "v") (a_content v_content v_apart) (
     in_order (derived (λ m. by_form nothing (entries_if said_display.shown (option_map said_seen (said_of m))))) (
-    signature_before (derived (λ m. entries_if signing_entries (legacy_signing_hash m.0 (said_of m)))))))))
+    signature_before (derived (λ m. (one_if (codes "signing_hash") (codes "signingHash") a_string).shown (legacy_signing_hash m.0 (said_of m)))))))))
 
 -- transactions of the types that are known
 abbrev pub transaction_display : Fields transaction.reading.M
@@ -199,13 +203,20 @@ abbrev pub other_display : Fields (List ℕ)
 other_display = through (λ d. (other_type d, drop 1 d)) (
     field (codes "type") (codes "type") a_type (one (codes "payload") (codes "payload") (bytes_as Payload)))
 
--- a known type isn't shown as another: only then the last field is no pair
-pub known_apart : (t : transaction.reading.M) (d : List ℕ) → transaction_display.shown t ≡ other_display.shown d → ⊥
-known_apart (inl t) d is = absurd cc
-known_apart (inr (inl t)) d is = absurd cc
-known_apart (inr (inr (inl t))) d is = absurd cc
-known_apart (inr (inr (inr (inl t)))) d is = absurd cc
-known_apart (inr (inr (inr (inr t)))) d is = absurd cc
+-- a known type isn't shown as another: only of another is the second of two fields the last
+abbrev ends_second : Entries → Bool
+ends_second (both first (entry name json v)) = true
+ends_second es = false
+
+goes_on : (t : transaction.reading.M) → ends_second (transaction_display.shown t) ≡ false
+goes_on (inl t) = refl
+goes_on (inr (inl t)) = refl
+goes_on (inr (inr (inl t))) = refl
+goes_on (inr (inr (inr (inl t)))) = refl
+goes_on (inr (inr (inr (inr t)))) = refl
+
+known_apart : (t : transaction.reading.M) (d : List ℕ) → transaction_display.shown t ≡ other_display.shown d → ⊥
+known_apart t d is = let both : false ≡ true = sym (goes_on t) ∙ ap ends_second is in cc
 
 -- transactions that are shown alike are both of a known type, or both of one that isn't known
 pub any_apart : (s t : any_transaction.reading.M) → on_either transaction_display.shown other_display.shown s

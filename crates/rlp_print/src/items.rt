@@ -9,7 +9,7 @@ ghost use Rattle.rlp_print.specs.Items.{branch_entries, child_display, items_sho
 ghost use Rattle.rlp_print.specs.Value.{after, object, values_of};
 
 use crate::show::{
-    ByForm, Items, Show, ShowFields, field, fields, give_fields, inside, place_in, show_fields,
+    ByForm, Show, ShowFields, Slice, field, fields, give_fields, inside, place_in, show_fields,
 };
 use crate::sink::{Bracket, BytesKind, Shown, Sink, bytes};
 use crate::texts::put_digits;
@@ -259,7 +259,7 @@ impl Show for TrieNode {
             TrieNode::Branch(branch) => show_fields!(alloc, name, sink;
                 "hash" "hash" &hash;
                 "node" "node" Shown::Text("branch");
-                "children" "children" Items(&branch.children);
+                "children" "children" Slice(branch.children.as_slice());
                 "value" "value" bytes(branch.value.as_slice())
             ),
         }

@@ -245,7 +245,7 @@ impl ShowFields for Further<'_> {
     fn give<S: Sink>(&self, alloc: Global, name: &str, sink: &mut S) -> Result<(), AllocError> {
         match self.0.as_slice() {
             [] => Ok(()),
-            [_, ..] => (field!("further" "further" Items(self.0.as_slice())), ()).give(alloc, name, sink),
+            [_, ..] => (field!("further" "further" Items(self.0)), ()).give(alloc, name, sink),
         }
     }
 }

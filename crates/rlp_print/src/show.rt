@@ -1,6 +1,7 @@
 //! Values that are shown: as one text, as objects field by field, and as lists.
 
 ghost use Rattle.std.specs.Prelude.{◌≡◌, OnOk, string_bytes, IfOk, map, option_map};
+ghost use Rattle.std.specs.Vec.{vec_items};
 ghost use Rattle.rlp_print.specs.Display.{Showing, a_content, a_list, an_object, end, if_there, in_forms, in_order, named, seen_as, shown_of, through};
 ghost use Rattle.rlp_print.specs.Value.{Entries, Value, after, after_fields, content_of, entries_if, entry, inside, item_name};
 
@@ -167,11 +168,24 @@ impl<T: ShowFields> Show for Object<'_, T> {
     }
 }
 
-/// The values of a slice.
+/// The values of a vector.
 #[derive(Clone, Copy)]
-pub struct Items<'a, T>(pub &'a [T]);
+pub struct Items<'a, T>(pub &'a Vec<T>);
 
 impl<T: Show> Show for Items<'_, T> {
+    ghost display = { seen_as (λ v. map T.display.seen (vec_items v.0.now))
+        (a_list T.display.form) };
+
+    fn show<S: Sink>(&self, alloc: Global, name: &str, sink: &mut S) -> Result<(), AllocError> {
+        Slice(self.0.as_slice()).show(alloc, name, sink)
+    }
+}
+
+/// The values of a slice.
+#[derive(Clone, Copy)]
+pub struct Slice<'a, T>(pub &'a [T]);
+
+impl<T: Show> Show for Slice<'_, T> {
     ghost display = { seen_as (λ s. map T.display.seen s.0.now) (a_list T.display.form) };
 
     #[tactic(auto, using(crate::proofs::ItemLemmas::seen_taken))]

@@ -1,7 +1,7 @@
 use Rattle.std.proofs.Common.{◌≡◌, ◌+◌, ◌<◌, ◌^◌, length, map}
 use Rattle.rlp_print.specs.Value.{after, after_items, array, values_of}
 use Rattle.rlp_print.specs.declared.sink.Bracket.TheVariants.{Square}
-use Rattle.rlp_print.proofs.show.ItemsShow.show.Given as goal
+use Rattle.rlp_print.proofs.show.SliceShow.show.Given as goal
 
 -- the items that are left, after those so far, are all items
 abbrev pub invariant-loop-first : goal.invariant-loop-first
