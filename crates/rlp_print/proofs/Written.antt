@@ -1,8 +1,9 @@
 -- Hashes and sizes of what values are written as, by what contracts see of the values.
-use Rattle.std.proofs.Common.{◌≡◌, ◌∙◌, List, ℕ, ◌∷◌, Bool, length, sym, ap}
+use Rattle.std.proofs.Common.{◌≡◌, ◌∙◌, List, ℕ, [], ◌∷◌, ◌++◌, Bool, length, map, sym, ap}
 use Rattle.keccak.specs.Keccak.{keccak256}
 use Rattle.rlp.specs.Format.Encoding.{encoding}
 use Rattle.rlp_records.specs.Alone.{bytes_alone}
+use Rattle.rlp_records.specs.declared.hash.Hash.{Hash}
 use Rattle.rlp_headers.specs.Header.{header}
 use Rattle.rlp_headers.specs.declared.header.Header.{Header}
 use Rattle.rlp_transactions.specs.declared.{any_transaction.AnyTransaction.AnyTransaction, blob_transaction.BlobTransaction.BlobTransaction}
@@ -40,3 +41,10 @@ pub legacy_written : (u : UnsignedLegacyTransaction) (d : List ℕ) → d ≡ en
     → keccak256 d ≡ legacy_hash (legacy_transaction_fields.reading.seen u.payload) u.chain_id
 unfolding legacy_hash
 legacy_written u d is = ap keccak256 (is ∙ ap encoding (sym (unsigned_legacy_transaction.reads_strictly.told.written u)))
+
+-- one more hash of a header
+pub hash_added : (hs : List Hash) (k : Hash) (h : Header) (more : List Header) → k.0 ≡ header_hash (header.reading.seen h)
+    → map (λ (x : Hash). x.0) (hs ++ k ∷ []) ++ map header_hash (map header.reading.seen more)
+    ≡ map (λ (x : Hash). x.0) hs ++ map header_hash (map header.reading.seen (h ∷ more))
+hash_added [] k h more is = cc
+hash_added (x ∷ hs) k h more is = cc (hash_added hs k h more is)

@@ -5,9 +5,8 @@ use Rattle.rlp.specs.Format.Encoding.{encoding}
 use Rattle.rlp_headers.specs.Header.{header}
 use Rattle.rlp_headers.specs.Forks.{cancun_fields, london_fields, shanghai_fields}
 use Rattle.rlp_ethereum.specs.{Block.block, Body.body}
-use Rattle.rlp_print.specs.Display.{Display, Fields, a_list, a_number, a_string, after_derived, an_object, bytes_as, derived, field, if_there, in_forms, in_order, one, one_if, through}
+use Rattle.rlp_print.specs.Display.{Display, Fields, a_list, a_number, a_string, after_derived, an_object, bytes_as, derived, end, field, if_there, in_forms, in_order, one, one_if, through}
 use Rattle.rlp_print.specs.Records.{hash_entries, withdrawal_display}
-use Rattle.rlp_print.specs.Value.{by_form, nothing}
 use Rattle.rlp_print.specs.Transactions.{any_transaction_display}
 use Rattle.rlp_print.specs.declared.sink.BytesKind.TheVariants.{Sparse}
 
@@ -74,11 +73,11 @@ unfoldable pub block_size : block.reading.M → ℕ
 block_size b = length (encoding (block.reading.item b))
 
 -- what JSON has besides, as in the execution API: the hashes of the ommers, and the number of bytes of the block
-abbrev pub more_of_block : Fields (List (List ℕ) × ℕ)
-more_of_block = field (codes "uncles") (codes "uncles") (a_list a_string) (one (codes "size") (codes "size") a_number)
+abbrev pub more_of_block : Fields block.reading.M
+more_of_block = derived (λ b. (field (codes "uncles") (codes "uncles") (a_list a_string) (one (codes "size") (codes "size") a_number)).shown (map header_hash b.1.1.0, block_size b))
 
 -- In JSON the fields of the header stand in the block itself.
 abbrev pub block_display : Display block.reading.M
-block_display = an_object (through (λ b. ((b.0, b.0), (b.1, b))) (
+block_display = an_object (through (λ b. ((b.0, b.0), (b.1, (tt, b)))) (
     in_order (in_forms (one (codes "header") (codes "header") header_display) hashed_header_display) (
-    in_order body_fields_display (derived (λ b. by_form nothing (more_of_block.shown (map header_hash b.1.1.0, block_size b)))))))
+    in_order body_fields_display (in_forms end more_of_block))))

@@ -80,7 +80,7 @@ impl ShowFields for Header {
             "gas_limit" "gasLimit" &self.gas_limit;
             "gas_used" "gasUsed" &self.gas_used;
             "timestamp" "timestamp" &self.timestamp;
-            "extra_data" "extraData" bytes(self.extra_data.as_slice());
+            "extra_data" "extraData" &self.extra_data;
             "mix_hash" "mixHash" &self.mix_hash;
             "nonce" "nonce" &self.nonce;
             &self.since_london
@@ -109,6 +109,7 @@ impl Show for Body {
 }
 
 /// Returns the hashes of headers.
+#[tactic(auto, using(crate::proofs::Written::hash_added))]
 fn hashes_of(alloc: Global, headers: &[Header]) -> Result<Vec<Hash>, AllocError>
     ensures { IfOk result (λ hs. map (λ h. h.0) hs.items
         ≡ map header_hash (map header.reading.seen headers.now)) }
@@ -131,13 +132,27 @@ fn size_of(alloc: Global, whole: &Block) -> Result<usize, AllocError>
     Ok(bytes.len())
 }
 
+/// What JSON has of a block besides its fields.
+#[derive(Clone, Copy)]
+struct More<'a>(&'a Block);
+
+impl ShowFields for More<'_> {
+    ghost fields = { seen_as (λ b. block.reading.seen b.0.now) more_of_block };
+
+    fn give<S: Sink>(&self, alloc: Global, name: &str, sink: &mut S) -> Result<(), AllocError> {
+        let uncles = hashes_of(alloc, self.0.ommers.as_slice())?;
+        let size = size_of(alloc, self.0)?;
+        give_fields!(alloc, name, sink;
+            "uncles" "uncles" Items(&uncles);
+            "size" "size" number(size as u64)
+        )
+    }
+}
+
 impl Show for Block {
     ghost display = { seen_as block.reading.seen block_display };
 
     fn show<S: Sink>(&self, alloc: Global, name: &str, sink: &mut S) -> Result<(), AllocError> {
-        let uncles = hashes_of(alloc, self.ommers.as_slice())?;
-        let size = size_of(alloc, self)?;
-        let more = fields!("uncles" "uncles" Items(&uncles); "size" "size" number(size as u64));
         show_fields!(alloc, name, sink;
             ByForm(field!("header" "header" &self.header), &self.header);
             fields!(
@@ -145,7 +160,7 @@ impl Show for Block {
                 "ommers" "ommers" Items(&self.ommers);
                 "withdrawals" "withdrawals" ? &self.withdrawals
             );
-            ByForm((), more)
+            ByForm((), More(self))
         )
     }
 }

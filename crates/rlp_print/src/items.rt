@@ -248,7 +248,7 @@ impl Show for TrieNode {
                 "hash" "hash" &hash;
                 "node" "node" Shown::Text("leaf");
                 PathFields(leaf.path.bytes.as_slice());
-                "value" "value" bytes(leaf.value.as_slice())
+                "value" "value" &leaf.value
             ),
             TrieNode::Extension(extension) => show_fields!(alloc, name, sink;
                 "hash" "hash" &hash;
@@ -260,7 +260,7 @@ impl Show for TrieNode {
                 "hash" "hash" &hash;
                 "node" "node" Shown::Text("branch");
                 "children" "children" Slice(branch.children.as_slice());
-                "value" "value" bytes(branch.value.as_slice())
+                "value" "value" &branch.value
             ),
         }
     }

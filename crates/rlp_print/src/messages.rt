@@ -94,7 +94,7 @@ impl Show for NewPooledTransactionHashes {
 
     fn show<S: Sink>(&self, alloc: Global, name: &str, sink: &mut S) -> Result<(), AllocError> {
         show_fields!(alloc, name, sink;
-            "types" "types" bytes(self.types.as_slice());
+            "types" "types" &self.types;
             "sizes" "sizes" Items(&self.sizes);
             "hashes" "hashes" Items(&self.hashes);
         )
@@ -256,7 +256,7 @@ impl Show for Hello {
     fn show<S: Sink>(&self, alloc: Global, name: &str, sink: &mut S) -> Result<(), AllocError> {
         show_fields!(alloc, name, sink;
             "protocol_version" "protocolVersion" &self.protocol_version;
-            "client_id" "clientId" bytes(self.client_id.as_slice());
+            "client_id" "clientId" &self.client_id;
             "capabilities" "capabilities" Items(&self.capabilities);
             "listen_port" "listenPort" &self.listen_port;
             "node_id" "nodeId" &self.node_id.0;

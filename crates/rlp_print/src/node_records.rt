@@ -97,7 +97,7 @@ impl Show for NodeFields {
 
     fn show<S: Sink>(&self, alloc: Global, name: &str, sink: &mut S) -> Result<(), AllocError> {
         show_fields!(alloc, name, sink;
-            "signature" "signature" bytes(self.signature.as_slice());
+            "signature" "signature" &self.signature;
             "sequence" "sequence" &self.sequence;
             "pairs" "pairs" Items(&self.pairs)
         )

@@ -1,6 +1,7 @@
 //! Numbers and strings, withdrawals, accounts, logs, receipts, and faults of records.
 
 ghost use Rattle.std.specs.Prelude.{option_map};
+ghost use Rattle.std.specs.Vec.{vec_items};
 ghost use Rattle.rlp.specs.Codec.{uint};
 ghost use Rattle.rlp_headers.specs.{Account.account, Log.log, Receipt.receipt, ReceiptStatus.receipt_status, TypedReceipt.typed_receipt, Withdrawal.withdrawal, Withdrawal.withdrawals};
 ghost use Rattle.rlp_print.specs.Display.{a_list, a_number, a_string, number_as, seen_as};
@@ -29,6 +30,14 @@ impl Show for Uint<32> {
 
     fn show<S: Sink>(&self, _alloc: Global, name: &str, sink: &mut S) -> Result<(), AllocError> {
         sink.put(name, Shown::Number(NumberKind::Decimal, *self))
+    }
+}
+
+impl Show for Vec<u8> {
+    ghost display = { seen_as vec_items a_string };
+
+    fn show<S: Sink>(&self, _alloc: Global, name: &str, sink: &mut S) -> Result<(), AllocError> {
+        sink.put(name, bytes(self.as_slice()))
     }
 }
 
@@ -89,7 +98,7 @@ impl Show for Log {
         show_fields!(alloc, name, sink;
             "address" "address" &self.address.0;
             "topics" "topics" Items(&self.topics);
-            "data" "data" bytes(self.data.as_slice());
+            "data" "data" &self.data;
         )
     }
 }

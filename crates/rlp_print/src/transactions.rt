@@ -9,9 +9,9 @@ ghost use Rattle.rlp_transactions.specs.{BlobWrapper.with_cell_proofs, BlobWrapp
 ghost use Rattle.rlp_transactions.specs.{LegacyTransaction.legacy_transaction_fields, LegacyTransaction.signed_legacy_transaction, SetCodeTransaction.set_code_transaction_fields};
 ghost use Rattle.rlp_transactions.specs.{UnsignedLegacyTransaction.unsigned_legacy_transaction, UnsignedTransaction.unsigned_transaction};
 ghost use Rattle.rlp_print.specs.Display.{bytes_as, seen_as};
-ghost use Rattle.rlp_print.specs.Transactions.{access_list_item_display, access_list_transaction_display, after_type, any_transaction_display, authorization_display, blob_display, blob_hash, fee_market_display, legacy_display, legacy_signing_hash};
+ghost use Rattle.rlp_print.specs.Transactions.{access_list_item_display, access_list_transaction_display, after_type, any_transaction_display, authorization_display, blob_display, blob_hash, fee_market_display, legacy_display, legacy_hash, legacy_signing_hash};
 ghost use Rattle.rlp_print.specs.Transactions.{payload_display, payload_hash, recipient_display, said_display, said_of, said_seen, set_code_display, signed_authorization_display, signed_legacy_display, signing_hash, transaction_display, transaction_hash};
-ghost use Rattle.rlp_print.specs.Transactions.{typed_fields, typed_seen, unsigned_display, unsigned_legacy_display, v_content, v_seen, with_cell_proofs_display, with_proofs_display};
+ghost use Rattle.rlp_print.specs.Transactions.{typed_fields, typed_seen, unsigned_display, unsigned_legacy_display, v_content, v_seen, with_cell_proofs_display, with_proofs_display, without_blobs_display};
 ghost use Rattle.rlp_print.specs.Value.{content_of};
 ghost use Rattle.rlp_print.specs.declared.sink.BytesKind.TheVariants.{Sparse};
 
@@ -62,7 +62,7 @@ impl ShowFields for LegacyTransaction {
             "gas_limit" "gas" &self.gas_limit;
             "to" "to" &self.to;
             "value" "value" &self.value;
-            "data" "input" bytes(self.data.as_slice());
+            "data" "input" &self.data;
         )
     }
 }
@@ -79,7 +79,7 @@ impl ShowFields for AccessListTransaction {
             "gas_limit" "gas" &self.gas_limit;
             "to" "to" &self.to;
             "value" "value" &self.value;
-            "data" "input" bytes(self.data.as_slice());
+            "data" "input" &self.data;
             "access_list" "accessList" Items(&self.access_list.0);
         )
     }
@@ -97,7 +97,7 @@ impl ShowFields for FeeMarketTransaction {
             "gas_limit" "gas" &self.gas_limit;
             "to" "to" &self.to;
             "value" "value" &self.value;
-            "data" "input" bytes(self.data.as_slice());
+            "data" "input" &self.data;
             "access_list" "accessList" Items(&self.access_list.0);
         )
     }
@@ -115,7 +115,7 @@ impl ShowFields for BlobTransaction {
             "gas_limit" "gas" &self.gas_limit;
             "to" "to" &self.to.0;
             "value" "value" &self.value;
-            "data" "input" bytes(self.data.as_slice());
+            "data" "input" &self.data;
             "access_list" "accessList" Items(&self.access_list.0);
             "max_fee_per_blob_gas" "maxFeePerBlobGas" &self.max_fee_per_blob_gas;
             "blob_versioned_hashes" "blobVersionedHashes" Items(&self.blob_versioned_hashes);
@@ -147,7 +147,7 @@ impl ShowFields for SetCodeTransaction {
             "gas_limit" "gas" &self.gas_limit;
             "destination" "to" &self.destination.0;
             "value" "value" &self.value;
-            "data" "input" bytes(self.data.as_slice());
+            "data" "input" &self.data;
             "access_list" "accessList" Items(&self.access_list.0);
             "authorization_list" "authorizationList" Items(&self.authorization_list);
         )
@@ -207,8 +207,17 @@ impl ShowFields for Eip155 {
     }
 }
 
-/// Returns the hash that is signed of a transaction without a type, if `v` says what that is.
+/// Returns the hash that is signed of a transaction without a type.
 #[tactic(auto, using(crate::proofs::Written::legacy_written))]
+fn legacy_hash(alloc: Global, unsigned: &UnsignedLegacyTransaction) -> Result<Hash, AllocError>
+    ensures { IfOk result (λ h. h.0 ≡ legacy_hash
+        (legacy_transaction_fields.reading.seen unsigned.now.payload) unsigned.now.chain_id) }
+{
+    let bytes = rlp::encode(alloc, unsigned)?;
+    Ok(Hash(keccak256(bytes.as_slice())))
+}
+
+/// Returns the hash that is signed of a transaction without a type, if `v` says what that is.
 fn legacy_signing_hash(
     alloc: Global,
     payload: &LegacyTransaction,
@@ -224,8 +233,8 @@ fn legacy_signing_hash(
         payload: payload.clone()?,
         chain_id: said.chain_id,
     };
-    let bytes = rlp::encode(alloc, &unsigned)?;
-    Ok(Some(Hash(keccak256(bytes.as_slice()))))
+    let hash = legacy_hash(alloc, &unsigned)?;
+    Ok(Some(hash))
 }
 
 /// Returns whether a number is zero.
@@ -392,13 +401,26 @@ fn blob_hash(alloc: Global, tx: &Signed<BlobTransaction>) -> Result<Hash, AllocE
     Ok(Hash(keccak256(bytes.as_slice())))
 }
 
+/// A transaction without its blobs, and the hash that names it.
+#[derive(Clone, Copy)]
+struct WithoutBlobs<'a>(&'a Signed<BlobTransaction>);
+
+impl ShowFields for WithoutBlobs<'_> {
+    ghost fields = { seen_as (λ t. signed_blob_transaction.reading.seen t.0.now)
+        without_blobs_display };
+
+    fn give<S: Sink>(&self, alloc: Global, name: &str, sink: &mut S) -> Result<(), AllocError> {
+        let hash = blob_hash(alloc, self.0)?;
+        give_fields!(alloc, name, sink; "hash" "hash" &hash; self.0)
+    }
+}
+
 impl Show for BlobTransactionWithProofs {
     ghost display = { seen_as with_proofs.reading.seen with_proofs_display };
 
     fn show<S: Sink>(&self, alloc: Global, name: &str, sink: &mut S) -> Result<(), AllocError> {
-        let hash = blob_hash(alloc, &self.transaction)?;
         show_fields!(alloc, name, sink;
-            fields!("hash" "hash" &hash; &self.transaction);
+            WithoutBlobs(&self.transaction);
             "blobs" "blobs" Items(&self.blobs);
             "commitments" "commitments" Items(&self.commitments);
             "proofs" "proofs" Items(&self.proofs);
@@ -410,9 +432,8 @@ impl Show for BlobTransactionWithCellProofs {
     ghost display = { seen_as with_cell_proofs.reading.seen with_cell_proofs_display };
 
     fn show<S: Sink>(&self, alloc: Global, name: &str, sink: &mut S) -> Result<(), AllocError> {
-        let hash = blob_hash(alloc, &self.transaction)?;
         show_fields!(alloc, name, sink;
-            fields!("hash" "hash" &hash; &self.transaction);
+            WithoutBlobs(&self.transaction);
             "wrapper_version" "wrapperVersion" number(1);
             "blobs" "blobs" Items(&self.blobs);
             "commitments" "commitments" Items(&self.commitments);

@@ -9,10 +9,10 @@ abbrev shown : UnsignedTransaction → Entries
 shown t = payload_display.shown (unsigned_transaction.reading.seen t)
 
 pub returns-in-FeeMarket : goal.returns-in-FeeMarket
-returns-in-FeeMarket g c = fields_given shown c.in-FeeMarket.is c.give-in-FeeMarket.ensures
+returns-in-FeeMarket g c = fields_given shown _ _ _ _ _ _ _ c.in-FeeMarket.is c.give-in-FeeMarket.ensures
 
 pub returns-in-Blob : goal.returns-in-Blob
-returns-in-Blob g c = fields_given shown c.in-Blob.is c.give-in-Blob.ensures
+returns-in-Blob g c = fields_given shown _ _ _ _ _ _ _ c.in-Blob.is c.give-in-Blob.ensures
 
 pub returns-in-SetCode : goal.returns-in-SetCode
-returns-in-SetCode g c = fields_given shown c.in-SetCode.is c.give-in-SetCode.ensures
+returns-in-SetCode g c = fields_given shown _ _ _ _ _ _ _ c.in-SetCode.is c.give-in-SetCode.ensures
