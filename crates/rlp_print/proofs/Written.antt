@@ -1,5 +1,5 @@
 -- Hashes and sizes of what values are written as, by what contracts see of the values.
-use Rattle.std.proofs.Common.{◌≡◌, ◌∙◌, List, ℕ, [], ◌∷◌, ◌++◌, Bool, length, map, sym, ap}
+use Rattle.std.proofs.Common.{◌≡◌, ◌∙◌, List, ℕ, [], ◌∷◌, Bool, length, map, refl, sym, ap}
 use Rattle.keccak.specs.Keccak.{keccak256}
 use Rattle.rlp.specs.Format.Encoding.{encoding}
 use Rattle.rlp_records.specs.Alone.{bytes_alone}
@@ -12,12 +12,19 @@ use Rattle.rlp_transactions.specs.{AnyTransaction.any_transaction, BlobTransacti
 use Rattle.rlp_transactions.specs.{UnsignedLegacyTransaction.unsigned_legacy_transaction, UnsignedTransaction.unsigned_transaction}
 use Rattle.rlp_ethereum.specs.Block.{block}
 use Rattle.rlp_ethereum.specs.declared.block.Block.{Block}
-use Rattle.rlp_print.specs.Blocks.{block_size, header_hash}
+use Rattle.rlp_print.specs.Blocks.{block_size, header_hash, seen_hash}
 use Rattle.rlp_print.specs.Transactions.{blob_hash, legacy_hash, payload_hash, transaction_hash}
 
-pub header_written : (h : Header) (d : List ℕ) → d ≡ keccak256 (encoding (header.item h)) → d ≡ header_hash (header.reading.seen h)
+abbrev hash_with : List ℕ → Hash
+hash_with d = record { 0 = d }
+
+pub header_written : (h : Header) (k : Hash) → k.0 ≡ keccak256 (encoding (header.item h)) → k ≡ seen_hash h
 unfolding header_hash
-header_written h d is = is ∙ ap (λ x. keccak256 (encoding x)) (sym (header.reads_strictly.told.written h))
+header_written h k is = ap hash_with (is ∙ ap (λ x. keccak256 (encoding x)) (sym (header.reads_strictly.told.written h)))
+
+pub hashes_seen : (hs : List Header) → map (λ (k : Hash). k.0) (map seen_hash hs) ≡ map header_hash (map header.reading.seen hs)
+hashes_seen [] = refl
+hashes_seen (h ∷ hs) = cc (hashes_seen hs)
 
 pub block_written : (b : Block) (n : ℕ) → n ≡ length (encoding (block.item b)) → n ≡ block_size (block.reading.seen b)
 unfolding block_size
@@ -41,10 +48,3 @@ pub legacy_written : (u : UnsignedLegacyTransaction) (d : List ℕ) → d ≡ en
     → keccak256 d ≡ legacy_hash (legacy_transaction_fields.reading.seen u.payload) u.chain_id
 unfolding legacy_hash
 legacy_written u d is = ap keccak256 (is ∙ ap encoding (sym (unsigned_legacy_transaction.reads_strictly.told.written u)))
-
--- one more hash of a header
-pub hash_added : (hs : List Hash) (k : Hash) (h : Header) (more : List Header) → k.0 ≡ header_hash (header.reading.seen h)
-    → map (λ (x : Hash). x.0) (hs ++ k ∷ []) ++ map header_hash (map header.reading.seen more)
-    ≡ map (λ (x : Hash). x.0) hs ++ map header_hash (map header.reading.seen (h ∷ more))
-hash_added [] k h more is = cc
-hash_added (x ∷ hs) k h more is = cc (hash_added hs k h more is)

@@ -2,7 +2,9 @@
 use Rattle.std.specs.Prelude.{codes, ℕ, List, length, map}
 use Rattle.keccak.specs.Keccak.{keccak256}
 use Rattle.rlp.specs.Format.Encoding.{encoding}
+use Rattle.rlp_records.specs.declared.hash.Hash.{Hash}
 use Rattle.rlp_headers.specs.Header.{header}
+use Rattle.rlp_headers.specs.declared.header.Header.{Header}
 use Rattle.rlp_headers.specs.Forks.{cancun_fields, london_fields, shanghai_fields}
 use Rattle.rlp_ethereum.specs.{Block.block, Body.body}
 use Rattle.rlp_print.specs.Display.{Display, Fields, a_list, a_number, a_string, after_derived, an_object, bytes_as, derived, end, field, if_there, in_forms, in_order, one, one_if, through}
@@ -49,6 +51,9 @@ header_fields_display =
 unfoldable pub header_hash : header.reading.M → List ℕ
 header_hash h = keccak256 (encoding (header.reading.item h))
 
+abbrev pub seen_hash : Header → Hash
+seen_hash h = record { 0 = header_hash (header.reading.seen h) }
+
 -- the hash of a header, and its fields
 abbrev pub hashed_header_display : Fields header.reading.M
 hashed_header_display = after_derived (λ h. hash_entries (header_hash h)) header_fields_display
@@ -78,6 +83,6 @@ more_of_block = derived (λ b. (field (codes "uncles") (codes "uncles") (a_list 
 
 -- In JSON the fields of the header stand in the block itself.
 abbrev pub block_display : Display block.reading.M
-block_display = an_object (through (λ b. ((b.0, b.0), (b.1, (tt, b)))) (
+block_display = an_object (through (λ b. ((b.0, b.0), (b.1, (b, b)))) (
     in_order (in_forms (one (codes "header") (codes "header") header_display) hashed_header_display) (
     in_order body_fields_display (in_forms end more_of_block))))

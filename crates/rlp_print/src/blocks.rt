@@ -1,17 +1,16 @@
 //! Blocks, their headers and their bodies.
 
-ghost use Rattle.std.specs.Prelude.{◌≡◌, IfOk, List, length, map, ℕ};
-ghost use Rattle.rlp.specs.Format.Encoding.{encoding};
+ghost use Rattle.std.specs.Prelude.{◌≡◌, IfOk, map};
 ghost use Rattle.rlp_headers.specs.Forks.{cancun_fields, london_fields, shanghai_fields};
 ghost use Rattle.rlp_headers.specs.Header.{header};
 ghost use Rattle.rlp_ethereum.specs.{Block.block, Body.body};
-ghost use Rattle.rlp_print.specs.Blocks.{block_display, block_size, body_display, cancun_display, hashed_header_display, header_display, header_hash, london_display, more_of_block, shanghai_display};
+ghost use Rattle.rlp_print.specs.Blocks.{block_display, block_size, body_display, cancun_display, hashed_header_display, header_display, seen_hash, london_display, more_of_block, shanghai_display};
 ghost use Rattle.rlp_print.specs.Display.{seen_as};
 
 use crate::show::{
     ByForm, Items, Object, Show, ShowFields, field, fields, give_fields, show_fields,
 };
-use crate::sink::{BytesKind, Shown, Sink, bytes, number};
+use crate::sink::{BytesKind, Shown, Sink, bytes};
 use rlp_ethereum::{Block, Body};
 use rlp_headers::{Cancun, Header, London, Shanghai};
 use rlp_records::Hash;
@@ -55,7 +54,7 @@ impl ShowFields for London {
 /// Returns the hash of a header.
 #[tactic(auto, using(crate::proofs::Written::header_written))]
 fn hash_of(alloc: Global, whole: &Header) -> Result<Hash, AllocError>
-    ensures { IfOk result (λ h. h.0 ≡ header_hash (header.reading.seen whole.now)) }
+    ensures { IfOk result (λ h. h ≡ seen_hash whole.now) }
 {
     whole.hash(alloc)
 }
@@ -109,10 +108,8 @@ impl Show for Body {
 }
 
 /// Returns the hashes of headers.
-#[tactic(auto, using(crate::proofs::Written::hash_added))]
 fn hashes_of(alloc: Global, headers: &[Header]) -> Result<Vec<Hash>, AllocError>
-    ensures { IfOk result (λ hs. map (λ h. h.0) hs.items
-        ≡ map header_hash (map header.reading.seen headers.now)) }
+    ensures { IfOk result (λ hs. hs.items ≡ map seen_hash headers.now) }
 {
     let mut hashes = Vec::new(alloc);
     let mut rest = headers;
@@ -125,11 +122,11 @@ fn hashes_of(alloc: Global, headers: &[Header]) -> Result<Vec<Hash>, AllocError>
 
 /// Returns the number of bytes of a block.
 #[tactic(auto, using(crate::proofs::Written::block_written))]
-fn size_of(alloc: Global, whole: &Block) -> Result<usize, AllocError>
+fn size_of(alloc: Global, whole: &Block) -> Result<u64, AllocError>
     ensures { IfOk result (λ n. n ≡ block_size (block.reading.seen whole.now)) }
 {
     let bytes = rlp::encode(alloc, whole)?;
-    Ok(bytes.len())
+    Ok(bytes.len() as u64)
 }
 
 /// What JSON has of a block besides its fields.
@@ -139,13 +136,11 @@ struct More<'a>(&'a Block);
 impl ShowFields for More<'_> {
     ghost fields = { seen_as (λ b. block.reading.seen b.0.now) more_of_block };
 
+    #[tactic(auto, using(crate::proofs::Written::hashes_seen))]
     fn give<S: Sink>(&self, alloc: Global, name: &str, sink: &mut S) -> Result<(), AllocError> {
         let uncles = hashes_of(alloc, self.0.ommers.as_slice())?;
         let size = size_of(alloc, self.0)?;
-        give_fields!(alloc, name, sink;
-            "uncles" "uncles" Items(&uncles);
-            "size" "size" number(size as u64)
-        )
+        give_fields!(alloc, name, sink; "uncles" "uncles" Items(&uncles); "size" "size" &size)
     }
 }
 

@@ -165,7 +165,7 @@ impl Show for Receipt69 {
 
     fn show<S: Sink>(&self, alloc: Global, name: &str, sink: &mut S) -> Result<(), AllocError> {
         show_fields!(alloc, name, sink;
-            "transaction_type" "transactionType" number(u64::from(self.transaction_type));
+            "transaction_type" "transactionType" &self.transaction_type;
             &self.status_or_state_root;
             "cumulative_gas_used" "cumulativeGasUsed" &self.cumulative_gas_used;
             "logs" "logs" Items(&self.logs);

@@ -17,6 +17,14 @@ use rlp_headers::{Account, Log, Receipt, ReceiptStatus, TypedReceipt, Withdrawal
 use rlp_records::Hash;
 use std::alloc::{AllocError, Global};
 
+impl Show for u8 {
+    ghost display = { seen_as (λ n. n) a_number };
+
+    fn show<S: Sink>(&self, _alloc: Global, name: &str, sink: &mut S) -> Result<(), AllocError> {
+        sink.put(name, number(u64::from(*self)))
+    }
+}
+
 impl Show for u64 {
     ghost display = { seen_as (λ n. n) a_number };
 

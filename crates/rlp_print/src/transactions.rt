@@ -187,7 +187,7 @@ impl Show for SignedAuthorization {
         let hash = signing_hash_of(alloc, &self.payload)?;
         show_fields!(alloc, name, sink;
             &self.payload;
-            "y_parity" "yParity" number(u64::from(self.v));
+            "y_parity" "yParity" &self.v;
             "r" "r" Shown::Number(NumberKind::Quantity, self.r);
             "s" "s" Shown::Number(NumberKind::Quantity, self.s);
             "signing_hash" "signingHash" &hash
@@ -411,7 +411,8 @@ impl ShowFields for WithoutBlobs<'_> {
 
     fn give<S: Sink>(&self, alloc: Global, name: &str, sink: &mut S) -> Result<(), AllocError> {
         let hash = blob_hash(alloc, self.0)?;
-        give_fields!(alloc, name, sink; "hash" "hash" &hash; self.0)
+        field!("hash" "hash" &hash).give(alloc, name, sink)?;
+        self.0.give(alloc, name, sink)
     }
 }
 
@@ -434,7 +435,7 @@ impl Show for BlobTransactionWithCellProofs {
     fn show<S: Sink>(&self, alloc: Global, name: &str, sink: &mut S) -> Result<(), AllocError> {
         show_fields!(alloc, name, sink;
             WithoutBlobs(&self.transaction);
-            "wrapper_version" "wrapperVersion" number(1);
+            "wrapper_version" "wrapperVersion" &1_u64;
             "blobs" "blobs" Items(&self.blobs);
             "commitments" "commitments" Items(&self.commitments);
             "cell_proofs" "proofs" Items(&self.cell_proofs);
