@@ -52,7 +52,6 @@ impl ShowFields for London {
 }
 
 /// Returns the hash of a header.
-#[tactic(auto, using(crate::proofs::Written::header_written))]
 fn hash_of(alloc: Global, whole: &Header) -> Result<Hash, AllocError>
     ensures { IfOk result (λ h. h ≡ seen_hash whole.now) }
 {

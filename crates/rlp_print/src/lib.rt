@@ -1,4 +1,7 @@
 //! Shows values of Ethereum's records by the names of their fields, as lines and as JSON.
+//!
+//! A type that is a list alone, such as the headers of an answer, is shown by [`Items`] of its
+//! vector, and a node record by its fields.
 #![tactic(auto)]
 
 mod blocks;
