@@ -1,9 +1,9 @@
 -- What is shown of withdrawals, accounts, logs and receipts, and of the fault of a record.
-use Rattle.std.specs.Prelude.{codes, refl, ℕ, Bool, true, false, List, ◌≡◌, Option, Some, None}
+use Rattle.std.specs.Prelude.{codes, refl, ℕ, List, ◌≡◌, Option, Some, None}
 use Rattle.rlp_headers.specs.{Account.account, Log.log, Receipt.receipt_fields, ReceiptStatus.receipt_status, TypedReceipt.typed_receipt, Withdrawal.withdrawal}
 use Rattle.rlp_print.specs.Display.{Display, Fields, a_bit, a_list, a_number, a_string, a_text, after_derived, an_object, bytes_as, end, field, field_if, in_order, number_as, one}
 use Rattle.rlp_print.specs.Value.{Entries, bytes, content, entry, by_form}
-use Rattle.rlp_print.specs.Types.{and_type, last_type, no_type_entries, type_entries}
+use Rattle.rlp_print.specs.Types.{and_type, last_type, no_type_entries, of_type}
 use Rattle.rlp_print.specs.declared.{sink.NumberKind.TheVariants.Place, sink.BytesKind.TheVariants.Any, sink.BytesKind.TheVariants.Sparse}
 
 -- the place of a field, if the fault is in one; the name of an item; and the fault
@@ -64,14 +64,10 @@ receipt_display =
     field (codes "logs_bloom") (codes "logsBloom") (bytes_as Sparse) (
     field (codes "logs") (codes "logs") (a_list log_display) end)))
 
--- a receipt after the number of its type
-abbrev pub receipt_of_type : ℕ → Fields receipt_fields.reading.M
-receipt_of_type tag = after_derived (λ r. type_entries tag) receipt_display
-
 -- receipts of all types
 abbrev pub typed_receipt_display : Display typed_receipt.reading.M
 typed_receipt_display = an_object (
     and_type 0 (after_derived (λ r. no_type_entries) receipt_display) (λ r. refl) (
-    and_type 1 (receipt_of_type 1) (λ r. refl) (
-    and_type 2 (receipt_of_type 2) (λ r. refl) (
-    and_type 3 (receipt_of_type 3) (λ r. refl) (last_type 4 (receipt_of_type 4) (λ r. refl)))))).fields
+    and_type 1 (of_type 1 receipt_display) (λ r. refl) (
+    and_type 2 (of_type 2 receipt_display) (λ r. refl) (
+    and_type 3 (of_type 3 receipt_display) (λ r. refl) (last_type 4 (of_type 4 receipt_display) (λ r. refl)))))).fields

@@ -2,7 +2,7 @@
 use Rattle.std.specs.Prelude.{ℕ, List, codes, refl, ◌≡◌, ◌==◌, ◌&&◌, if◌then◌else◌, Bool, true, false, ◌∷◌, Option, Some, None, option_map, drop, ◌⊎◌, ⊤}
 use Rattle.std.proofs.Common.{inl, inr, ap, sym, ◌∙◌}
 use Rattle.keccak.specs.Keccak.{keccak256}
-use Rattle.rlp.specs.{Format.Encoding.encoding, Format.Item.Item, Format.Item.list_of}
+use Rattle.rlp.specs.{Format.Encoding.encoding, Format.Item.list_of}
 use Rattle.rlp.specs.Form.{FieldsReading}
 use Rattle.rlp.specs.Sums.{sum_map}
 use Rattle.rlp_records.specs.Alone.{bytes_alone}
@@ -16,7 +16,7 @@ use Rattle.rlp_transactions.specs.{Signatures.number_of, UnsignedTransaction.uns
 use Rattle.rlp_print.specs.Display.{Display, Fields, a_bit, a_content, a_list, a_number, a_quantity, a_string, a_type, after_derived, an_object, bytes_as, derived, end, field, field_if, if_there, in_order, one, one_if, through}
 use Rattle.rlp_print.specs.{Lines.said_by, Records.hash_entries}
 use Rattle.rlp_print.specs.Value.{Content, Entries, both, by_form, bytes, content, entries_if, entry, nothing, number}
-use Rattle.rlp_print.specs.Types.{and_type, last_type, no_type_entries, on_either, type_entries}
+use Rattle.rlp_print.specs.Types.{and_type, last_type, no_type_entries, of_type, on_either}
 use Rattle.rlp_print.specs.declared.{sink.NumberKind.TheVariants.Decimal, sink.NumberKind.TheVariants.LegacyV}
 use Rattle.rlp_print.specs.declared.sink.BytesKind.TheVariants.{Any, Null, Payload, Sparse}
 
@@ -111,7 +111,7 @@ signature_before more = field (codes "r") (codes "r") a_quantity (field (codes "
 
 -- The number of the type, the fields of the payload, the signature and the hash that is signed. In JSON the parity is also `v`.
 abbrev pub typed_fields : {T M : Type 0} → ℕ → (r : FieldsReading T) → Fields M → Fields (M × (Bool × (ℕ × (ℕ × r.M))))
-typed_fields tag r f = through (λ m. (m.0, (m.1.0, m.1))) (after_derived (λ m. type_entries tag) (
+typed_fields tag r f = through (λ m. (m.0, (m.1.0, m.1))) (of_type tag (
     in_order f (
     field (codes "y_parity") (codes "yParity") a_bit (
     in_order (derived (λ v. by_form nothing (entry (codes "v") (codes "v") (a_bit.shown v)))) (
@@ -252,9 +252,6 @@ unsigned_legacy_display = after_derived (λ t. no_type_entries) (
 -- the number of a type, and the fields of a payload
 abbrev pub after_type : {M : Type 0} → Fields M → Fields (ℕ × M)
 after_type f = field (codes "type") (codes "type") a_type f
-
-abbrev pub of_type : {M : Type 0} → ℕ → Fields M → Fields M
-of_type {M} tag f = through (λ (m : M). (tag, m)) (after_type f)
 
 abbrev pub payload_display : Fields unsigned_transaction.reading.M
 payload_display = (

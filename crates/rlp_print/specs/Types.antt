@@ -3,7 +3,7 @@ use Rattle.std.specs.Prelude.{ℕ, suc, ◌⊎◌, codes}
 use Rattle.std.proofs.Common.{inl, inr, ◌≡◌, ◌≤◌, ap, sym, arith}
 use Rattle.rlp.specs.Sums.{sum_map}
 use Rattle.rlp_print.specs.Value.{Entries, both, by_form, content, entry, nothing, type_byte}
-use Rattle.rlp_print.specs.Display.{Fields}
+use Rattle.rlp_print.specs.Display.{Fields, after_derived}
 
 abbrev pub type_entries : ℕ → Entries
 type_entries tag = entry (codes "type") (codes "type") (content (type_byte tag))
@@ -11,6 +11,10 @@ type_entries tag = entry (codes "type") (codes "type") (content (type_byte tag))
 -- without a type there is nothing in lines, and 0 in JSON
 abbrev pub no_type_entries : Entries
 no_type_entries = by_form nothing (type_entries 0)
+
+-- the number of a type, and fields
+abbrev pub of_type : {M : Type 0} → ℕ → Fields M → Fields M
+of_type tag f = after_derived (λ m. type_entries tag) f
 
 -- the number of the type that fields begin with
 abbrev pub shown_type : Entries → ℕ

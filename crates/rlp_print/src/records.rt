@@ -6,7 +6,7 @@ ghost use Rattle.rlp.specs.Codec.{uint};
 ghost use Rattle.rlp_headers.specs.{Account.account, Log.log, Receipt.receipt, ReceiptStatus.receipt_status, TypedReceipt.typed_receipt, Withdrawal.withdrawal, Withdrawal.withdrawals};
 ghost use Rattle.rlp_print.specs.Display.{a_list, a_number, a_string, number_as, seen_as};
 ghost use Rattle.rlp_print.specs.declared.sink.NumberKind.TheVariants.{Place};
-ghost use Rattle.rlp_print.specs.Records.{account_display, fault_display, fault_fields, log_display, receipt_display, status_fields, typed_receipt_display, withdrawal_display};
+ghost use Rattle.rlp_print.specs.Records.{account_display, fault_display, log_display, receipt_display, status_fields, typed_receipt_display, withdrawal_display};
 
 use crate::show::{
     ByForm, Items, Object, Show, ShowFields, field, fields, give_fields, show_fields,

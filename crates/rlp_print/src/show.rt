@@ -2,8 +2,8 @@
 
 ghost use Rattle.std.specs.Prelude.{◌≡◌, OnOk, string_bytes, IfOk, map, option_map};
 ghost use Rattle.std.specs.Vec.{vec_items};
-ghost use Rattle.rlp_print.specs.Display.{Showing, a_content, a_list, an_object, end, if_there, in_forms, in_order, named, seen_as, shown_of, through};
-ghost use Rattle.rlp_print.specs.Value.{Entries, Value, after, after_fields, content_of, entries_if, entry, inside, item_name};
+ghost use Rattle.rlp_print.specs.Display.{Showing, a_content, a_list, an_object, end, if_there, in_forms, in_order, named, seen_as, shown_of};
+ghost use Rattle.rlp_print.specs.Value.{Entries, Value, after, after_fields, content_of, inside, item_name};
 
 use crate::sink::{Bracket, Shown, Sink};
 use std::alloc::{AllocError, Global};

@@ -1,4 +1,4 @@
-use Rattle.std.proofs.Common.{◌≡◌, ◌∙◌, ap}
+use Rattle.std.proofs.Common.{◌∙◌, ap}
 use Rattle.rlp_transactions.specs.BlobTransaction.{blob_transaction_fields, signed_blob_transaction}
 use Rattle.rlp_print.specs.{Records.hash_entries, Transactions.blob_display, Transactions.blob_hash, Transactions.typed_display, Value.after_fields}
 use Rattle.rlp_print.proofs.Given.{both_given}
