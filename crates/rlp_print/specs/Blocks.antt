@@ -70,9 +70,6 @@ body_fields_display =
     field (codes "ommers") (codes "ommers") (a_list header_display) (
     one_if (codes "withdrawals") (codes "withdrawals") (a_list withdrawal_display)))
 
-abbrev pub body_display : Display body.reading.M
-body_display = an_object body_fields_display
-
 -- the number of bytes of a block
 unfoldable pub block_size : block.reading.M → ℕ
 block_size b = length (encoding (block.reading.item b))

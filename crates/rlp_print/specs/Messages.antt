@@ -3,10 +3,10 @@ use Rattle.std.specs.Prelude.{ℕ, List, [], ◌∷◌, codes, Option, Some, Non
 use Rattle.std.proofs.Common.{inl, inr}
 use Rattle.rlp_p2p.specs.{Disconnect.disconnect, Hello.capability, Hello.further_fields, Hello.hello}
 use Rattle.rlp_eth.specs.Announcements.{block_range_update, new_block, new_block_hash, new_pooled_transaction_hashes}
-use Rattle.rlp_eth.specs.{HashOrNumber.hash_or_number, Receipts.block_receipts, Receipts69.block_receipts69, Receipts69.receipt69, Requests.get_block_headers, Status.fork_id, Status.status68, Status.status69}
+use Rattle.rlp_eth.specs.{HashOrNumber.hash_or_number, Receipts69.receipt69, Requests.get_block_headers, Status.fork_id, Status.status68, Status.status69}
 use Rattle.rlp_print.specs.Display.{Display, Fields, a_bit, a_content, a_list, a_number, a_string, an_object, bytes_as, end, field, in_order, one, one_if, through}
 use Rattle.rlp_print.specs.Value.{Content, bytes, number}
-use Rattle.rlp_print.specs.Records.{log_display, status_fields, typed_receipt_display}
+use Rattle.rlp_print.specs.Records.{log_display, status_fields}
 use Rattle.rlp_print.specs.{Blocks.block_display, Items.raw_item_display}
 use Rattle.rlp_print.specs.declared.{sink.NumberKind.TheVariants.Decimal, sink.BytesKind.TheVariants.Any, sink.BytesKind.TheVariants.Word}
 
@@ -77,9 +77,6 @@ status69_display = an_object (
     field (codes "genesis_hash") (codes "genesisHash") a_string (
     field (codes "fork_id") (codes "forkId") fork_id_display range_display))))
 
-abbrev pub block_range_update_display : Display block_range_update.reading.M
-block_range_update_display = an_object range_display
-
 -- ---- announcements
 
 abbrev pub new_block_hash_display : Display new_block_hash.reading.M
@@ -128,9 +125,6 @@ get_block_headers_display = an_object (
 
 -- ---- receipts of blocks
 
-abbrev pub block_receipts_display : Display block_receipts.reading.M
-block_receipts_display = a_list typed_receipt_display
-
 -- a receipt since `eth/69`
 abbrev pub receipt69_display : Display receipt69.reading.M
 receipt69_display = an_object (
@@ -138,6 +132,3 @@ receipt69_display = an_object (
     in_order status_fields (
     field (codes "cumulative_gas_used") (codes "cumulativeGasUsed") a_number (
     field (codes "logs") (codes "logs") (a_list log_display) end))))
-
-abbrev pub block_receipts69_display : Display block_receipts69.reading.M
-block_receipts69_display = a_list receipt69_display

@@ -6,15 +6,11 @@ use Rattle.rlp_print.specs.Value.{Entries, bytes, content, entry, by_form}
 use Rattle.rlp_print.specs.Types.{and_type, last_type, no_type_entries, of_type}
 use Rattle.rlp_print.specs.declared.{sink.NumberKind.TheVariants.Place, sink.BytesKind.TheVariants.Any, sink.BytesKind.TheVariants.Sparse}
 
--- the place of a field, if the fault is in one; the name of an item; and the fault
-abbrev pub fault_fields : Fields (Option ℕ × (List ℕ × List ℕ))
-fault_fields =
-    field_if (codes "field") (codes "field") (number_as Place) (
-    field (codes "name") (codes "name") a_text (one (codes "fault") (codes "fault") a_text))
-
--- an object with the one member `error`
+-- An object with the one member `error`: the place of a field, if the fault is in one; the name of an item; and the fault.
 abbrev pub fault_display : Display (Option ℕ × (List ℕ × List ℕ))
-fault_display = an_object (one (codes "error") (codes "error") (an_object fault_fields))
+fault_display = an_object (one (codes "error") (codes "error") (an_object (
+    field_if (codes "field") (codes "field") (number_as Place) (
+    field (codes "name") (codes "name") a_text (one (codes "fault") (codes "fault") a_text)))))
 
 -- the hash that names a record
 abbrev pub hash_entries : List ℕ → Entries

@@ -21,7 +21,14 @@ impl Show for RawItem {
     ghost display = { seen_as raw_item.reading.seen raw_item_display };
 
     fn show<S: Sink>(&self, alloc: Global, name: &str, sink: &mut S) -> Result<(), AllocError> {
-        show_item(alloc, name, self.as_bytes(), RawItem::MAX_DEPTH, false, sink)
+        show_item(
+            alloc,
+            name,
+            self.as_bytes(),
+            RawItem::MAX_DEPTH,
+            false,
+            sink,
+        )
     }
 }
 

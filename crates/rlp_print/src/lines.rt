@@ -7,9 +7,7 @@ ghost use Rattle.rlp_print.specs.Value.{content_of};
 
 use crate::show::Show;
 use crate::sink::{Bracket, BytesKind, NumberKind, Shown, Sink};
-use crate::texts::{
-    put_bytes, put_hex, put_ip, put_path, put_sparse, put_v, put_word_or_bytes,
-};
+use crate::texts::{put_bytes, put_hex, put_ip, put_path, put_sparse, put_v, put_word_or_bytes};
 use rlp::Uint;
 use std::alloc::{AllocError, Global};
 use std::fmt::Write;

@@ -5,9 +5,10 @@ ghost use Rattle.std.specs.Vec.{vec_items};
 ghost use Rattle.rlp_p2p.specs.{Disconnect.disconnect, Hello.capability, Hello.further_fields, Hello.hello};
 ghost use Rattle.rlp_eth.specs.Announcements.{block_range_update, new_block, new_block_hash, new_pooled_transaction_hashes};
 ghost use Rattle.rlp_eth.specs.{HashOrNumber.hash_or_number, Receipts.block_receipts, Receipts69.block_receipts69, Receipts69.receipt69, Requests.get_block_headers, Status.fork_id, Status.status68, Status.status69};
-ghost use Rattle.rlp_print.specs.Display.{an_object, end, seen_as};
-ghost use Rattle.rlp_print.specs.Messages.{block_range_update_display, block_receipts69_display, block_receipts_display, capability_display, disconnect_display, fork_id_display, further_display, further_item_display, get_block_headers_display, hash_or_number_display, hello_display};
-ghost use Rattle.rlp_print.specs.Messages.{new_block_display, new_block_hash_display, new_pooled_transaction_hashes_display, receipt69_display, status68_display, status69_display, with_request_id_display};
+ghost use Rattle.rlp_print.specs.Display.{a_list, an_object, end, seen_as};
+ghost use Rattle.rlp_print.specs.Records.{typed_receipt_display};
+ghost use Rattle.rlp_print.specs.Messages.{capability_display, disconnect_display, fork_id_display, further_display, further_item_display, get_block_headers_display, hash_or_number_display, hello_display};
+ghost use Rattle.rlp_print.specs.Messages.{new_block_display, new_block_hash_display, new_pooled_transaction_hashes_display, range_display, receipt69_display, status68_display, status69_display, with_request_id_display};
 
 use crate::show::{Items, Object, Show, ShowFields, field, fields, show_fields};
 use crate::sink::{BytesKind, Shown, Sink, bytes, number};
@@ -64,7 +65,7 @@ impl Show for Status69 {
 }
 
 impl Show for BlockRangeUpdate {
-    ghost display = { seen_as block_range_update.reading.seen block_range_update_display };
+    ghost display = { seen_as block_range_update.reading.seen (an_object range_display) };
 
     fn show<S: Sink>(&self, alloc: Global, name: &str, sink: &mut S) -> Result<(), AllocError> {
         show_fields!(alloc, name, sink;
@@ -153,7 +154,7 @@ impl Show for GetBlockHeaders {
 // ---- receipts of blocks
 
 impl Show for BlockReceipts {
-    ghost display = { seen_as block_receipts.reading.seen block_receipts_display };
+    ghost display = { seen_as block_receipts.reading.seen (a_list typed_receipt_display) };
 
     fn show<S: Sink>(&self, alloc: Global, name: &str, sink: &mut S) -> Result<(), AllocError> {
         Items(&self.0).show(alloc, name, sink)
@@ -174,7 +175,7 @@ impl Show for Receipt69 {
 }
 
 impl Show for BlockReceipts69 {
-    ghost display = { seen_as block_receipts69.reading.seen block_receipts69_display };
+    ghost display = { seen_as block_receipts69.reading.seen (a_list receipt69_display) };
 
     fn show<S: Sink>(&self, alloc: Global, name: &str, sink: &mut S) -> Result<(), AllocError> {
         Items(&self.0).show(alloc, name, sink)

@@ -37,8 +37,7 @@ fn port_in(port: &[u8]) -> Shown<'_>
 fn is_ip(key: &[u8], bytes: &[u8]) -> bool
     ensures { result ≡ is_ip key.now bytes.now }
 {
-    (key == "ip".as_bytes() && bytes.len() == 4)
-        || (key == "ip6".as_bytes() && bytes.len() == 16)
+    (key == "ip".as_bytes() && bytes.len() == 4) || (key == "ip6".as_bytes() && bytes.len() == 16)
 }
 
 /// Returns what is shown of the string at a key.

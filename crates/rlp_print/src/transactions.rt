@@ -22,11 +22,11 @@ use keccak::keccak256;
 use rlp::Uint;
 use rlp_records::Hash;
 use rlp_transactions::{
-    AccessListItem, AccessListTransaction, AnyTransaction, Authorization, Blob,
-    BlobTransaction, BlobTransactionWithCellProofs, BlobTransactionWithProofs, Eip155,
-    FeeMarketTransaction, LegacyTransaction, Recipient, SetCodeTransaction, Signed,
-    SignedAuthorization, SignedLegacyTransaction, Tagged, Transaction, TypedTransaction,
-    UnsignedLegacyTransaction, UnsignedTransaction, signing_hash,
+    AccessListItem, AccessListTransaction, AnyTransaction, Authorization, Blob, BlobTransaction,
+    BlobTransactionWithCellProofs, BlobTransactionWithProofs, Eip155, FeeMarketTransaction,
+    LegacyTransaction, Recipient, SetCodeTransaction, Signed, SignedAuthorization,
+    SignedLegacyTransaction, Tagged, Transaction, TypedTransaction, UnsignedLegacyTransaction,
+    UnsignedTransaction, signing_hash,
 };
 use std::alloc::{AllocError, Global};
 
