@@ -1,7 +1,8 @@
 -- Lists are taken item by item, and items by what their bytes begin with.
-use Rattle.std.proofs.Common.{◌≡◌, ◌≢◌, ◌<◌, ◌-◌, ℕ, zero, suc, Bool, false, List, [], ◌∷◌, length, map, refl, ap, ◌∙◌, arith, Ok, Err}
+use Rattle.std.proofs.Common.{◌≡◌, ◌≢◌, ◌<◌, ◌-◌, ℕ, zero, suc, Bool, true, false, List, [], ◌∷◌, length, map, refl, ap, ◌∙◌, arith, Ok, Err}
+use Rattle.rlp.specs.Views.View.{item_views, view_of}
 use Rattle.rlp.specs.{DecoderError.DecoderError, Format.StringReading.read_string, Values.RawItem.string_or_none}
-use Rattle.rlp_print.specs.Items.{item_shown, shown_within}
+use Rattle.rlp_print.specs.Items.{item_shown, items_shown, node_shown, shown_within}
 use Rattle.rlp_print.specs.Value.{Steps, Value, after, after_items, array, bytes, content, values_of}
 use Rattle.rlp_print.specs.declared.{sink.Bracket.TheVariants.Square, sink.BytesKind.TheVariants.Any}
 use Rattle.rlp_print.specs.NodeRecords.{key_value, key_value_by, string_content}
@@ -33,15 +34,25 @@ none_shown zero is_node b e is bottom = ap (λ r. content (bytes Any (string_or_
 none_shown (suc most) is_node b e is bottom = absurd (omega arith)
 
 -- a list
-pub list_shown : (most : ℕ) (is_node : Bool) (b : List ℕ) (e : DecoderError) → read_string b ≡ Err e → most ≢ 0
-    → shown_within most is_node b ≡ item_shown (shown_within (most - 1)) is_node b (Err e)
+pub list_shown : (most : ℕ) (is_node : Bool) (b : List ℕ) (e : DecoderError) → read_string b ≡ Err e → most ≢ 0 → is_node ≡ false
+    → shown_within most is_node b ≡ items_shown (shown_within (most - 1)) false (item_views (view_of b))
 unfolding shown_within
-list_shown zero is_node b e is some = absurd (some refl)
-list_shown (suc most) is_node b e is some =
+list_shown zero is_node b e is some kind = absurd (some refl)
+list_shown (suc most) true b e is some kind = absurd cc
+list_shown (suc most) false b e is some kind =
     let same : most ≡ suc most - 1 = omega arith in
-    ap (item_shown (shown_within most) is_node b) is ∙ ap (λ n. item_shown (shown_within n) is_node b (Err e)) same
+    ap (item_shown (shown_within most) false b) is ∙ ap (λ n. items_shown (shown_within n) false (item_views (view_of b))) same
 
-pub ruleset items_by_bytes = (string_shown, none_shown, list_shown)
+pub nodes_shown : (most : ℕ) (is_node : Bool) (b : List ℕ) (e : DecoderError) → read_string b ≡ Err e → most ≢ 0 → is_node ≡ true
+    → shown_within most is_node b ≡ node_shown (shown_within (most - 1)) (item_views (view_of b))
+unfolding shown_within
+nodes_shown zero is_node b e is some kind = absurd (some refl)
+nodes_shown (suc most) true b e is some kind =
+    let same : most ≡ suc most - 1 = omega arith in
+    ap (item_shown (shown_within most) true b) is ∙ ap (λ n. node_shown (shown_within n) (item_views (view_of b))) same
+nodes_shown (suc most) false b e is some kind = absurd cc
+
+pub ruleset items_by_bytes = (string_shown, none_shown, list_shown, nodes_shown)
 
 -- the value of a key of a node record
 module _ {S : Type 0} (st : Steps S) (name key b : List ℕ) (s : S) where

@@ -15,9 +15,12 @@ use Rattle.rlp_ethereum.specs.declared.block.Block.{Block}
 use Rattle.rlp_print.specs.Blocks.{block_size, header_hash, seen_hash}
 use Rattle.rlp_print.specs.Transactions.{blob_hash, legacy_hash, payload_hash, transaction_hash}
 
-pub header_written : (h : Header) (d : List ℕ) → d ≡ keccak256 (encoding (header.item h)) → d ≡ header_hash (header.reading.seen h)
+abbrev hash_with : List ℕ → Hash
+hash_with d = record { 0 = d }
+
+pub header_written : (h : Header) (k : Hash) → k.0 ≡ keccak256 (encoding (header.item h)) → k ≡ seen_hash h
 unfolding header_hash
-header_written h d is = is ∙ ap (λ x. keccak256 (encoding x)) (sym (header.reads_strictly.told.written h))
+header_written h k is = ap hash_with (is ∙ ap (λ x. keccak256 (encoding x)) (sym (header.reads_strictly.told.written h)))
 
 pub hashes_seen : (hs : List Header) → map (λ (k : Hash). k.0) (map seen_hash hs) ≡ map header_hash (map header.reading.seen hs)
 hashes_seen [] = refl

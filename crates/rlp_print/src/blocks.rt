@@ -4,7 +4,7 @@ ghost use Rattle.std.specs.Prelude.{◌≡◌, IfOk, map};
 ghost use Rattle.rlp_headers.specs.Forks.{cancun_fields, london_fields, shanghai_fields};
 ghost use Rattle.rlp_headers.specs.Header.{header};
 ghost use Rattle.rlp_ethereum.specs.{Block.block, Body.body};
-ghost use Rattle.rlp_print.specs.Blocks.{block_display, block_size, body_fields_display, cancun_display, hashed_header_display, header_display, header_hash, seen_hash, london_display, more_of_block, shanghai_display};
+ghost use Rattle.rlp_print.specs.Blocks.{block_display, block_size, body_fields_display, cancun_display, hashed_header_display, header_display, seen_hash, london_display, more_of_block, shanghai_display};
 ghost use Rattle.rlp_print.specs.Display.{an_object, seen_as};
 
 use crate::show::{
@@ -52,9 +52,8 @@ impl ShowFields for London {
 }
 
 /// Returns the hash of a header.
-#[tactic(auto, using(crate::proofs::Written::header_written))]
 fn hash_of(alloc: Global, whole: &Header) -> Result<Hash, AllocError>
-    ensures { IfOk result (λ h. h.0 ≡ header_hash (header.reading.seen whole.now)) }
+    ensures { IfOk result (λ h. h ≡ seen_hash whole.now) }
 {
     whole.hash(alloc)
 }
@@ -114,8 +113,7 @@ fn hashes_of(alloc: Global, headers: &[Header]) -> Result<Vec<Hash>, AllocError>
     let mut hashes = Vec::new(alloc);
     let mut rest = headers;
     while let [first, others @ ..] = rest {
-        let hash = hash_of(alloc, first)?;
-        hashes.push(Hash(hash.0))?;
+        hashes.push(hash_of(alloc, first)?)?;
         rest = others;
     }
     Ok(hashes)
