@@ -2,10 +2,10 @@
 use Rattle.std.specs.Prelude.{if◌then◌else◌, not}
 use Rattle.std.proofs.Common.{◌≡◌, ◌≢◌, ◌<◌, ◌-◌, ◌==◌, ◌++◌, ℕ, zero, suc, Bool, true, false, Option, Some, None, List, [], ◌∷◌, length, map, refl, sym, ap, ◌∙◌, arith, Result, Ok, Err}
 use Rattle.std.proofs.{lemmas.Bool.Decides.nat_tests, lemmas.Bool.cond-false, lemmas.Bool.cond-true}
-use Rattle.rlp.specs.Format.Item.{Item, items_from, list, listed, string}
+use Rattle.rlp.specs.Format.Encoding.{Item, items_from, list, listed, string}
 use Rattle.rlp.specs.Values.RawItem.{item_by, item_within, raw_item_of, string_or_none}
 use Rattle.rlp.specs.Views.View.{View, item_views, view_of}
-use Rattle.rlp.specs.{DecoderError.DecoderError, Format.Split.items, Format.StringReading.read_string}
+use Rattle.rlp.specs.{DecoderError.DecoderError, Format.Framing.items, Format.Framing.read_string}
 use Rattle.rlp_trie.specs.HexPrefix.{ends_in_leaf}
 use Rattle.rlp_print.specs.Items.{branch_entries, front_values, item_value, items_values, kept_value, last_item, pair_entries, pair_value, string_of, value_by, view_items}
 use Rattle.rlp_print.specs.Value.{Steps, after, after_items, Value, array, bytes, content, object, values_of}

@@ -3,7 +3,7 @@ use Rattle.std.specs.Prelude.{ℕ, ◌==◌, if◌then◌else◌, Bool, true, fa
 use Rattle.std.specs.Vec.{vec_items}
 use Rattle.std.proofs.Common.{◌≡◌, ◌<◌, ◌∙◌, refl, sym, ap, arith}
 use Rattle.std.proofs.lemmas.Bool.Decides.{nat_tests}
-use Rattle.rlp.specs.Format.Item.{Item, Items, string, list, no_items, item_and, items_from, listed}
+use Rattle.rlp.specs.Format.Encoding.{Item, Items, string, list, no_items, item_and, items_from, listed}
 use Rattle.rlp.specs.{Format.Encoding.encoding, Values.RawItem.item_within, Values.RawItem.raw_item_of, Views.View.View}
 use Rattle.rlp_trie.specs.{BranchChild.place_item, Child.child_item, HexPrefix.ends_in_leaf, HexPrefix.path_nibbles, TrieNode.node_item}
 use Rattle.rlp_trie.specs.declared.{branch.Branch.Branch, branch_child.BranchChild.BranchChild, child.Child.Child, extension.Extension.Extension, leaf.Leaf.Leaf, trie_node.TrieNode.TrieNode}

@@ -1,7 +1,7 @@
 -- What is shown of node records.
 use Rattle.std.specs.Prelude.{ℕ, ◌≡◌, ◌==◌, ◌&&◌, ◌||◌, nat_lt, if◌then◌else◌, Bool, false, List, [], ◌∷◌, codes, length}
 use Rattle.std.specs.{Int.Digits.number_from_digits, Str.bytes_eq, Vec.vec_items}
-use Rattle.rlp.specs.Format.Item.{Item, string, list}
+use Rattle.rlp.specs.Format.Encoding.{Item, string, list}
 use Rattle.rlp.specs.Values.RawItem.{raw_item_of}
 use Rattle.rlp_node_record.specs.declared.{node_fields.NodeFields.NodeFields, node_fields.NodePair.NodePair}
 use Rattle.rlp_print.specs.Display.{Display, a_list, a_number, a_word, an_object, end, field, the_bytes, content_same}

@@ -3,7 +3,7 @@ use Rattle.std.specs.Prelude.{ℕ, List, [], codes, refl, ◌≡◌, ◌==◌, �
 use Rattle.std.specs.{List.list_all, Vec.vec_items}
 use Rattle.std.proofs.Common.{◌⊎◌, inl, inr, sym}
 use Rattle.keccak.specs.Keccak.{keccak256}
-use Rattle.rlp.specs.{Format.Encoding.encoding, Format.Item.Item, Format.Item.list_of, Uint.Uint, Values.Value.bit}
+use Rattle.rlp.specs.{Format.Encoding.encoding, Format.Encoding.Item, Format.Encoding.list_of, Uint.Uint, Values.Value.bit}
 use Rattle.rlp_records.specs.Alone.{bytes_alone}
 use Rattle.rlp_records.specs.declared.hash.Hash.{Hash}
 use Rattle.rlp_transactions.specs.declared.{fee_market_transaction.FeeMarketTransaction.FeeMarketTransaction, unsigned_legacy_transaction.UnsignedLegacyTransaction.UnsignedLegacyTransaction}

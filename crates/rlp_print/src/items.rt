@@ -1,8 +1,8 @@
 //! Items of any kind, and nodes of the trie.
 
 ghost use Rattle.std.specs.Prelude.{◌≡◌, ◌≢◌, ◌∷◌, [], IfOk, length, MatchOption, not, OnOk};
-ghost use Rattle.rlp.specs.Format.Item.{list};
-ghost use Rattle.rlp.specs.Format.StringReading.{read_string};
+ghost use Rattle.rlp.specs.Format.Encoding.{list};
+ghost use Rattle.rlp.specs.Format.Framing.{read_string};
 ghost use Rattle.rlp.specs.Values.RawItem.{item_within, string_or_none};
 ghost use Rattle.rlp.specs.Views.View.{item_views, view_of};
 ghost use Rattle.rlp_print.specs.Display.{part};
