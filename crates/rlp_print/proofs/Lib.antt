@@ -1,3 +1,6 @@
 pub mod NumberLemmas
 pub mod ItemLemmas
 pub mod DumpLemmas
+pub mod WordLemmas
+pub mod Written
+pub mod Given

@@ -1,5 +1,7 @@
--- What `v` says.
-use Rattle.std.proofs.Common.{◌≡◌, ◌≢◌, ◌==◌, ◌||◌, ◌∙◌, ℕ, zero, suc, ◌+◌, ◌-◌, ◌*◌, ◌/◌, ◌%◌, ◌^◌, ◌<◌, ◌≤◌, ◌⊎◌, inl, inr, Bool, true, false, nat_lt, Option, Some, None, refl, ap, arith, ⊎_elim}
+-- What `v` says, and which digits are those of zero.
+use Rattle.std.proofs.Common.{◌≡◌, ◌≢◌, ◌==◌, ◌||◌, ◌∙◌, ℕ, zero, suc, ◌+◌, ◌-◌, ◌*◌, ◌/◌, ◌%◌, ◌^◌, ◌<◌, ◌≤◌, ◌⊎◌, inl, inr, Bool, true, false, nat_lt, Option, Some, None, List, [], ◌∷◌, refl, ap, arith, ⊎_elim, ne_eqb, sym}
+use Rattle.std.specs.Prelude.{◌&&◌}
+use Rattle.std.specs.{Int.Digits.number_from_digits_after, List.list_all}
 use Rattle.std.proofs.lemmas.Bool.{cases_lt, cond-true, cond-false}
 use Rattle.std.proofs.{lemmas.Bool.Decides.nat_tests, lemmas.Nat.div-mul-add, lemmas.Nat.mod-mul-add}
 use Rattle.rlp.specs.Values.Value.{bit}
@@ -61,3 +63,14 @@ v_says_nothing v none =
     (cases_lt v 35)
 
 pub ruleset what_v_says = (v_says, v_says_nothing)
+
+-- ---- zero
+
+positive : (n : ℕ) (ds : List ℕ) → n ≢ 0 → (number_from_digits_after 256 n ds == 0) ≡ false
+positive n [] some = ne_eqb n 0 some
+positive n (d ∷ ds) some = positive (n * 256 + d) ds (λ none. some (omega (arith, none)))
+
+pub zero_digits : (ds : List ℕ) → list_all (λ d. d == 0) ds ≡ (number_from_digits_after 256 0 ds == 0)
+zero_digits [] = refl
+zero_digits (zero ∷ ds) = zero_digits ds
+zero_digits (suc d ∷ ds) = ap (λ b. b && list_all (λ d. d == 0) ds) (ne_eqb (suc d) 0 (omega arith)) ∙ sym (positive (0 * 256 + suc d) ds (omega arith))

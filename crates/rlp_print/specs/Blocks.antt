@@ -1,88 +1,85 @@
 -- What is shown of headers of blocks, and of blocks.
-use Rattle.std.specs.Prelude.{codes, List, length, map}
-use Rattle.std.specs.Vec.{vec_items}
+use Rattle.std.specs.Prelude.{codes, ℕ, List, length, map}
 use Rattle.keccak.specs.Keccak.{keccak256}
 use Rattle.rlp.specs.Format.Encoding.{encoding}
 use Rattle.rlp_records.specs.declared.hash.Hash.{Hash}
 use Rattle.rlp_headers.specs.Header.{header}
-use Rattle.rlp_headers.specs.declared.{header.Header.Header, header.forks.Cancun.Cancun, header.forks.London.London, header.forks.Shanghai.Shanghai}
-use Rattle.rlp_ethereum.specs.Block.{block}
-use Rattle.rlp_ethereum.specs.declared.{block.Block.Block, body.Body.Body}
-use Rattle.rlp_print.specs.Display.{Display, Fields, a_number, an_object, derived, end, field, field_if, fields_if, the_bytes, wide_number, a_list, by_lines, fields_of}
-use Rattle.rlp_print.specs.Records.{address_display, bloom_display, hash_display, hash_entries, withdrawals_display}
-use Rattle.rlp_print.specs.Value.{Entries, content, entry, both, by_form, nothing, number}
+use Rattle.rlp_headers.specs.declared.header.Header.{Header}
+use Rattle.rlp_headers.specs.Forks.{cancun_fields, london_fields, shanghai_fields}
+use Rattle.rlp_ethereum.specs.{Block.block, Body.body}
+use Rattle.rlp_print.specs.Display.{Display, Fields, a_list, a_number, a_string, after_derived, an_object, bytes_as, derived, end, field, if_there, in_forms, in_order, one, one_if, through}
+use Rattle.rlp_print.specs.Records.{hash_entries, withdrawal_display}
 use Rattle.rlp_print.specs.Transactions.{any_transaction_display}
+use Rattle.rlp_print.specs.declared.sink.BytesKind.TheVariants.{Sparse}
 
 -- ---- headers
 
 -- what forks added
-abbrev pub cancun_display : Fields Cancun
+abbrev pub cancun_display : Fields cancun_fields.reading.M
 cancun_display =
-    field (codes "blob_gas_used") (codes "blobGasUsed") (λ (f : Cancun). f.blob_gas_used) a_number (
-    field (codes "excess_blob_gas") (codes "excessBlobGas") (λ (f : Cancun). f.excess_blob_gas) a_number (
-    field (codes "parent_beacon_block_root") (codes "parentBeaconBlockRoot") (λ (f : Cancun). f.parent_beacon_block_root) hash_display (
-    field_if (codes "requests_hash") (codes "requestsHash") (λ (f : Cancun). f.requests_hash) hash_display end)))
+    field (codes "blob_gas_used") (codes "blobGasUsed") a_number (
+    field (codes "excess_blob_gas") (codes "excessBlobGas") a_number (
+    field (codes "parent_beacon_block_root") (codes "parentBeaconBlockRoot") a_string (
+    one_if (codes "requests_hash") (codes "requestsHash") a_string)))
 
-abbrev pub shanghai_display : Fields Shanghai
-shanghai_display =
-    field (codes "withdrawals_root") (codes "withdrawalsRoot") (λ (f : Shanghai). f.withdrawals_root) hash_display (
-    fields_if (λ (f : Shanghai). f.since_cancun) cancun_display end)
+abbrev pub shanghai_display : Fields shanghai_fields.reading.M
+shanghai_display = field (codes "withdrawals_root") (codes "withdrawalsRoot") a_string (if_there cancun_display)
 
-abbrev pub london_display : Fields London
-london_display =
-    field (codes "base_fee_per_gas") (codes "baseFeePerGas") (λ (f : London). f.base_fee_per_gas) wide_number (
-    fields_if (λ (f : London). f.since_shanghai) shanghai_display end)
+abbrev pub london_display : Fields london_fields.reading.M
+london_display = field (codes "base_fee_per_gas") (codes "baseFeePerGas") a_number (if_there shanghai_display)
 
 -- the fields of a header
-abbrev pub header_fields_display : Fields Header
+abbrev pub header_fields_display : Fields header.reading.M
 header_fields_display =
-    field (codes "parent_hash") (codes "parentHash") (λ (h : Header). h.parent_hash) hash_display (
-    field (codes "ommers_hash") (codes "sha3Uncles") (λ (h : Header). h.ommers_hash) hash_display (
-    field (codes "beneficiary") (codes "miner") (λ (h : Header). h.beneficiary) address_display (
-    field (codes "state_root") (codes "stateRoot") (λ (h : Header). h.state_root) hash_display (
-    field (codes "transactions_root") (codes "transactionsRoot") (λ (h : Header). h.transactions_root) hash_display (
-    field (codes "receipts_root") (codes "receiptsRoot") (λ (h : Header). h.receipts_root) hash_display (
-    field (codes "logs_bloom") (codes "logsBloom") (λ (h : Header). h.logs_bloom) bloom_display (
-    field (codes "difficulty") (codes "difficulty") (λ (h : Header). h.difficulty) wide_number (
-    field (codes "number") (codes "number") (λ (h : Header). h.number) a_number (
-    field (codes "gas_limit") (codes "gasLimit") (λ (h : Header). h.gas_limit) a_number (
-    field (codes "gas_used") (codes "gasUsed") (λ (h : Header). h.gas_used) a_number (
-    field (codes "timestamp") (codes "timestamp") (λ (h : Header). h.timestamp) a_number (
-    field (codes "extra_data") (codes "extraData") (λ (h : Header). h.extra_data) (the_bytes vec_items) (
-    field (codes "mix_hash") (codes "mixHash") (λ (h : Header). h.mix_hash) hash_display (
-    field (codes "nonce") (codes "nonce") (λ (h : Header). h.nonce) (the_bytes (λ b. b)) (
-    fields_if (λ (h : Header). h.since_london) london_display end)))))))))))))))
+    field (codes "parent_hash") (codes "parentHash") a_string (
+    field (codes "ommers_hash") (codes "sha3Uncles") a_string (
+    field (codes "beneficiary") (codes "miner") a_string (
+    field (codes "state_root") (codes "stateRoot") a_string (
+    field (codes "transactions_root") (codes "transactionsRoot") a_string (
+    field (codes "receipts_root") (codes "receiptsRoot") a_string (
+    field (codes "logs_bloom") (codes "logsBloom") (bytes_as Sparse) (
+    field (codes "difficulty") (codes "difficulty") a_number (
+    field (codes "number") (codes "number") a_number (
+    field (codes "gas_limit") (codes "gasLimit") a_number (
+    field (codes "gas_used") (codes "gasUsed") a_number (
+    field (codes "timestamp") (codes "timestamp") a_number (
+    field (codes "extra_data") (codes "extraData") a_string (
+    field (codes "mix_hash") (codes "mixHash") a_string (
+    field (codes "nonce") (codes "nonce") a_string (if_there london_display)))))))))))))))
+
+-- the hash of a header
+unfoldable pub header_hash : header.reading.M → List ℕ
+header_hash h = keccak256 (encoding (header.reading.item h))
+
+abbrev pub seen_hash : Header → Hash
+seen_hash h = record { 0 = header_hash (header.reading.seen h) }
 
 -- the hash of a header, and its fields
-abbrev pub hashed_header_display : Fields Header
-hashed_header_display = derived (λ h. hash_entries (encoding (header.item h))) header_fields_display
+abbrev pub hashed_header_display : Fields header.reading.M
+hashed_header_display = after_derived (λ h. hash_entries (header_hash h)) header_fields_display
 
-abbrev pub header_display : Display Header
+abbrev pub header_display : Display header.reading.M
 header_display = an_object hashed_header_display
 
 -- ---- blocks
 
-abbrev pub body_display : Display Body
-body_display = an_object (
-    field (codes "transactions") (codes "transactions") (λ (b : Body). b.transactions) (a_list vec_items any_transaction_display) (
-    field (codes "ommers") (codes "ommers") (λ (b : Body). b.ommers) (a_list vec_items header_display) (
-    field_if (codes "withdrawals") (codes "withdrawals") (λ (b : Body). b.withdrawals) withdrawals_display end)))
+-- the fields of a body, which also stand in a block
+abbrev pub body_fields_display : Fields body.reading.M
+body_fields_display =
+    field (codes "transactions") (codes "transactions") (a_list any_transaction_display) (
+    field (codes "ommers") (codes "ommers") (a_list header_display) (
+    one_if (codes "withdrawals") (codes "withdrawals") (a_list withdrawal_display)))
 
--- the hash of a header
-abbrev pub header_hash : Header → Hash
-header_hash h = record { 0 = keccak256 (encoding (header.item h)) }
+-- the number of bytes of a block
+unfoldable pub block_size : block.reading.M → ℕ
+block_size b = length (encoding (block.reading.item b))
 
 -- what JSON has besides, as in the execution API: the hashes of the ommers, and the number of bytes of the block
-abbrev pub more_of_block : Block → Entries
-more_of_block b =
-    both (entry (codes "uncles") (codes "uncles") ((a_list (λ (hs : List Hash). hs) hash_display).value (map header_hash (vec_items b.ommers)))) (
-    both (entry (codes "size") (codes "size") (content (number (length (encoding (block.item b)))))) nothing)
+abbrev pub more_of_block : Fields block.reading.M
+more_of_block = derived (λ b. (field (codes "uncles") (codes "uncles") (a_list a_string) (one (codes "size") (codes "size") a_number)).shown (map header_hash b.1.1.0, block_size b))
 
 -- In JSON the fields of the header stand in the block itself.
-abbrev pub block_display : Display Block
-block_display = an_object (
-    fields_of (λ b. b) (by_lines (λ (b : Block). b.header) (field (codes "header") (codes "header") (λ h. h) header_display end) (λ b. hashed_header_display.entries b.header)) (
-    field (codes "transactions") (codes "transactions") (λ (b : Block). b.transactions) (a_list vec_items any_transaction_display) (
-    field (codes "ommers") (codes "ommers") (λ (b : Block). b.ommers) (a_list vec_items header_display) (
-    field_if (codes "withdrawals") (codes "withdrawals") (λ (b : Block). b.withdrawals) withdrawals_display (
-    derived (λ b. by_form nothing (more_of_block b)) end)))))
+abbrev pub block_display : Display block.reading.M
+block_display = an_object (through (λ b. ((b.0, b.0), (b.1, (b, b)))) (
+    in_order (in_forms (one (codes "header") (codes "header") header_display) hashed_header_display) (
+    in_order body_fields_display (in_forms end more_of_block))))

@@ -4,7 +4,8 @@ use Rattle.std.specs.List.{starts_with}
 use Rattle.hex.specs.Hex.{encode_lower}
 use Rattle.rlp.specs.{DecoderError.DecoderError, Format.Encoding.encoding, Format.Split.begins_as_list, PayloadInfo.PayloadInfo, Values.Value.number_item, Views.View.begins_as_data}
 use Rattle.rlp.specs.{Format.Framing.framing, Format.Item.string}
-use Rattle.rlp_print.specs.Value.{Steps, after, Content, Value, number, place, quantity, legacy_v, bytes, bytes_or_null, sparse, path, word, ip, type_byte, payload, text, empty_list}
+use Rattle.rlp_print.specs.Value.{Steps, after, Content, Value, number, type_byte, bytes, text, empty_list}
+use Rattle.rlp_print.specs.declared.{sink.NumberKind.TheVariants.Place, sink.BytesKind.TheVariants.Payload}
 use Rattle.rlp_print.specs.Lines.{line}
 
 -- The rows so far, the number of bytes of the encoding, and the bytes that have no row yet.
@@ -64,7 +65,7 @@ enter_envelope s = if string_header s.rest == 0 then s else row (string_header s
 
 -- what stands before a content: nothing before the payload of an envelope, and headers of lists before others
 abbrev pub enter : Content → Dump → Dump
-enter (payload b) s = s
+enter (bytes Payload b) s = s
 enter (type_byte n) s = enter_envelope (enter_lists (length s.rest) s)
 enter _ s = enter_lists (length s.rest) s
 
@@ -72,24 +73,17 @@ enter _ s = enter_lists (length s.rest) s
 
 -- the bytes of a content in an encoding; the places and texts that are shown are in none
 abbrev pub encoded_bytes : Content → List ℕ
-encoded_bytes (number n) = encoding (number_item n)
-encoded_bytes (place n) = []
-encoded_bytes (quantity n) = encoding (number_item n)
-encoded_bytes (legacy_v n) = encoding (number_item n)
-encoded_bytes (bytes b) = encoding (string b)
-encoded_bytes (bytes_or_null b) = encoding (string b)
-encoded_bytes (sparse b) = encoding (string b)
-encoded_bytes (path b) = encoding (string b)
-encoded_bytes (word b) = encoding (string b)
-encoded_bytes (ip b) = encoding (string b)
+encoded_bytes (number Place n) = []
+encoded_bytes (number kind n) = encoding (number_item n)
 encoded_bytes (type_byte n) = encoding (string (n ∷ []))
-encoded_bytes (payload b) = b
+encoded_bytes (bytes Payload b) = b
+encoded_bytes (bytes kind b) = encoding (string b)
 encoded_bytes (text t) = []
 encoded_bytes empty_list = 0xc0 ∷ []
 
 -- the length of the header of a content, whose bytes are these
 abbrev pub content_header : Content → List ℕ → ℕ
-content_header (payload b) e = 0
+content_header (bytes Payload b) e = 0
 content_header _ e = header_length (framing e)
 
 -- whether these bytes come next

@@ -1,36 +1,27 @@
 -- What is shown of items of any kind, and of nodes of the trie.
-use Rattle.std.specs.Prelude.{ℕ, ◌==◌, if◌then◌else◌, Bool, true, false, List, [], codes, length, map, Option, Some, None, ⊤}
+use Rattle.std.specs.Prelude.{ℕ, zero, suc, ◌==◌, if◌then◌else◌, not, Bool, true, false, List, [], ◌∷◌, codes, get_or, length, map, take, Option, Some, None, Result, Ok, Err}
 use Rattle.std.specs.Vec.{vec_items}
-use Rattle.std.proofs.Common.{◌≡◌, ◌<◌, ◌∙◌, refl, sym, ap, arith}
-use Rattle.std.proofs.lemmas.Bool.Decides.{nat_tests}
-use Rattle.rlp.specs.Format.Item.{Item, Items, string, list, no_items, item_and, items_from, listed}
-use Rattle.rlp.specs.{Format.Encoding.encoding, Values.RawItem.item_within, Values.RawItem.raw_item_of, Views.View.View}
-use Rattle.rlp_trie.specs.{BranchChild.place_item, Child.child_item, HexPrefix.ends_in_leaf, HexPrefix.path_nibbles, TrieNode.node_item}
-use Rattle.rlp_trie.specs.declared.{branch.Branch.Branch, branch_child.BranchChild.BranchChild, child.Child.Child, extension.Extension.Extension, leaf.Leaf.Leaf, trie_node.TrieNode.TrieNode}
-use Rattle.rlp_print.specs.Display.{Display, Fields, a_content, derived, end, field, through, content_bytes, a_list, an_object, fields_of, the_bytes}
-use Rattle.rlp_print.specs.Value.{Value, Entries, Values, content, object, array, bytes, path, text, nothing, both, entry, by_form, no_values, value_and}
-use Rattle.rlp_print.specs.{Lines.digits_text, Records.hash_entries}
+use Rattle.std.proofs.Common.{◌≡◌, ◌∙◌, refl, sym, ap, arith, inl, inr}
+use Rattle.std.proofs.lemmas.{Bool.Decides.nat_tests, List.length-map}
+use Rattle.keccak.specs.Keccak.{keccak256}
+use Rattle.rlp.specs.Format.Item.{Item, Items, string, list, no_items, item_and, items_from}
+use Rattle.rlp.specs.Values.RawItem.{item_by, item_within, raw_item_of, string_or_none}
+use Rattle.rlp.specs.{DecoderError.DecoderError, Format.Encoding.encoding, Format.StringReading.read_string, Format.Split.items, Views.View.View, Views.View.item_views, Views.View.view_of}
+use Rattle.rlp_trie.specs.{BranchChild.branch_child, ChildLaws.child, HexPrefix.ends_in_leaf, TrieNodeLaws.trie_node}
+use Rattle.rlp_trie.specs.declared.trie_node.TrieNode.{TrieNode}
 use Rattle.rlp_trie.specs.declared.trie_node.TrieNode.TheVariants as node
+use Rattle.rlp_print.specs.Display.{Display, Fields, a_string, an_object, bytes_as, content_bytes, derived, field, in_order, list_apart, one, through}
+use Rattle.rlp_print.specs.Value.{Value, Entries, Values, content, object, array, bytes, text, nothing, both, entry, by_form, no_values, value_and, values_of}
+use Rattle.rlp_print.specs.Lines.{digits_text}
+use Rattle.rlp_print.specs.declared.sink.BytesKind.TheVariants.{Any, Path}
 
--- ---- items of any kind
-
--- a string is its bytes, and a list is an array of its items
-abbrev mutual
-  pub item_value : Item → Value
-  item_value (string d) = content (bytes d)
-  item_value (list xs) = array (items_values xs)
-
-  pub items_values : Items → Values
-  items_values no_items = no_values
-  items_values (item_and x xs) = value_and (item_value x) (items_values xs)
-
--- ---- nodes that are kept in their parents, which may be any items
+-- ---- the parts of nodes
 
 -- a hex-prefix encoded path, and in JSON its nibbles
 abbrev pub path_fields : Fields (List ℕ)
-path_fields =
-    field (codes "path") (codes "path") (λ d. d) (a_content path content_bytes (λ d. d) (λ d. refl)) (
-    derived (λ d. by_form nothing (entry (codes "nibbles") (codes "nibbles") (content (text (digits_text (path_nibbles d)))))) end)
+path_fields = through (λ d. (d, d)) (
+    field (codes "path") (codes "path") (bytes_as Path) (
+    derived (λ d. by_form nothing (entry (codes "nibbles") (codes "nibbles") (content (text (digits_text d)))))))
 
 -- the kind of a node
 abbrev pub kind_entries : List ℕ → Entries
@@ -47,42 +38,53 @@ key_of false = codes "child"
 
 -- a leaf with this path and this value, or an extension with this path and this child
 abbrev pub pair_entries : Bool → List ℕ → Value → Entries
-pair_entries leaf d v = both (kind_entries (kind_of leaf)) (both (path_fields.entries d) (both (entry (key_of leaf) (key_of leaf) v) nothing))
+pair_entries leaf d v = both (kind_entries (kind_of leaf)) (both (path_fields.shown d) (entry (key_of leaf) (key_of leaf) v))
 
 -- a branch with these children and this value
 abbrev pub branch_entries : Values → Value → Entries
 branch_entries children v =
-    both (kind_entries (codes "branch")) (
-    both (entry (codes "children") (codes "children") (array children)) (both (entry (codes "value") (codes "value") v) nothing))
+    both (kind_entries (codes "branch")) (both (entry (codes "children") (codes "children") (array children)) (entry (codes "value") (codes "value") v))
 
--- the bytes of a string; a list has none
-abbrev pub string_of : Item → List ℕ
-string_of (string d) = d
-string_of (list xs) = []
+-- ---- items, by the bytes that they are kept as
 
--- the last item
-abbrev pub last_item : Items → Item
-last_item no_items = string []
-last_item (item_and x no_items) = x
-last_item (item_and x (item_and y ys)) = last_item (item_and y ys)
+-- The string that bytes begin with, or no bytes.
+abbrev pub string_at : List ℕ → List ℕ
+string_at b = string_or_none (read_string b)
 
--- Two items, by whether the string of the first is the path of a leaf, the path of an extension, or none. The value is that of the second item as a node.
-abbrev pub pair_value : Option Bool → Item → Item → Value → Value
-pair_value (Some true) x y v = object (pair_entries true (string_of x) (item_value y))
-pair_value (Some false) x y v = object (pair_entries false (string_of x) v)
-pair_value None x y v = item_value (list (item_and x (item_and y no_items)))
+module _ (inside : Bool → List ℕ → Value) where
+  -- items of any kind, or nodes
+  abbrev pub items_shown : Bool → List View → Value
+  items_shown is_node vs = array (values_of (λ (v : View). inside is_node v.bytes) vs)
 
--- A string is the hash of a node, or no bytes where there is no child. A list is a leaf or an extension, a branch if it has 17 items, or else an item of any
--- kind. All items of a branch but the last are its children, and the last is a value of any kind.
-abbrev mutual
-  pub kept_value : Item → Value
-  kept_value (string d) = content (bytes d)
-  kept_value (list (item_and x (item_and y no_items))) = pair_value (ends_in_leaf (string_of x)) x y (kept_value y)
-  kept_value (list xs) = if length (listed xs) == 17 then object (branch_entries (front_values xs) (item_value (last_item xs))) else item_value (list xs)
+  -- two items, by whether the string of the first is the path of a leaf, the path of an extension, or none
+  abbrev pub pair_shown : Option Bool → View → View → Value
+  pair_shown (Some leaf) v w = object (pair_entries leaf (string_at v.bytes) (inside (not leaf) w.bytes))
+  pair_shown None v w = items_shown false (v ∷ w ∷ [])
 
-  pub front_values : Items → Values
-  front_values (item_and x (item_and y ys)) = value_and (kept_value x) (front_values (item_and y ys))
-  front_values xs = no_values
+  -- A list of two items is a leaf or an extension if the first is a path, and any other list is items of any kind.
+  abbrev pub few_shown : List View → Value
+  few_shown (v ∷ w ∷ []) = pair_shown (ends_in_leaf (string_at v.bytes)) v w
+  few_shown vs = items_shown false vs
+
+  -- the children of a branch, and its value, which is an item of any kind
+  abbrev pub branch_shown : View → List View → Value
+  branch_shown v vs = object (branch_entries (values_of (λ (c : View). inside true c.bytes) (take 16 vs)) (inside false (get_or vs 16 v).bytes))
+
+  -- a list of 17 items is a branch
+  abbrev pub node_shown : List View → Value
+  node_shown [] = items_shown false []
+  node_shown (v ∷ vs) = if length (v ∷ vs) == 17 then branch_shown v (v ∷ vs) else few_shown (v ∷ vs)
+
+  -- a string is its bytes
+  abbrev pub item_shown : Bool → List ℕ → Result (List ℕ) DecoderError → Value
+  item_shown is_node b (Ok d) = content (bytes Any d)
+  item_shown true b (Err e) = node_shown (item_views (view_of b))
+  item_shown false b (Err e) = items_shown false (item_views (view_of b))
+
+-- The item that bytes begin with, through at most this number of nested lists, as an item of any kind or as a node that is kept in its parent.
+unfoldable pub shown_within : ℕ → Bool → List ℕ → Value
+shown_within zero is_node b = content (bytes Any (string_at b))
+shown_within (suc most) is_node b = item_shown (shown_within most) is_node b (read_string b)
 
 -- ---- what is shown of an item says what the item is
 
@@ -96,7 +98,7 @@ abbrev mutual
   shown_item : Value → Item
   shown_item (content c) = string (content_bytes c)
   shown_item (array vs) = list (shown_items vs)
-  shown_item (object (both kind (both first (both (entry name json v) nothing)))) = list (shown_first first (item_and (shown_item v) no_items))
+  shown_item (object (both kind (both first (entry name json v)))) = list (shown_first first (item_and (shown_item v) no_items))
   shown_item (object es) = list no_items
 
   shown_first : Entries → Items → Items
@@ -108,123 +110,135 @@ abbrev mutual
   shown_items no_values = no_items
   shown_items (value_and v vs) = item_and (shown_item v) (shown_items vs)
 
-mutual
-  item_back : (x : Item) → shown_item (item_value x) ≡ x
-  item_back (string d) = refl
-  item_back (list xs) = ap list (items_back xs)
+module _ (inside : Bool → List ℕ → Value) (within : List ℕ → Item) (back : (is_node : Bool) (b : List ℕ) → shown_item (inside is_node b) ≡ within b)
+    (strings : (b d : List ℕ) → read_string b ≡ Ok d → within b ≡ string d) where
+  items_back : (is_node : Bool) (bs : List (List ℕ))
+      → shown_items (values_of (λ (v : View). inside is_node v.bytes) (map view_of bs)) ≡ items_from (map within bs)
+  items_back is_node [] = refl
+  items_back is_node (b ∷ bs) = let first = back is_node b in let others = items_back is_node bs in cc
 
-  items_back : (xs : Items) → shown_items (items_values xs) ≡ xs
-  items_back no_items = refl
-  items_back (item_and x xs) = let first = item_back x in let others = items_back xs in cc
+  path_back : (b : List ℕ) (leaf : Bool) (r : Result (List ℕ) DecoderError) → read_string b ≡ r → ends_in_leaf (string_or_none r) ≡ Some leaf
+      → string (string_or_none r) ≡ within b
+  path_back b leaf (Ok d) is path = sym (strings b d is)
+  path_back b leaf (Err e) is path = absurd cc
 
--- an item that is a path is a string
-path_back : (x : Item) (leaf : Bool) → ends_in_leaf (string_of x) ≡ Some leaf → string (string_of x) ≡ x
-path_back (string d) leaf is = refl
-path_back (list xs) leaf is = absurd cc
+  pair_back : (b c : List ℕ) (kind : Option Bool) → ends_in_leaf (string_at b) ≡ kind
+      → shown_item (pair_shown inside kind (view_of b) (view_of c)) ≡ list (item_and (within b) (item_and (within c) no_items))
+  pair_back b c (Some leaf) is = let first = path_back b leaf (read_string b) refl is in let second = back (not leaf) c in cc
+  pair_back b c None is = ap list (items_back false (b ∷ c ∷ []))
 
-pair_back : (kind : Option Bool) (x y : Item) (v : Value) → ends_in_leaf (string_of x) ≡ kind → shown_item v ≡ y
-    → shown_item (pair_value kind x y v) ≡ list (item_and x (item_and y no_items))
-pair_back (Some true) x y v is back = let first = path_back x true is in let second = item_back y in cc
-pair_back (Some false) x y v is back = let first = path_back x false is in cc
-pair_back None x y v is back = item_back (list (item_and x (item_and y no_items)))
+  last_back : (n : ℕ) (bs : List (List ℕ)) (v : View) → length bs ≡ suc n
+      → joined (shown_items (values_of (λ (c : View). inside true c.bytes) (take n (map view_of bs))))
+      (item_and (shown_item (inside false (get_or (map view_of bs) n v).bytes)) no_items) ≡ items_from (map within bs)
+  last_back n [] v are = absurd (omega (arith, are))
+  last_back zero (b ∷ []) v are = let last = back false b in cc
+  last_back zero (b ∷ c ∷ bs) v are = absurd (omega (arith, are))
+  last_back (suc n) (b ∷ bs) v are = let first = back true b in let others = last_back n bs v (omega (arith, are)) in cc
 
-list_back : (many : Bool) (xs : Items) → (length (listed xs) == 17) ≡ many
-    → (0 < length (listed xs) → joined (shown_items (front_values xs)) (item_and (last_item xs) no_items) ≡ xs)
-    → shown_item (if many then object (branch_entries (front_values xs) (item_value (last_item xs))) else item_value (list xs)) ≡ list xs
-list_back true xs is front = ap (λ x. list (joined (shown_items (front_values xs)) (item_and x no_items))) (item_back (last_item xs))
-    ∙ ap list (front (grind (arith, nat_tests, is)))
-list_back false xs is front = item_back (list xs)
+  few_back : (bs : List (List ℕ)) → shown_item (few_shown inside (map view_of bs)) ≡ list (items_from (map within bs))
+  few_back [] = refl
+  few_back (b ∷ []) = ap list (items_back false (b ∷ []))
+  few_back (b ∷ c ∷ []) = pair_back b c (ends_in_leaf (string_at b)) refl
+  few_back (b ∷ c ∷ d ∷ bs) = ap list (items_back false (b ∷ c ∷ d ∷ bs))
 
-mutual
-  kept_back : (x : Item) → shown_item (kept_value x) ≡ x
-  kept_back (string d) = refl
-  kept_back (list (item_and x (item_and y no_items))) = pair_back (ends_in_leaf (string_of x)) x y (kept_value y) refl (kept_back y)
-  kept_back (list xs) = list_back (length (listed xs) == 17) xs refl (λ some. front_back xs some)
+  many_back : (many : Bool) (v : View) (bs : List (List ℕ)) → (length (map view_of bs) == 17) ≡ many
+      → shown_item (if many then branch_shown inside v (map view_of bs) else few_shown inside (map view_of bs)) ≡ list (items_from (map within bs))
+  many_back true v bs is = ap list (last_back 16 bs v (grind (arith, nat_tests, is, length-map bs view_of)))
+  many_back false v bs is = few_back bs
 
-  front_back : (xs : Items) → 0 < length (listed xs) → joined (shown_items (front_values xs)) (item_and (last_item xs) no_items) ≡ xs
-  front_back no_items some = absurd (omega (arith, some))
-  front_back (item_and x no_items) some = refl
-  front_back (item_and x (item_and y ys)) some = let first = kept_back x in let others = front_back (item_and y ys) (omega arith) in cc
+  node_back : (bs : List (List ℕ)) → shown_item (node_shown inside (map view_of bs)) ≡ list (items_from (map within bs))
+  node_back [] = refl
+  node_back (b ∷ bs) = many_back (length (map view_of (b ∷ bs)) == 17) (view_of b) (b ∷ bs) refl
 
--- items that are shown alike are equal
-pub item_told : (x y : Item) → item_value x ≡ item_value y → x ≡ y
-item_told x y is = sym (item_back x) ∙ ap shown_item is ∙ item_back y
+  item_back : (is_node : Bool) (b : List ℕ) (r : Result (List ℕ) DecoderError) → shown_item (item_shown inside is_node b r) ≡ item_by within b r
+  item_back is_node b (Ok d) = refl
+  item_back true b (Err e) = node_back (items b)
+  item_back false b (Err e) = ap list (items_back false (items b))
 
-pub kept_told : (x y : Item) → kept_value x ≡ kept_value y → x ≡ y
-kept_told x y is = sym (kept_back x) ∙ ap shown_item is ∙ kept_back y
+string_within : (most : ℕ) (b d : List ℕ) → read_string b ≡ Ok d → item_within most b ≡ string d
+unfolding item_within
+string_within zero b d is = ap (λ r. string (string_or_none r)) is
+string_within (suc most) b d is = ap (item_by (item_within most) b) is
+
+within_back : (most : ℕ) (is_node : Bool) (b : List ℕ) → shown_item (shown_within most is_node b) ≡ item_within most b
+unfolding shown_within item_within
+within_back zero is_node b = refl
+within_back (suc most) is_node b = item_back (shown_within most) (item_within most) (within_back most) (string_within most) is_node b (read_string b)
+
+-- items that are shown alike, as items of any kind or as nodes, are equal
+pub raw_apart : (is_node : Bool) (b c : List ℕ) → shown_within 256 is_node b ≡ shown_within 256 is_node c → raw_item_of b ≡ raw_item_of c
+raw_apart is_node b c is = sym (within_back 256 is_node b) ∙ ap shown_item is ∙ within_back 256 is_node c
 
 -- items that are kept as the bytes of their encodings
 abbrev pub raw_item_display : Display (List ℕ)
-raw_item_display = through raw_item_of (record { value = item_value; Same = λ x y. x ≡ y; told = item_told })
-
--- ---- views
-
--- an item as an item of any kind, or as a node
-abbrev pub value_by : Bool → Item → Value
-value_by true x = kept_value x
-value_by false x = item_value x
-
--- the items that views begin with, through at most this number of nested lists
-abbrev pub view_items : ℕ → List View → Items
-view_items most vs = items_from (map (λ (v : View). item_within most v.bytes) vs)
-
--- children of nodes, as items
-abbrev pub kept_display : Display Item
-kept_display = record { value = kept_value; Same = λ x y. x ≡ y; told = kept_told }
-
--- the hash of a node, or a node that is kept in its parent
-abbrev pub child_display : Display Child
-child_display = through child_item kept_display
-
--- places of a branch, which show no bytes if there is no child
-abbrev pub branch_child_display : Display BranchChild
-branch_child_display = through (λ (c : BranchChild). place_item c.0) kept_display
-
-abbrev pub leaf_display : Fields Leaf
-leaf_display =
-    derived (λ (l : Leaf). kind_entries (codes "leaf")) (
-    fields_of (λ (l : Leaf). vec_items l.path.bytes) path_fields (
-    field (codes "value") (codes "value") (λ (l : Leaf). l.value) (the_bytes vec_items) end))
-
-abbrev pub extension_display : Fields Extension
-extension_display =
-    derived (λ (e : Extension). kind_entries (codes "extension")) (
-    fields_of (λ (e : Extension). vec_items e.path.bytes) path_fields (
-    field (codes "child") (codes "child") (λ (e : Extension). e.child) child_display end))
-
-abbrev pub branch_display : Fields Branch
-branch_display =
-    derived (λ (b : Branch). kind_entries (codes "branch")) (
-    field (codes "children") (codes "children") (λ (b : Branch). b.children) (a_list (λ children. children) branch_child_display) (
-    field (codes "value") (codes "value") (λ (b : Branch). b.value) (the_bytes vec_items) end))
+raw_item_display = record { shown = shown_within 256 false; Told = Item; told = raw_item_of; apart = raw_apart false }
 
 -- ---- nodes of every kind
 
-abbrev pub node_entries : TrieNode → Entries
-node_entries node.Empty = kind_entries (codes "empty")
-node_entries (node.Leaf l) = leaf_display.entries l
-node_entries (node.Extension e) = extension_display.entries e
-node_entries (node.Branch b) = branch_display.entries b
+-- The hash of a node, a node that is kept in its parent, or no bytes if there is no child.
+abbrev pub place_value : branch_child.reading.M → Value
+place_value None = content (bytes Any [])
+place_value (Some (inl hash)) = content (bytes Any hash)
+place_value (Some (inr b)) = shown_within 256 true b
 
--- Both are the empty trie, or both are leaves, extensions or branches that agree.
-abbrev pub SameNode : TrieNode → TrieNode → Type 0
-SameNode node.Empty node.Empty = ⊤
-SameNode (node.Leaf l) (node.Leaf m) = leaf_display.Same l m
-SameNode (node.Extension e) (node.Extension f) = extension_display.Same e f
-SameNode (node.Branch b) (node.Branch c) = branch_display.Same b c
-SameNode _ _ = ⊥
+place_back : (c : branch_child.reading.M) → shown_item (place_value c) ≡ branch_child.reading.item c
+place_back None = refl
+place_back (Some (inl hash)) = refl
+place_back (Some (inr b)) = within_back 256 true b
 
-pub node_told : (n m : TrieNode) → node_entries n ≡ node_entries m → SameNode n m
-node_told node.Empty node.Empty is = tt
-node_told (node.Leaf l) (node.Leaf m) is = leaf_display.told l m is
-node_told (node.Extension e) (node.Extension f) is = extension_display.told e f is
-node_told (node.Branch b) (node.Branch c) is = branch_display.told b c is
-node_told _ _ is = absurd cc
+pub place_apart : (c d : branch_child.reading.M) → place_value c ≡ place_value d → branch_child.reading.item c ≡ branch_child.reading.item d
+place_apart c d is = sym (place_back c) ∙ ap shown_item is ∙ place_back d
 
--- the fields of a node
-abbrev pub node_fields_display : Fields TrieNode
-node_fields_display = record { entries = node_entries; Same = λ n m. SameNode n m; told = node_told }
+-- places of a branch, by their items
+abbrev pub place_display : Display branch_child.reading.M
+place_display = record { shown = place_value; Told = Item; told = branch_child.reading.item; apart = place_apart }
 
--- nodes with their hashes
-abbrev pub node_display : Display TrieNode
-node_display = an_object (derived (λ n. hash_entries (encoding (node_item n))) node_fields_display)
+abbrev pub child_display : Display child.reading.M
+child_display = through Some place_display
+
+-- What is shown of a node besides its hash: nothing of the empty trie, the path and the value of a leaf, the path and the child of an extension, or the children and
+-- the value of a branch.
+pub data NodeParts (Child Place : Type 0) : Type 0 where
+  empty : NodeParts Child Place
+  leaf : List ℕ → List ℕ → NodeParts Child Place
+  extension : List ℕ → Child → NodeParts Child Place
+  branch : List Place → List ℕ → NodeParts Child Place
+
+abbrev pub NodeSeen : Type 0
+NodeSeen = NodeParts child.reading.M branch_child.reading.M
+
+abbrev pub node_parts : TrieNode → NodeSeen
+node_parts node.Empty = empty
+node_parts (node.Leaf l) = leaf (vec_items l.path.bytes) (vec_items l.value)
+node_parts (node.Extension e) = extension (vec_items e.path.bytes) (child.reading.seen e.child)
+node_parts (node.Branch b) = branch (map branch_child.reading.seen b.children) (vec_items b.value)
+
+-- the kind of a node, and its parts
+abbrev pub node_entries : NodeSeen → Entries
+node_entries empty = kind_entries (codes "empty")
+node_entries (leaf d v) = pair_entries true d (content (bytes Any v))
+node_entries (extension d c) = pair_entries false d (child_display.shown c)
+node_entries (branch cs v) = branch_entries (values_of place_value cs) (content (bytes Any v))
+
+-- the parts of a node, with children as items
+abbrev pub node_told : NodeSeen → NodeParts Item Item
+node_told empty = empty
+node_told (leaf d v) = leaf d v
+node_told (extension d c) = extension d (child_display.told c)
+node_told (branch cs v) = branch (map place_display.told cs) v
+
+pub node_apart : (m n : NodeSeen) → node_entries m ≡ node_entries n → node_told m ≡ node_told n
+node_apart empty empty is = refl
+node_apart (leaf d v) (leaf e w) is = cc
+node_apart (extension d c) (extension e k) is = let same = child_display.apart c k cc in cc
+node_apart (branch cs v) (branch ks w) is = let same = list_apart place_display cs ks cc in cc
+node_apart _ _ is = absurd cc
+
+-- the hash of a node
+abbrev pub node_hash : TrieNode → List ℕ
+node_hash n = keccak256 (encoding (trie_node.item n))
+
+-- the hash of a node, and then its fields
+abbrev pub node_display : Display (List ℕ × NodeSeen)
+node_display = an_object (in_order (one (codes "hash") (codes "hash") a_string) (
+    record { shown = node_entries; Told = NodeParts Item Item; told = node_told; apart = node_apart }))

@@ -1,7 +1,9 @@
 -- The JSON of a value, with the names of Ethereum's execution API and without spaces.
-use Rattle.std.specs.Prelude.{ℕ, Bool, true, false, List, [], ◌∷◌, ◌++◌, codes, decimal}
-use Rattle.rlp_print.specs.Value.{Steps, after, Content, Value, number, place, quantity, legacy_v, bytes, bytes_or_null, sparse, path, word, ip, type_byte, payload, text, empty_list}
-use Rattle.rlp_print.specs.Lines.{bytes_text, hex_text, ip_text, word_text}
+use Rattle.std.specs.Prelude.{ℕ, Bool, true, false, List, [], ◌++◌, codes}
+use Rattle.rlp_print.specs.Value.{Steps, after, Content, Value, number, type_byte, bytes, text, empty_list}
+use Rattle.rlp_print.specs.Lines.{bytes_text, hex_text, ip_text, number_text, word_text}
+use Rattle.rlp_print.specs.declared.{sink.NumberKind.NumberKind, sink.NumberKind.TheVariants.Place, sink.BytesKind.BytesKind}
+use Rattle.rlp_print.specs.declared.sink.BytesKind.TheVariants.{Ip, Null, Word}
 use Rattle.rlp_print.specs.declared.{sink.Bracket.Bracket, sink.Bracket.TheVariants.Brace, sink.Bracket.TheVariants.Square}
 
 -- the text so far, and whether a value may come next without a comma before it
@@ -18,25 +20,22 @@ comma false = codes ","
 abbrev pub quoted : List ℕ → List ℕ
 quoted t = codes "\"" ++ t ++ codes "\""
 
--- bytes, or `null` if there are none
-abbrev pub or_null : List ℕ → List ℕ
-or_null [] = codes "null"
-or_null (d ∷ ds) = quoted (bytes_text (d ∷ ds))
+-- a number of a kind, which is in hexadecimal, as in the execution API, unless it is a place
+abbrev pub number_json : NumberKind → ℕ → List ℕ
+number_json Place n = number_text n
+number_json _ n = quoted (hex_text n)
 
--- a number is in hexadecimal, as in the execution API
+-- bytes of a kind
+abbrev pub bytes_json : BytesKind → List ℕ → List ℕ
+bytes_json Null b = codes "null"
+bytes_json Word b = quoted (word_text b)
+bytes_json Ip b = quoted (ip_text b)
+bytes_json _ b = quoted (bytes_text b)
+
 abbrev pub content_json : Content → List ℕ
-content_json (number n) = quoted (hex_text n)
-content_json (place n) = decimal n
-content_json (quantity n) = quoted (hex_text n)
-content_json (legacy_v n) = quoted (hex_text n)
-content_json (bytes b) = quoted (bytes_text b)
-content_json (bytes_or_null b) = or_null b
-content_json (sparse b) = quoted (bytes_text b)
-content_json (path b) = quoted (bytes_text b)
-content_json (word b) = quoted (word_text b)
-content_json (ip b) = quoted (ip_text b)
+content_json (number kind n) = number_json kind n
 content_json (type_byte n) = quoted (hex_text n)
-content_json (payload b) = quoted (bytes_text b)
+content_json (bytes kind b) = bytes_json kind b
 content_json (text t) = quoted t
 content_json empty_list = codes "[]"
 

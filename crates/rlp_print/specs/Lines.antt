@@ -1,11 +1,13 @@
 -- The lines of a value: for each content its name, a colon and its text.
-use Rattle.std.specs.Prelude.{ℕ, ◌-◌, ◌+◌, ◌/◌, ◌%◌, ◌^◌, ◌==◌, ◌&&◌, ◌||◌, nat_lt, if◌then◌else◌, Bool, false, List, ◌++◌, [], ◌∷◌, codes, decimal, length, map, Option, Some, None}
+use Rattle.std.specs.Prelude.{ℕ, ◌-◌, ◌+◌, ◌/◌, ◌%◌, ◌^◌, ◌==◌, ◌&&◌, ◌||◌, nat_lt, if◌then◌else◌, Bool, false, List, ◌++◌, [], ◌∷◌, codes, decimal, length, Option, Some, None}
 use Rattle.std.specs.{Char.is_ascii_digit, Char.is_ascii_lowercase, Fmt.digit_glyph, List.list_all, Net.Addr.segments_of, Net.Text.ipv4_text, Net.Text.ipv6_text}
 use Rattle.hex.specs.Hex.{encode_lower}
 use Rattle.rlp.specs.{NumberText.number_text as text_in_base, Values.Value.bit}
 use Rattle.rlp_transactions.specs.declared.eip155.Eip155.{Eip155}
-use Rattle.rlp_trie.specs.HexPrefix.{path_nibbles}
-use Rattle.rlp_print.specs.Value.{Steps, after, Content, Value, number, place, quantity, legacy_v, bytes, bytes_or_null, sparse, path, word, ip, type_byte, payload, text, empty_list}
+use Rattle.rlp_print.specs.Value.{Steps, after, Content, Value, number, type_byte, bytes, text, empty_list}
+use Rattle.rlp_print.specs.declared.{sink.NumberKind.NumberKind, sink.BytesKind.BytesKind}
+use Rattle.rlp_print.specs.declared.sink.NumberKind.TheVariants.{Decimal, LegacyV, Place, Quantity}
+use Rattle.rlp_print.specs.declared.sink.BytesKind.TheVariants.{Ip, Path, Sparse, Word}
 
 -- a number in decimal
 abbrev pub number_text : ℕ → List ℕ
@@ -48,17 +50,14 @@ v_text v = number_text v ++ meaning_text (said_by v)
 
 -- ---- paths of the trie
 
--- nibbles as hexadecimal digits
+-- the nibbles of a hex-prefix encoded path as hexadecimal digits: after the flag, which is the first digit, there is a 0 before an even number of nibbles
 abbrev pub digits_text : List ℕ → List ℕ
-digits_text nibbles = map (digit_glyph false) nibbles
+digits_text [] = []
+digits_text (first ∷ more) = if first / 16 % 2 == 1 then digit_glyph false (first % 16) ∷ encode_lower more else encode_lower more
 
--- nibbles in brackets
-abbrev pub nibbles_text : List ℕ → List ℕ
-nibbles_text nibbles = codes " (nibbles [" ++ digits_text nibbles ++ codes "])"
-
--- a hex-prefix encoded path: its bytes and its nibbles
+-- a hex-prefix encoded path: its bytes, and its nibbles in brackets
 abbrev pub path_text : List ℕ → List ℕ
-path_text d = bytes_text d ++ nibbles_text (path_nibbles d)
+path_text d = bytes_text d ++ codes " (nibbles [" ++ digits_text d ++ codes "])"
 
 -- ---- addresses
 
@@ -85,20 +84,25 @@ is_word d = begins_with_letter d && list_all is_word_byte d
 abbrev pub word_text : List ℕ → List ℕ
 word_text d = if is_word d then d else bytes_text d
 
+-- the text of a number, and of bytes, of a kind
+abbrev pub number_text_as : NumberKind → ℕ → List ℕ
+number_text_as Decimal n = number_text n
+number_text_as Place n = number_text n
+number_text_as Quantity n = hex_text n
+number_text_as LegacyV n = v_text n
+
+abbrev pub bytes_text_as : BytesKind → List ℕ → List ℕ
+bytes_text_as Sparse b = sparse_text b
+bytes_text_as Path b = path_text b
+bytes_text_as Word b = word_text b
+bytes_text_as Ip b = ip_text b
+bytes_text_as _ b = bytes_text b
+
 -- the text of a content
 abbrev pub content_text : Content → List ℕ
-content_text (number n) = number_text n
-content_text (place n) = decimal n
-content_text (quantity n) = hex_text n
-content_text (legacy_v n) = v_text n
-content_text (bytes b) = bytes_text b
-content_text (bytes_or_null b) = bytes_text b
-content_text (sparse b) = sparse_text b
-content_text (path b) = path_text b
-content_text (word b) = word_text b
-content_text (ip b) = ip_text b
+content_text (number kind n) = number_text_as kind n
 content_text (type_byte n) = number_text n
-content_text (payload b) = bytes_text b
+content_text (bytes kind b) = bytes_text_as kind b
 content_text (text t) = t
 content_text empty_list = codes "[]"
 

@@ -1,23 +1,19 @@
 -- What is shown of node records.
-use Rattle.std.specs.Prelude.{ℕ, ◌≡◌, ◌==◌, ◌&&◌, ◌||◌, nat_lt, if◌then◌else◌, Bool, false, List, [], ◌∷◌, codes, length}
-use Rattle.std.specs.{Int.Digits.number_from_digits, Str.bytes_eq, Vec.vec_items}
-use Rattle.rlp.specs.Format.Item.{Item, string, list}
-use Rattle.rlp.specs.Values.RawItem.{raw_item_of}
-use Rattle.rlp_node_record.specs.declared.{node_fields.NodeFields.NodeFields, node_fields.NodePair.NodePair}
-use Rattle.rlp_print.specs.Display.{Display, a_list, a_number, a_word, an_object, end, field, the_bytes, content_same}
-use Rattle.rlp_print.specs.Value.{Content, Value, content, bytes, ip, number, word}
-use Rattle.rlp_print.specs.Items.{item_told, item_value}
+use Rattle.std.specs.Prelude.{ℕ, ◌≡◌, ◌==◌, ◌&&◌, ◌||◌, ◌⊎◌, nat_lt, if◌then◌else◌, Bool, false, List, codes, length, refl, Result, Ok, Err}
+use Rattle.std.specs.{Int.Digits.number_from_digits, Str.bytes_eq}
+use Rattle.std.proofs.Common.{ap, inl, inr}
+use Rattle.rlp.specs.{DecoderError.DecoderError, Form.begins_with_zero, Format.Item.Item, Format.StringReading.read_string, Values.RawItem.raw_item_of}
+use Rattle.rlp_node_record.specs.NodeFields.{node_fields, pair_fields}
+use Rattle.rlp_print.specs.Display.{Display, a_list, a_number, a_string, an_object, bytes_as, content_same, field, one, through}
+use Rattle.rlp_print.specs.Value.{Content, Value, content, bytes, number}
+use Rattle.rlp_print.specs.Items.{item_shown, raw_apart, shown_within}
+use Rattle.rlp_print.specs.declared.{sink.NumberKind.TheVariants.Decimal, sink.BytesKind.TheVariants.Any, sink.BytesKind.TheVariants.Ip, sink.BytesKind.TheVariants.Word}
 
 -- ---- values of the keys that EIP-778 defines
 
--- whether bytes begin with zero
-abbrev pub begins_with_zero : List ℕ → Bool
-begins_with_zero [] = false
-begins_with_zero (d ∷ ds) = d == 0
-
 -- a port, which is a number of at most two bytes, or other bytes
 abbrev pub port_content : List ℕ → Content
-port_content d = if nat_lt 2 (length d) || begins_with_zero d then bytes d else number (number_from_digits 256 d)
+port_content d = if nat_lt 2 (length d) || begins_with_zero d then bytes Any d else number Decimal (number_from_digits 256 d)
 
 -- whether the value of a key is a port
 abbrev pub is_port_key : List ℕ → Bool
@@ -30,40 +26,51 @@ is_ip key d = (bytes_eq key (codes "ip") && (length d == 4)) || (bytes_eq key (c
 -- the string at a key: the name of a scheme, an address, a port, or any bytes
 abbrev pub string_content : List ℕ → List ℕ → Content
 string_content key d =
-    if bytes_eq key (codes "id") then word d
-    else if is_ip key d then ip d
+    if bytes_eq key (codes "id") then bytes Word d
+    else if is_ip key d then bytes Ip d
     else if is_port_key key then port_content d
-    else bytes d
+    else bytes Any d
 
--- the value of a key
-abbrev pub key_value : List ℕ → Item → Value
-key_value key (string d) = content (string_content key d)
-key_value key (list xs) = item_value (list xs)
+-- the value of a key, which is kept as these bytes, by the string that they begin with
+abbrev pub key_value_by : List ℕ → List ℕ → Result (List ℕ) DecoderError → Value
+key_value_by key b (Ok d) = content (string_content key d)
+key_value_by key b (Err e) = shown_within 256 false b
 
--- Values of keys agree if they are lists that are equal, or strings that are shown alike.
-abbrev pub SameKeyValue : List ℕ × Item → List ℕ × Item → Type 0
-SameKeyValue (key, string d) (other, string e) = string_content key d ≡ string_content other e
-SameKeyValue (key, list xs) (other, list ys) = xs ≡ ys
-SameKeyValue _ _ = ⊥
+abbrev pub key_value : List ℕ → List ℕ → Value
+key_value key b = key_value_by key b (read_string b)
 
-pub key_value_told : (p q : List ℕ × Item) → key_value p.0 p.1 ≡ key_value q.0 q.1 → SameKeyValue p q
-key_value_told (key, string d) (other, string e) is = content_same (string_content key d) (string_content other e) is
-key_value_told (key, list xs) (other, list ys) is = let same = item_told (list xs) (list ys) is in cc
-key_value_told _ _ is = absurd cc
+-- What is told of the value of a key: what is shown of a string, or another item.
+abbrev pub key_told_by : List ℕ → List ℕ → Result (List ℕ) DecoderError → Content ⊎ Item
+key_told_by key b (Ok d) = inl (string_content key d)
+key_told_by key b (Err e) = inr (raw_item_of b)
+
+by_strings : (key other b c : List ℕ) (r s : Result (List ℕ) DecoderError) → read_string b ≡ r → read_string c ≡ s
+    → key_value_by key b r ≡ key_value_by other c s → key_told_by key b r ≡ key_told_by other c s
+unfolding shown_within
+by_strings key other b c (Ok d) (Ok e) first second is = ap inl (content_same is)
+by_strings key other b c (Err d) (Err e) first second is = ap inr (raw_apart false b c is)
+by_strings key other b c (Ok d) (Err e) first second is = let items = ap (item_shown (shown_within 255) false c) second in absurd cc
+by_strings key other b c (Err d) (Ok e) first second is = let items = ap (item_shown (shown_within 255) false b) first in absurd cc
+
+pub key_apart : (p q : List ℕ × List ℕ) → key_value p.0 p.1 ≡ key_value q.0 q.1 → key_told_by p.0 p.1 (read_string p.1) ≡ key_told_by q.0 q.1 (read_string q.1)
+key_apart p q is = by_strings p.0 q.0 p.1 q.1 (read_string p.1) (read_string q.1) refl refl is
 
 -- ---- records
 
 -- values, each with its key
-abbrev pub key_value_display : Display (List ℕ × Item)
-key_value_display = record { value = λ p. key_value p.0 p.1; Same = λ p q. SameKeyValue p q; told = key_value_told }
+abbrev pub key_value_display : Display (List ℕ × List ℕ)
+key_value_display = record {
+  shown = λ p. key_value p.0 p.1;
+  Told = Content ⊎ Item;
+  told = λ p. key_told_by p.0 p.1 (read_string p.1);
+  apart = key_apart;
+}
 
-abbrev pub node_pair_display : Display NodePair
-node_pair_display = an_object (
-    field (codes "key") (codes "key") (λ (p : NodePair). vec_items p.key) a_word (
-    field (codes "value") (codes "value") (λ (p : NodePair). (vec_items p.key, raw_item_of p.value)) key_value_display end))
+abbrev pub node_pair_display : Display pair_fields.reading.M
+node_pair_display = an_object (through (λ p. (p.0, (p.0, p.1.0))) (
+    field (codes "key") (codes "key") (bytes_as Word) (one (codes "value") (codes "value") key_value_display)))
 
-abbrev pub node_fields_display : Display NodeFields
+abbrev pub node_fields_display : Display node_fields.reading.M
 node_fields_display = an_object (
-    field (codes "signature") (codes "signature") (λ (f : NodeFields). f.signature) (the_bytes vec_items) (
-    field (codes "sequence") (codes "sequence") (λ (f : NodeFields). f.sequence) a_number (
-    field (codes "pairs") (codes "pairs") (λ (f : NodeFields). f.pairs) (a_list vec_items node_pair_display) end)))
+    field (codes "signature") (codes "signature") a_string (
+    field (codes "sequence") (codes "sequence") a_number (one (codes "pairs") (codes "pairs") (a_list node_pair_display))))

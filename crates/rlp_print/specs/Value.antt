@@ -1,34 +1,29 @@
 -- What is shown of a value, and how a sink takes it.
 use Rattle.std.specs.Prelude.{ℕ, List, [], ◌∷◌, Option, Some, None, ◌+◌, Bool, if◌then◌else◌, ◌++◌, codes, decimal}
+use Rattle.std.specs.Int.Digits.{number_from_digits}
 use Rattle.rlp_print.specs.declared.{sink.Bracket.Bracket, sink.Bracket.TheVariants.Brace, sink.Bracket.TheVariants.Square}
+use Rattle.rlp_print.specs.declared.{sink.NumberKind.NumberKind, sink.BytesKind.BytesKind, sink.Shown.Shown}
+use Rattle.rlp_print.specs.declared.sink.Shown.TheVariants.{Bytes, EmptyList, Number, Text, TypeByte}
 
 -- what is shown as one text
 pub data Content : Type 0 where
-  -- a number, which is decimal in lines
-  number : ℕ → Content
-  -- a place, counted from 0, which is decimal in JSON too
-  place : ℕ → Content
-  -- a number that is hexadecimal in lines too
-  quantity : ℕ → Content
-  -- the number `v` in the signature of a transaction without a type
-  legacy_v : ℕ → Content
-  bytes : List ℕ → Content
-  -- bytes, of which there may be none; then JSON has `null`
-  bytes_or_null : List ℕ → Content
-  -- bytes that are mostly zero
-  sparse : List ℕ → Content
-  -- the hex-prefix encoding of a path of the trie
-  path : List ℕ → Content
-  -- bytes that are mostly a word
-  word : List ℕ → Content
-  -- the bytes of an IP address
-  ip : List ℕ → Content
-  -- the number of a type of EIP-2718, and the bytes after it
+  -- a number of a kind
+  number : NumberKind → ℕ → Content
+  -- the number of a type of EIP-2718
   type_byte : ℕ → Content
-  payload : List ℕ → Content
+  -- bytes of a kind
+  bytes : BytesKind → List ℕ → Content
   -- letters, digits and punctuation that need no escape in JSON
   text : List ℕ → Content
   empty_list : Content
+
+-- what code shows as one text
+abbrev pub content_of : Shown → Content
+content_of (Number kind n) = number kind (number_from_digits 256 n.bytes)
+content_of (TypeByte n) = type_byte n
+content_of (Bytes kind b) = bytes kind b.now
+content_of (Text t) = text t.now
+content_of EmptyList = empty_list
 
 -- A value is one content, an object with fields, or a list of values. A field has a name in lines and a name in JSON. `by_form` has the fields that are shown in
 -- lines and the fields that are shown in JSON.

@@ -1,93 +1,93 @@
 //! Blocks, their headers and their bodies.
 
 ghost use Rattle.std.specs.Prelude.{◌≡◌, IfOk, map};
-ghost use Rattle.rlp_print.specs.Blocks.{block_display, body_display, cancun_display, hashed_header_display, header_display, header_fields_display, header_hash, london_display, more_of_block, shanghai_display};
-ghost use Rattle.rlp_print.specs.Display.{as_shown, part};
+ghost use Rattle.rlp_headers.specs.Forks.{cancun_fields, london_fields, shanghai_fields};
+ghost use Rattle.rlp_headers.specs.Header.{header};
+ghost use Rattle.rlp_ethereum.specs.{Block.block, Body.body};
+ghost use Rattle.rlp_print.specs.Blocks.{block_display, block_size, body_fields_display, cancun_display, hashed_header_display, header_display, seen_hash, london_display, more_of_block, shanghai_display};
+ghost use Rattle.rlp_print.specs.Display.{an_object, seen_as};
 
-use crate::show::{ByForm, Items, Object, Show, ShowFields, field, give_fields, show_fields};
-use crate::sink::{Shown, Sink};
+use crate::show::{
+    ByForm, Items, Object, Show, ShowFields, field, fields, give_fields, show_fields,
+};
+use crate::sink::{BytesKind, Shown, Sink, bytes};
 use rlp_ethereum::{Block, Body};
 use rlp_headers::{Cancun, Header, London, Shanghai};
 use rlp_records::Hash;
 use std::alloc::{AllocError, Global};
 
 impl ShowFields for Cancun {
-    ghost fields = { cancun_display };
+    ghost fields = { seen_as cancun_fields.reading.seen cancun_display };
 
     fn give<S: Sink>(&self, alloc: Global, name: &str, sink: &mut S) -> Result<(), AllocError> {
         give_fields!(alloc, name, sink;
             "blob_gas_used" "blobGasUsed" &self.blob_gas_used;
             "excess_blob_gas" "excessBlobGas" &self.excess_blob_gas;
             "parent_beacon_block_root" "parentBeaconBlockRoot" &self.parent_beacon_block_root;
-            "requests_hash" "requestsHash" ? &self.requests_hash;
+            "requests_hash" "requestsHash" ? &self.requests_hash
         )
     }
 }
 
 impl ShowFields for Shanghai {
-    ghost fields = { shanghai_display };
+    ghost fields = { seen_as shanghai_fields.reading.seen shanghai_display };
 
     fn give<S: Sink>(&self, alloc: Global, name: &str, sink: &mut S) -> Result<(), AllocError> {
         give_fields!(alloc, name, sink;
             "withdrawals_root" "withdrawalsRoot" &self.withdrawals_root;
-            &self.since_cancun;
+            &self.since_cancun
         )
     }
 }
 
 impl ShowFields for London {
-    ghost fields = { london_display };
+    ghost fields = { seen_as london_fields.reading.seen london_display };
 
     fn give<S: Sink>(&self, alloc: Global, name: &str, sink: &mut S) -> Result<(), AllocError> {
         give_fields!(alloc, name, sink;
             "base_fee_per_gas" "baseFeePerGas" &self.base_fee_per_gas;
-            &self.since_shanghai;
+            &self.since_shanghai
         )
     }
 }
 
-/// The fields of a header, without the hash.
-#[derive(Clone, Copy)]
-struct HeaderFields<'a>(&'a Header);
-
-impl ShowFields for HeaderFields<'_> {
-    ghost fields = { part (λ h. h.0.now) header_fields_display };
-
-    fn give<S: Sink>(&self, alloc: Global, name: &str, sink: &mut S) -> Result<(), AllocError> {
-        let header = self.0;
-        give_fields!(alloc, name, sink;
-            "parent_hash" "parentHash" &header.parent_hash;
-            "ommers_hash" "sha3Uncles" &header.ommers_hash;
-            "beneficiary" "miner" &header.beneficiary;
-            "state_root" "stateRoot" &header.state_root;
-            "transactions_root" "transactionsRoot" &header.transactions_root;
-            "receipts_root" "receiptsRoot" &header.receipts_root;
-            "logs_bloom" "logsBloom" &header.logs_bloom;
-            "difficulty" "difficulty" &header.difficulty;
-            "number" "number" &header.number;
-            "gas_limit" "gasLimit" &header.gas_limit;
-            "gas_used" "gasUsed" &header.gas_used;
-            "timestamp" "timestamp" &header.timestamp;
-            "extra_data" "extraData" &header.extra_data;
-            "mix_hash" "mixHash" &header.mix_hash;
-            "nonce" "nonce" &header.nonce;
-            &header.since_london;
-        )
-    }
+/// Returns the hash of a header.
+fn hash_of(alloc: Global, whole: &Header) -> Result<Hash, AllocError>
+    ensures { IfOk result (λ h. h ≡ seen_hash whole.now) }
+{
+    whole.hash(alloc)
 }
 
 /// The hash of the header, and its fields.
 impl ShowFields for Header {
-    ghost fields = { hashed_header_display };
+    ghost fields = { seen_as header.reading.seen hashed_header_display };
 
     fn give<S: Sink>(&self, alloc: Global, name: &str, sink: &mut S) -> Result<(), AllocError> {
-        let hash = self.hash(alloc)?;
-        give_fields!(alloc, name, sink; "hash" "hash" &hash; HeaderFields(self);)
+        let hash = hash_of(alloc, self)?;
+        give_fields!(alloc, name, sink;
+            "hash" "hash" &hash;
+            "parent_hash" "parentHash" &self.parent_hash;
+            "ommers_hash" "sha3Uncles" &self.ommers_hash;
+            "beneficiary" "miner" &self.beneficiary.0;
+            "state_root" "stateRoot" &self.state_root;
+            "transactions_root" "transactionsRoot" &self.transactions_root;
+            "receipts_root" "receiptsRoot" &self.receipts_root;
+            "logs_bloom" "logsBloom" Shown::Bytes(BytesKind::Sparse, &self.logs_bloom.0);
+            "difficulty" "difficulty" &self.difficulty;
+            "number" "number" &self.number;
+            "gas_limit" "gasLimit" &self.gas_limit;
+            "gas_used" "gasUsed" &self.gas_used;
+            "timestamp" "timestamp" &self.timestamp;
+            "extra_data" "extraData" &self.extra_data;
+            "mix_hash" "mixHash" &self.mix_hash;
+            "nonce" "nonce" &self.nonce;
+            &self.since_london
+        )
     }
 }
 
 impl Show for Header {
-    ghost display = { header_display };
+    ghost display = { seen_as header.reading.seen header_display };
 
     fn show<S: Sink>(&self, alloc: Global, name: &str, sink: &mut S) -> Result<(), AllocError> {
         Object(self).show(alloc, name, sink)
@@ -95,36 +95,37 @@ impl Show for Header {
 }
 
 impl Show for Body {
-    ghost display = { body_display };
+    ghost display = { seen_as body.reading.seen (an_object body_fields_display) };
 
     fn show<S: Sink>(&self, alloc: Global, name: &str, sink: &mut S) -> Result<(), AllocError> {
         show_fields!(alloc, name, sink;
             "transactions" "transactions" Items(&self.transactions);
             "ommers" "ommers" Items(&self.ommers);
-            "withdrawals" "withdrawals" ? &self.withdrawals;
+            "withdrawals" "withdrawals" ? &self.withdrawals
         )
     }
 }
 
-/// Returns the hash of a header.
-fn hash_of(alloc: Global, header: &Header) -> Result<Hash, AllocError>
-    ensures { IfOk result (λ h. h ≡ header_hash header.now) }
-{
-    let hash = header.hash(alloc)?;
-    Ok(hash)
-}
-
 /// Returns the hashes of headers.
 fn hashes_of(alloc: Global, headers: &[Header]) -> Result<Vec<Hash>, AllocError>
-    ensures { IfOk result (λ hs. hs.items ≡ map header_hash headers.now) }
+    ensures { IfOk result (λ hs. hs.items ≡ map seen_hash headers.now) }
 {
     let mut hashes = Vec::new(alloc);
     let mut rest = headers;
-    while let [header, others @ ..] = rest {
-        hashes.push(hash_of(alloc, header)?)?;
+    while let [first, others @ ..] = rest {
+        hashes.push(hash_of(alloc, first)?)?;
         rest = others;
     }
     Ok(hashes)
+}
+
+/// Returns the number of bytes of a block.
+#[tactic(auto, using(crate::proofs::Written::block_written))]
+fn size_of(alloc: Global, whole: &Block) -> Result<u64, AllocError>
+    ensures { IfOk result (λ n. n ≡ block_size (block.reading.seen whole.now)) }
+{
+    let bytes = rlp::encode(alloc, whole)?;
+    Ok(bytes.len() as u64)
 }
 
 /// What JSON has of a block besides its fields.
@@ -132,28 +133,28 @@ fn hashes_of(alloc: Global, headers: &[Header]) -> Result<Vec<Hash>, AllocError>
 struct More<'a>(&'a Block);
 
 impl ShowFields for More<'_> {
-    ghost fields = { as_shown (λ b. more_of_block b.0.now) };
+    ghost fields = { seen_as (λ b. block.reading.seen b.0.now) more_of_block };
 
+    #[tactic(auto, using(crate::proofs::Written::hashes_seen))]
     fn give<S: Sink>(&self, alloc: Global, name: &str, sink: &mut S) -> Result<(), AllocError> {
         let uncles = hashes_of(alloc, self.0.ommers.as_slice())?;
-        let bytes = rlp::encode(alloc, self.0)?;
-        give_fields!(alloc, name, sink;
-            "uncles" "uncles" Items(&uncles);
-            "size" "size" Shown::Number(bytes.len() as u64);
-        )
+        let size = size_of(alloc, self.0)?;
+        give_fields!(alloc, name, sink; "uncles" "uncles" Items(&uncles); "size" "size" &size)
     }
 }
 
 impl Show for Block {
-    ghost display = { block_display };
+    ghost display = { seen_as block.reading.seen block_display };
 
     fn show<S: Sink>(&self, alloc: Global, name: &str, sink: &mut S) -> Result<(), AllocError> {
         show_fields!(alloc, name, sink;
             ByForm(field!("header" "header" &self.header), &self.header);
-            "transactions" "transactions" Items(&self.transactions);
-            "ommers" "ommers" Items(&self.ommers);
-            "withdrawals" "withdrawals" ? &self.withdrawals;
-            ByForm((), More(self));
+            fields!(
+                "transactions" "transactions" Items(&self.transactions);
+                "ommers" "ommers" Items(&self.ommers);
+                "withdrawals" "withdrawals" ? &self.withdrawals
+            );
+            ByForm((), More(self))
         )
     }
 }

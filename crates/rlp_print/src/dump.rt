@@ -1,12 +1,14 @@
 //! Where the contents of a value stand in its encoding.
 
 ghost use Rattle.std.specs.Prelude.{◌≡◌, ◌+◌, ◌≤◌, ◌++◌, [], length, string_bytes, IfOk, OnOk};
-ghost use Rattle.rlp_print.specs.Dump.{Dump as DumpSeen, content_header, dump_of, dump_steps, encoded_bytes, enter, enter_envelope, enter_lists, list_header, part_text, row, string_header};
-ghost use Rattle.rlp_print.specs.Display.{content_of};
+ghost use Rattle.rlp.specs.Format.Framing.{framing};
+ghost use Rattle.rlp_print.specs.Dump.{Dump as DumpSeen, content_header, dump_of, dump_steps, encoded_bytes, enter, enter_envelope, enter_lists, header_before, part_text, row};
+ghost use Rattle.rlp_print.specs.Display.{shown_of};
+ghost use Rattle.rlp_print.specs.Value.{content_of};
 
 use crate::lines::put_line;
 use crate::show::Show;
-use crate::sink::{Bracket, Shown, Sink};
+use crate::sink::{Bracket, BytesKind, NumberKind, Shown, Sink};
 use bytes::BytesMut;
 use rlp::Rlp;
 use rlp_lines::push_bytes;
@@ -35,7 +37,7 @@ pub fn dump_of<T: Show>(
     value: &T,
 ) -> Result<String, AllocError>
     ensures { IfOk result (λ text. string_bytes text
-        ≡ dump_of bytes.now name.now (T.display.value value.now)) }
+        ≡ dump_of bytes.now name.now (shown_of T.display value.now)) }
 {
     let mut dump = Dump {
         alloc,
@@ -79,26 +81,14 @@ fn put_part(bytes: &[u8], out: &mut String) -> Result<(), AllocError>
     push_bytes(bytes, out)
 }
 
-/// Returns the length of the header of a list that has items, if it comes next, or else 0.
-fn list_header(bytes: &[u8]) -> usize
-    ensures length { result ≡ list_header bytes.now }
+/// Returns the length of the header that comes next, if it is of the kind that is asked for and the
+/// payload has more than this number of bytes, or else 0.
+fn header_before(bytes: &[u8], is_of_kind: bool, few: usize) -> usize
+    ensures length { result ≡ header_before is_of_kind few (framing bytes.now) }
     ensures within { result ≤ length bytes.now }
 {
-    let next = Rlp::new(bytes);
-    match next.payload_info() {
-        Ok(info) if next.is_list() && info.value_len > 0 => info.header_len,
-        _ => 0,
-    }
-}
-
-/// Returns the length of the header of a string of two bytes or more, if it comes next, or else 0.
-fn string_header(bytes: &[u8]) -> usize
-    ensures length { result ≡ string_header bytes.now }
-    ensures within { result ≤ length bytes.now }
-{
-    let next = Rlp::new(bytes);
-    match next.payload_info() {
-        Ok(info) if next.is_data() && info.value_len > 1 => info.header_len,
+    match Rlp::new(bytes).payload_info() {
+        Ok(info) if is_of_kind && info.value_len > few => info.header_len,
         _ => 0,
     }
 }
@@ -108,18 +98,12 @@ fn encoded_bytes(alloc: Global, shown: Shown<'_>) -> Result<BytesMut, AllocError
     ensures { IfOk result (λ b. b.items ≡ encoded_bytes (content_of shown.entry)) }
 {
     match shown {
-        Shown::Number(n) => rlp::encode(alloc, &n),
+        Shown::Number(NumberKind::Place, _) | Shown::Text(_) => Ok(BytesMut::new(alloc)),
+        Shown::Number(_, n) => rlp::encode(alloc, &n),
         Shown::TypeByte(n) => rlp::encode(alloc, &[n]),
-        Shown::Wide(n) | Shown::Quantity(n) | Shown::LegacyV(n) => rlp::encode(alloc, n),
-        Shown::Bytes(b)
-        | Shown::BytesOrNull(b)
-        | Shown::Sparse(b)
-        | Shown::Path(b)
-        | Shown::Word(b)
-        | Shown::Ip(b) => rlp::encode(alloc, &b),
-        Shown::Payload(b) => BytesMut::copy_from_slice(alloc, b),
+        Shown::Bytes(BytesKind::Payload, b) => BytesMut::copy_from_slice(alloc, b),
+        Shown::Bytes(_, b) => rlp::encode(alloc, &b),
         Shown::EmptyList => BytesMut::copy_from_slice(alloc, &[0xc0]),
-        Shown::Place(_) | Shown::Text(_) => Ok(BytesMut::new(alloc)),
     }
 }
 
@@ -128,7 +112,7 @@ fn content_header(shown: Shown<'_>, bytes: &[u8]) -> usize
     ensures length { result ≡ content_header (content_of shown.entry) bytes.now }
     ensures within { result ≤ length bytes.now }
 {
-    if let Shown::Payload(_) = shown {
+    if let Shown::Bytes(BytesKind::Payload, _) = shown {
         return 0;
     }
     match Rlp::new(bytes).payload_info() {
@@ -170,7 +154,7 @@ impl<'a> Dump<'a> {
     {
         let mut most = self.rest.len();
         while most > 0 {
-            let header_len = list_header(self.rest);
+            let header_len = header_before(self.rest, Rlp::new(self.rest).is_list(), 0);
             if header_len == 0 {
                 return Ok(());
             }
@@ -184,7 +168,7 @@ impl<'a> Dump<'a> {
     fn enter_envelope(&mut self) -> Result<(), AllocError>
         ensures { OnOk result (self.new ≡ enter_envelope self.old) }
     {
-        let header_len = string_header(self.rest);
+        let header_len = header_before(self.rest, Rlp::new(self.rest).is_data(), 1);
         if header_len == 0 {
             return Ok(());
         }
@@ -196,7 +180,7 @@ impl<'a> Dump<'a> {
         ensures { OnOk result (self.new ≡ enter (content_of shown.entry) self.old) }
     {
         match shown {
-            Shown::Payload(_) => Ok(()),
+            Shown::Bytes(BytesKind::Payload, _) => Ok(()),
             Shown::TypeByte(_) => {
                 self.enter_lists()?;
                 self.enter_envelope()

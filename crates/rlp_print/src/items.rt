@@ -1,29 +1,34 @@
 //! Items of any kind, and nodes of the trie.
 
-ghost use Rattle.std.specs.Prelude.{◌≡◌, ◌≢◌, ◌∷◌, [], IfOk, length, MatchOption, not, OnOk};
-ghost use Rattle.rlp.specs.Format.Item.{list};
-ghost use Rattle.rlp.specs.Format.StringReading.{read_string};
-ghost use Rattle.rlp.specs.Values.RawItem.{item_within, string_or_none};
-ghost use Rattle.rlp.specs.Views.View.{item_views, view_of};
-ghost use Rattle.rlp_print.specs.Display.{part};
-ghost use Rattle.rlp_print.specs.Items.{branch_entries, item_value, kept_value, key_of, kind_of, pair_entries, path_fields, raw_item_display, value_by, view_items, branch_child_display, branch_display, child_display, extension_display, leaf_display, node_display, node_fields_display};
-ghost use Rattle.rlp_print.specs.Value.{after, array, object, values_of};
+ghost use Rattle.std.specs.Prelude.{◌≡◌, IfOk, not, OnOk, true, false};
+ghost use Rattle.rlp.specs.Codec.{raw_item};
+ghost use Rattle.rlp.specs.Views.View.{item_views};
+ghost use Rattle.rlp_trie.specs.{BranchChild.branch_child, ChildLaws.child};
+ghost use Rattle.rlp_print.specs.Display.{seen_as};
+ghost use Rattle.rlp_print.specs.Items.{branch_entries, child_display, items_shown, key_of, kind_of, node_display, node_hash, node_parts, node_shown, pair_entries, path_fields, place_display, raw_item_display, shown_within, string_at};
+ghost use Rattle.rlp_print.specs.Value.{after, object, values_of};
 
 use crate::show::{
-    ByForm, Show, ShowFields, Slice, field, give_fields, inside, place_in, show_fields,
+    ByForm, Show, ShowFields, Slice, field, fields, give_fields, inside, place_in, show_fields,
 };
-use crate::sink::{Bracket, Shown, Sink};
+use crate::sink::{Bracket, BytesKind, Shown, Sink, bytes};
 use crate::texts::put_digits;
 use rlp::{RawItem, Rlp};
-use rlp_trie::{Branch, BranchChild, Child, Extension, Leaf, TrieNode, ends_in_leaf};
+use rlp_trie::{BranchChild, Child, TrieNode, ends_in_leaf};
 use std::alloc::{AllocError, Global};
 
 impl Show for RawItem {
-    ghost display = { raw_item_display };
+    ghost display = { seen_as raw_item.reading.seen raw_item_display };
 
     fn show<S: Sink>(&self, alloc: Global, name: &str, sink: &mut S) -> Result<(), AllocError> {
-        let bytes = self.as_bytes();
-        show_item(alloc, name, bytes, RawItem::MAX_DEPTH, false, sink)
+        show_item(
+            alloc,
+            name,
+            self.as_bytes(),
+            RawItem::MAX_DEPTH,
+            false,
+            sink,
+        )
     }
 }
 
@@ -32,13 +37,15 @@ impl Show for RawItem {
 pub(crate) struct PathFields<'a>(pub(crate) &'a [u8]);
 
 impl ShowFields for PathFields<'_> {
-    ghost fields = { part (λ p. p.0.now) path_fields };
+    ghost fields = { seen_as (λ p. p.0.now) path_fields };
 
     fn give<S: Sink>(&self, alloc: Global, name: &str, sink: &mut S) -> Result<(), AllocError> {
         let mut digits = String::new(alloc);
         put_digits(self.0, &mut digits)?;
-        let nibbles = field!("nibbles" "nibbles" Shown::Text(digits.as_str()));
-        give_fields!(alloc, name, sink; "path" "path" Shown::Path(self.0); ByForm((), nibbles);)
+        give_fields!(alloc, name, sink;
+            "path" "path" Shown::Bytes(BytesKind::Path, self.0);
+            ByForm((), field!("nibbles" "nibbles" Shown::Text(digits.as_str())))
+        )
     }
 }
 
@@ -56,22 +63,11 @@ fn items_in<'a>(alloc: Global, list: &Rlp<'a>) -> Result<Vec<Rlp<'a>>, AllocErro
 
 /// Returns the string that bytes begin with, or no bytes.
 fn string_in(bytes: &[u8]) -> &[u8]
-    ensures { result.now ≡ string_or_none (read_string bytes.now) }
+    ensures { result.now ≡ string_at bytes.now }
 {
     match Rlp::new(bytes).decoder().string() {
         Ok(string) => string,
         Err(_) => &[],
-    }
-}
-
-/// Returns the items of a list of two.
-fn pair_in<'a, 'b>(items: &'b [Rlp<'a>]) -> Option<(&'b Rlp<'a>, &'b Rlp<'a>)>
-    ensures { MatchOption result (length items.now ≢ 2)
-        (λ p. items.now ≡ p.0.now ∷ p.1.now ∷ []) }
-{
-    match items {
-        [first, second] => Some((first, second)),
-        _ => None,
     }
 }
 
@@ -82,18 +78,18 @@ fn pair_in<'a, 'b>(items: &'b [Rlp<'a>]) -> Option<(&'b Rlp<'a>, &'b Rlp<'a>)>
 pub(crate) fn show_item<S: Sink>(
     alloc: Global,
     name: &str,
-    bytes: &[u8],
+    raw: &[u8],
     most: usize,
     is_node: bool,
     sink: &mut S,
 ) -> Result<(), AllocError>
-    ensures { OnOk result (S.seen sink.new ≡ after S.steps name.now
-        (value_by is_node (item_within most bytes.now)) (S.seen sink.old)) }
+    ensures { OnOk result (S.seen sink.new
+        ≡ after S.steps name.now (shown_within most is_node raw.now) (S.seen sink.old)) }
 {
-    let item = Rlp::new(bytes);
+    let item = Rlp::new(raw);
     match item.decoder().string() {
-        Ok(string) => return sink.put(name, Shown::Bytes(string)),
-        Err(_) if most == 0 => return sink.put(name, Shown::Bytes(&[])),
+        Ok(string) => return sink.put(name, bytes(string)),
+        Err(_) if most == 0 => return sink.put(name, bytes(&[])),
         Err(_) => {}
     }
     let items = items_in(alloc, &item)?;
@@ -115,8 +111,7 @@ fn show_items<S: Sink>(
     sink: &mut S,
 ) -> Result<(), AllocError>
     ensures { OnOk result (S.seen sink.new ≡ after S.steps name.now
-        (array (values_of (λ v. value_by is_node (item_within most v.bytes)) items.now))
-        (S.seen sink.old)) }
+        (items_shown (shown_within most) is_node items.now) (S.seen sink.old)) }
 {
     if items.is_empty() {
         return sink.put(name, Shown::EmptyList);
@@ -135,7 +130,6 @@ fn show_items<S: Sink>(
 
 /// Gives a list of items to a sink as a node: a leaf, an extension or a branch, or else the list.
 #[cycle(items)]
-#[tactic(auto, using(crate::proofs::ItemLemmas::nodes_by_items))]
 fn show_node<S: Sink>(
     alloc: Global,
     name: &str,
@@ -144,15 +138,12 @@ fn show_node<S: Sink>(
     sink: &mut S,
 ) -> Result<(), AllocError>
     ensures { OnOk result (S.seen sink.new ≡ after S.steps name.now
-        (kept_value (list (view_items most items.now))) (S.seen sink.old)) }
+        (node_shown (shown_within most) items.now) (S.seen sink.old)) }
 {
-    let Some((value, children)) = items.split_last() else {
-        return show_items(alloc, name, items, most, false, sink);
-    };
     if items.len() == 17 {
-        return show_branch(alloc, name, children, value.as_raw(), most, sink);
+        return show_branch(alloc, name, &items[..16], items[16].as_raw(), most, sink);
     }
-    let Some((first, second)) = pair_in(items) else {
+    let [first, second] = items else {
         return show_items(alloc, name, items, most, false, sink);
     };
     let path = string_in(first.as_raw());
@@ -180,20 +171,20 @@ fn show_pair<S: Sink>(
     name: &str,
     is_leaf: bool,
     path: &[u8],
-    bytes: &[u8],
+    raw: &[u8],
     most: usize,
     sink: &mut S,
 ) -> Result<(), AllocError>
     ensures { OnOk result (S.seen sink.new ≡ after S.steps name.now
-        (object (pair_entries is_leaf path.now
-        (value_by (not is_leaf) (item_within most bytes.now)))) (S.seen sink.old)) }
+        (object (pair_entries is_leaf path.now (shown_within most (not is_leaf) raw.now)))
+        (S.seen sink.old)) }
 {
     let (kind, key) = names_of(is_leaf);
     let field = inside(alloc, name, key)?;
     sink.begin(Bracket::Brace)?;
-    give_fields!(alloc, name, sink; "node" "node" Shown::Text(kind); PathFields(path);)?;
+    give_fields!(alloc, name, sink; "node" "node" Shown::Text(kind); PathFields(path))?;
     sink.key(key)?;
-    show_item(alloc, field.as_str(), bytes, most, !is_leaf, sink)?;
+    show_item(alloc, field.as_str(), raw, most, !is_leaf, sink)?;
     sink.finish(Bracket::Brace)
 }
 
@@ -203,47 +194,35 @@ fn show_branch<S: Sink>(
     alloc: Global,
     name: &str,
     children: &[Rlp<'_>],
-    bytes: &[u8],
+    raw: &[u8],
     most: usize,
     sink: &mut S,
 ) -> Result<(), AllocError>
     ensures { OnOk result (S.seen sink.new ≡ after S.steps name.now
-        (object (branch_entries (values_of (λ v. kept_value (item_within most v.bytes)) children.now)
-        (item_value (item_within most bytes.now)))) (S.seen sink.old)) }
+        (object (branch_entries (values_of (λ v. shown_within most true v.bytes) children.now)
+        (shown_within most false raw.now))) (S.seen sink.old)) }
 {
     let children_name = inside(alloc, name, "children")?;
     let value_name = inside(alloc, name, "value")?;
     sink.begin(Bracket::Brace)?;
-    give_fields!(alloc, name, sink; "node" "node" Shown::Text("branch");)?;
+    field!("node" "node" Shown::Text("branch")).give(alloc, name, sink)?;
     sink.key("children")?;
     show_items(alloc, children_name.as_str(), children, most, true, sink)?;
     sink.key("value")?;
-    show_item(alloc, value_name.as_str(), bytes, most, false, sink)?;
+    show_item(alloc, value_name.as_str(), raw, most, false, sink)?;
     sink.finish(Bracket::Brace)
-}
-
-impl ShowFields for Leaf {
-    ghost fields = { leaf_display };
-
-    fn give<S: Sink>(&self, alloc: Global, name: &str, sink: &mut S) -> Result<(), AllocError> {
-        give_fields!(alloc, name, sink;
-            "node" "node" Shown::Text("leaf");
-            PathFields(self.path.bytes.as_slice());
-            "value" "value" &self.value;
-        )
-    }
 }
 
 /// The hash in hexadecimal, or the fields of a node that is kept in its parent.
 impl Show for Child {
-    ghost display = { child_display };
+    ghost display = { seen_as child.reading.seen child_display };
 
     fn show<S: Sink>(&self, alloc: Global, name: &str, sink: &mut S) -> Result<(), AllocError> {
         match self {
-            Child::Node(hash) => sink.put(name, Shown::Bytes(&hash.0)),
+            Child::Node(hash) => sink.put(name, bytes(&hash.0)),
             Child::Inline(node) => {
-                let bytes = node.item.as_bytes();
-                show_item(alloc, name, bytes, RawItem::MAX_DEPTH, true, sink)
+                let item = node.item.as_bytes();
+                show_item(alloc, name, item, RawItem::MAX_DEPTH, true, sink)
             }
         }
     }
@@ -251,60 +230,45 @@ impl Show for Child {
 
 /// The child, or no bytes if there is none.
 impl Show for BranchChild {
-    ghost display = { branch_child_display };
+    ghost display = { seen_as branch_child.reading.seen place_display };
 
     fn show<S: Sink>(&self, alloc: Global, name: &str, sink: &mut S) -> Result<(), AllocError> {
         match &self.0 {
             Some(child) => child.show(alloc, name, sink),
-            None => sink.put(name, Shown::Bytes(&[])),
+            None => sink.put(name, bytes(&[])),
         }
     }
 }
 
-impl ShowFields for Extension {
-    ghost fields = { extension_display };
-
-    fn give<S: Sink>(&self, alloc: Global, name: &str, sink: &mut S) -> Result<(), AllocError> {
-        give_fields!(alloc, name, sink;
-            "node" "node" Shown::Text("extension");
-            PathFields(self.path.bytes.as_slice());
-            "child" "child" &self.child;
-        )
-    }
-}
-
-impl ShowFields for Branch {
-    ghost fields = { branch_display };
-
-    fn give<S: Sink>(&self, alloc: Global, name: &str, sink: &mut S) -> Result<(), AllocError> {
-        give_fields!(alloc, name, sink;
-            "node" "node" Shown::Text("branch");
-            "children" "children" Slice(self.children.as_slice());
-            "value" "value" &self.value;
-        )
-    }
-}
-
-/// The kind of the node, and its fields without the hash.
-impl ShowFields for TrieNode {
-    ghost fields = { node_fields_display };
-
-    fn give<S: Sink>(&self, alloc: Global, name: &str, sink: &mut S) -> Result<(), AllocError> {
-        match self {
-            TrieNode::Empty => give_fields!(alloc, name, sink; "node" "node" Shown::Text("empty");),
-            TrieNode::Leaf(leaf) => leaf.give(alloc, name, sink),
-            TrieNode::Extension(extension) => extension.give(alloc, name, sink),
-            TrieNode::Branch(branch) => branch.give(alloc, name, sink),
-        }
-    }
-}
-
-/// The hash of the node, and its fields.
+/// The hash of the node, its kind and its fields.
 impl Show for TrieNode {
-    ghost display = { node_display };
+    ghost display = { seen_as (λ n. (node_hash n, node_parts n)) node_display };
 
     fn show<S: Sink>(&self, alloc: Global, name: &str, sink: &mut S) -> Result<(), AllocError> {
         let hash = self.hash(alloc)?;
-        show_fields!(alloc, name, sink; "hash" "hash" &hash; self;)
+        match self {
+            TrieNode::Empty => show_fields!(alloc, name, sink;
+                "hash" "hash" &hash;
+                "node" "node" Shown::Text("empty")
+            ),
+            TrieNode::Leaf(leaf) => show_fields!(alloc, name, sink;
+                "hash" "hash" &hash;
+                "node" "node" Shown::Text("leaf");
+                PathFields(leaf.path.bytes.as_slice());
+                "value" "value" &leaf.value
+            ),
+            TrieNode::Extension(extension) => show_fields!(alloc, name, sink;
+                "hash" "hash" &hash;
+                "node" "node" Shown::Text("extension");
+                PathFields(extension.path.bytes.as_slice());
+                "child" "child" &extension.child
+            ),
+            TrieNode::Branch(branch) => show_fields!(alloc, name, sink;
+                "hash" "hash" &hash;
+                "node" "node" Shown::Text("branch");
+                "children" "children" Slice(branch.children.as_slice());
+                "value" "value" &branch.value
+            ),
+        }
     }
 }

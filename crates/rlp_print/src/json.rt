@@ -2,10 +2,11 @@
 
 ghost use Rattle.std.specs.Prelude.{◌≡◌, ◌++◌, [], true, string_bytes, OnOk, IfOk};
 ghost use Rattle.rlp_print.specs.Json.{Json as JsonSeen, comma, content_json, json_steps, json_of};
-ghost use Rattle.rlp_print.specs.Display.{content_of};
+ghost use Rattle.rlp_print.specs.Display.{shown_of};
+ghost use Rattle.rlp_print.specs.Value.{content_of};
 
 use crate::show::Show;
-use crate::sink::{Bracket, Shown, Sink};
+use crate::sink::{Bracket, BytesKind, NumberKind, Shown, Sink};
 use crate::texts::{put_bytes, put_hex, put_ip, put_word_or_bytes};
 use rlp::Uint;
 use std::alloc::{AllocError, Global};
@@ -22,7 +23,7 @@ pub struct Json {
 
 /// Returns the JSON of a value, without spaces.
 pub fn json_of<T: Show>(alloc: Global, value: &T) -> Result<String, AllocError>
-    ensures { IfOk result (λ text. string_bytes text ≡ json_of (T.display.value value.now)) }
+    ensures { IfOk result (λ text. string_bytes text ≡ json_of (shown_of T.display value.now)) }
 {
     let mut json = Json::new(alloc);
     value.show(alloc, "", &mut json)?;
@@ -44,20 +45,13 @@ fn put_content(shown: Shown<'_>, out: &mut String) -> Result<(), AllocError>
         (string_bytes out.new ≡ string_bytes out.old ++ content_json (content_of shown.entry)) }
 {
     match shown {
-        Shown::Number(n) => put_quoted!(out, put_hex(&Uint::from(n), out)),
-        Shown::Place(n) => write!(out, "{n}"),
-        Shown::Wide(n) | Shown::Quantity(n) | Shown::LegacyV(n) => {
-            put_quoted!(out, put_hex(n, out))
-        }
-        Shown::BytesOrNull([]) => out.push_str("null"),
-        Shown::Bytes(b)
-        | Shown::BytesOrNull(b)
-        | Shown::Sparse(b)
-        | Shown::Path(b)
-        | Shown::Payload(b) => put_quoted!(out, put_bytes(b, out)),
-        Shown::Word(bytes) => put_quoted!(out, put_word_or_bytes(bytes, out)),
-        Shown::Ip(bytes) => put_quoted!(out, put_ip(bytes, out)),
+        Shown::Number(NumberKind::Place, n) => write!(out, "{n}"),
+        Shown::Number(_, n) => put_quoted!(out, put_hex(&n, out)),
         Shown::TypeByte(n) => put_quoted!(out, put_hex(&Uint::from(u64::from(n)), out)),
+        Shown::Bytes(BytesKind::Null, _) => out.push_str("null"),
+        Shown::Bytes(BytesKind::Word, bytes) => put_quoted!(out, put_word_or_bytes(bytes, out)),
+        Shown::Bytes(BytesKind::Ip, bytes) => put_quoted!(out, put_ip(bytes, out)),
+        Shown::Bytes(_, bytes) => put_quoted!(out, put_bytes(bytes, out)),
         Shown::Text(text) => put_quoted!(out, out.push_str(text)),
         Shown::EmptyList => out.push_str("[]"),
     }

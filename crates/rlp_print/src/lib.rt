@@ -1,4 +1,7 @@
 //! Shows values of Ethereum's records by the names of their fields, as lines and as JSON.
+//!
+//! A type that is a list alone, such as the headers of an answer, is shown by [`Items`] of its
+//! vector, and a node record by its fields.
 #![tactic(auto)]
 
 mod blocks;
@@ -20,4 +23,4 @@ pub use json::{Json, json_of};
 pub use lines::{Lines, lines_of};
 pub use records::{Fault, Place};
 pub use show::{ByForm, Items, Named, NamedIf, Object, Show, ShowFields, Slice};
-pub use sink::{Bracket, Shown, Sink};
+pub use sink::{Bracket, BytesKind, NumberKind, Shown, Sink};

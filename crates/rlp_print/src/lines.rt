@@ -2,13 +2,13 @@
 
 ghost use Rattle.std.specs.Prelude.{◌≡◌, ◌++◌, [], List, ℕ, string_bytes, OnOk, IfOk};
 ghost use Rattle.rlp_print.specs.Lines.{content_text, line, line_steps, lines};
-ghost use Rattle.rlp_print.specs.Display.{content_of};
+ghost use Rattle.rlp_print.specs.Display.{shown_of};
+ghost use Rattle.rlp_print.specs.Value.{content_of};
 
 use crate::show::Show;
-use crate::sink::{Bracket, Shown, Sink};
-use crate::texts::{
-    put_bytes, put_decimal, put_hex, put_ip, put_path, put_sparse, put_v, put_word_or_bytes,
-};
+use crate::sink::{Bracket, BytesKind, NumberKind, Shown, Sink};
+use crate::texts::{put_bytes, put_hex, put_ip, put_path, put_sparse, put_v, put_word_or_bytes};
+use rlp::Uint;
 use std::alloc::{AllocError, Global};
 use std::fmt::Write;
 
@@ -33,7 +33,7 @@ impl Lines {
 /// Returns the lines of a value of this name. A whole record has no name, and the lines of its
 /// fields have the names of the fields alone.
 pub fn lines_of<T: Show>(alloc: Global, name: &str, value: &T) -> Result<String, AllocError>
-    ensures { IfOk result (λ text. string_bytes text ≡ lines name.now (T.display.value value.now)) }
+    ensures { IfOk result (λ text. string_bytes text ≡ lines name.now (shown_of T.display value.now)) }
 {
     let mut lines = Lines::new(alloc);
     value.show(alloc, name, &mut lines)?;
@@ -57,19 +57,15 @@ fn put_content(shown: Shown<'_>, out: &mut String) -> Result<(), AllocError>
         (string_bytes out.new ≡ string_bytes out.old ++ content_text (content_of shown.entry)) }
 {
     match shown {
-        Shown::Number(n) => put_decimal(n, out),
-        Shown::Place(n) => write!(out, "{n}"),
-        Shown::Wide(n) => write!(out, "{n}"),
-        Shown::Quantity(n) => put_hex(n, out),
-        Shown::LegacyV(n) => put_v(n, out),
-        Shown::Bytes(bytes) | Shown::BytesOrNull(bytes) | Shown::Payload(bytes) => {
-            put_bytes(bytes, out)
-        }
-        Shown::Sparse(bytes) => put_sparse(bytes, out),
-        Shown::Path(bytes) => put_path(bytes, out),
-        Shown::Word(bytes) => put_word_or_bytes(bytes, out),
-        Shown::Ip(bytes) => put_ip(bytes, out),
-        Shown::TypeByte(n) => put_decimal(u64::from(n), out),
+        Shown::Number(NumberKind::Quantity, n) => put_hex(&n, out),
+        Shown::Number(NumberKind::LegacyV, n) => put_v(&n, out),
+        Shown::Number(_, n) => write!(out, "{n}"),
+        Shown::TypeByte(n) => write!(out, "{}", Uint::from(u64::from(n))),
+        Shown::Bytes(BytesKind::Sparse, bytes) => put_sparse(bytes, out),
+        Shown::Bytes(BytesKind::Path, bytes) => put_path(bytes, out),
+        Shown::Bytes(BytesKind::Word, bytes) => put_word_or_bytes(bytes, out),
+        Shown::Bytes(BytesKind::Ip, bytes) => put_ip(bytes, out),
+        Shown::Bytes(_, bytes) => put_bytes(bytes, out),
         Shown::Text(text) => out.push_str(text),
         Shown::EmptyList => out.push_str("[]"),
     }

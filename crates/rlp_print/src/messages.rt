@@ -1,48 +1,40 @@
 //! Messages between clients: bodies of messages of `eth`, and messages of `p2p`.
 
+ghost use Rattle.std.specs.Prelude.{map};
 ghost use Rattle.std.specs.Vec.{vec_items};
-ghost use Rattle.rlp_p2p.specs.Disconnect.{reason_number};
-ghost use Rattle.rlp_print.specs.Blocks.{body_display, header_display};
-ghost use Rattle.rlp_print.specs.Display.{a_list, a_number, an_object, end, part, the_bytes, through};
-ghost use Rattle.rlp_print.specs.Messages.{block_range_update_display, block_receipts69_display, block_receipts_display, fork_id_display, get_block_headers_display, hash_or_number_display, new_block_display, new_block_hash_display, new_pooled_transaction_hashes_display, receipt69_display, status68_display, status69_display, with_request_id_display, capability_display, disconnect_display, further_display, hello_display};
-ghost use Rattle.rlp_print.specs.Items.{raw_item_display};
-ghost use Rattle.rlp_print.specs.Records.{hash_display};
-ghost use Rattle.rlp_print.specs.Transactions.{any_transaction_display};
+ghost use Rattle.rlp_p2p.specs.{Disconnect.disconnect, Hello.capability, Hello.further_fields, Hello.hello};
+ghost use Rattle.rlp_eth.specs.Announcements.{block_range_update, new_block, new_block_hash, new_pooled_transaction_hashes};
+ghost use Rattle.rlp_eth.specs.{HashOrNumber.hash_or_number, Receipts.block_receipts, Receipts69.block_receipts69, Receipts69.receipt69, Requests.get_block_headers, Status.fork_id, Status.status68, Status.status69};
+ghost use Rattle.rlp_print.specs.Display.{a_list, an_object, end, seen_as};
+ghost use Rattle.rlp_print.specs.Records.{typed_receipt_display};
+ghost use Rattle.rlp_print.specs.Messages.{capability_display, disconnect_display, fork_id_display, further_display, further_item_display, get_block_headers_display, hash_or_number_display, hello_display};
+ghost use Rattle.rlp_print.specs.Messages.{new_block_display, new_block_hash_display, new_pooled_transaction_hashes_display, range_display, receipt69_display, status68_display, status69_display, with_request_id_display};
 
-use crate::show::{Items, Object, Show, ShowFields, give_fields, show_fields};
-use crate::sink::{Shown, Sink};
+use crate::show::{Items, Object, Show, ShowFields, field, fields, show_fields};
+use crate::sink::{BytesKind, Shown, Sink, bytes, number};
 use rlp_eth::{
-    BlockBodies, BlockHeaders, BlockRangeUpdate, BlockReceipts, BlockReceipts69, ForkHash, ForkId,
-    GetBlockBodies, GetBlockHeaders, GetPooledTransactions, GetReceipts, HashOrNumber, NewBlock,
-    NewBlockHash, NewBlockHashes, NewPooledTransactionHashes, PooledTransactions, Receipt69,
-    Receipts, Receipts69, Status68, Status69, Transactions, WithRequestId,
+    BlockRangeUpdate, BlockReceipts, BlockReceipts69, ForkId, GetBlockHeaders, HashOrNumber,
+    NewBlock, NewBlockHash, NewPooledTransactionHashes, Receipt69, Status68, Status69,
+    WithRequestId,
 };
-use rlp_p2p::{Capability, Disconnect, DisconnectReason, FurtherItem, Hello, NodeId, Ping, Pong};
+use rlp_p2p::{Capability, Disconnect, FurtherItem, Hello, Ping, Pong};
 use std::alloc::{AllocError, Global};
 
 // ---- what a client knows of the chain
 
-impl Show for ForkHash {
-    ghost display = { the_bytes (λ f. f.0) };
-
-    fn show<S: Sink>(&self, _alloc: Global, name: &str, sink: &mut S) -> Result<(), AllocError> {
-        sink.put(name, Shown::Bytes(&self.0))
-    }
-}
-
 impl Show for ForkId {
-    ghost display = { fork_id_display };
+    ghost display = { seen_as fork_id.reading.seen fork_id_display };
 
     fn show<S: Sink>(&self, alloc: Global, name: &str, sink: &mut S) -> Result<(), AllocError> {
         show_fields!(alloc, name, sink;
-            "fork_hash" "forkHash" &self.fork_hash;
+            "fork_hash" "forkHash" &self.fork_hash.0;
             "fork_next" "forkNext" &self.fork_next;
         )
     }
 }
 
 impl Show for Status68 {
-    ghost display = { status68_display };
+    ghost display = { seen_as status68.reading.seen status68_display };
 
     fn show<S: Sink>(&self, alloc: Global, name: &str, sink: &mut S) -> Result<(), AllocError> {
         show_fields!(alloc, name, sink;
@@ -57,7 +49,7 @@ impl Show for Status68 {
 }
 
 impl Show for Status69 {
-    ghost display = { status69_display };
+    ghost display = { seen_as status69.reading.seen status69_display };
 
     fn show<S: Sink>(&self, alloc: Global, name: &str, sink: &mut S) -> Result<(), AllocError> {
         show_fields!(alloc, name, sink;
@@ -73,7 +65,7 @@ impl Show for Status69 {
 }
 
 impl Show for BlockRangeUpdate {
-    ghost display = { block_range_update_display };
+    ghost display = { seen_as block_range_update.reading.seen (an_object range_display) };
 
     fn show<S: Sink>(&self, alloc: Global, name: &str, sink: &mut S) -> Result<(), AllocError> {
         show_fields!(alloc, name, sink;
@@ -87,7 +79,7 @@ impl Show for BlockRangeUpdate {
 // ---- announcements
 
 impl Show for NewBlockHash {
-    ghost display = { new_block_hash_display };
+    ghost display = { seen_as new_block_hash.reading.seen new_block_hash_display };
 
     fn show<S: Sink>(&self, alloc: Global, name: &str, sink: &mut S) -> Result<(), AllocError> {
         show_fields!(alloc, name, sink;
@@ -97,16 +89,9 @@ impl Show for NewBlockHash {
     }
 }
 
-impl Show for NewBlockHashes {
-    ghost display = { a_list (λ b. vec_items b.0) new_block_hash_display };
-
-    fn show<S: Sink>(&self, alloc: Global, name: &str, sink: &mut S) -> Result<(), AllocError> {
-        Items(&self.0).show(alloc, name, sink)
-    }
-}
-
 impl Show for NewPooledTransactionHashes {
-    ghost display = { new_pooled_transaction_hashes_display };
+    ghost display = { seen_as new_pooled_transaction_hashes.reading.seen
+        new_pooled_transaction_hashes_display };
 
     fn show<S: Sink>(&self, alloc: Global, name: &str, sink: &mut S) -> Result<(), AllocError> {
         show_fields!(alloc, name, sink;
@@ -118,7 +103,7 @@ impl Show for NewPooledTransactionHashes {
 }
 
 impl Show for NewBlock {
-    ghost display = { new_block_display };
+    ghost display = { seen_as new_block.reading.seen new_block_display };
 
     fn show<S: Sink>(&self, alloc: Global, name: &str, sink: &mut S) -> Result<(), AllocError> {
         show_fields!(alloc, name, sink;
@@ -128,111 +113,48 @@ impl Show for NewBlock {
     }
 }
 
-impl Show for Transactions {
-    ghost display = { a_list (λ t. vec_items t.0) any_transaction_display };
-
-    fn show<S: Sink>(&self, alloc: Global, name: &str, sink: &mut S) -> Result<(), AllocError> {
-        Items(&self.0).show(alloc, name, sink)
-    }
-}
-
 // ---- requests and their answers
 
 impl<T: Show> Show for WithRequestId<T> {
-    ghost display = { with_request_id_display T.display };
+    ghost display = { seen_as (λ w. (w.request_id, T.display.seen w.content))
+        (with_request_id_display T.display.form) };
 
     fn show<S: Sink>(&self, alloc: Global, name: &str, sink: &mut S) -> Result<(), AllocError> {
         show_fields!(alloc, name, sink;
             "request_id" "requestId" &self.request_id;
-            "content" "content" &self.content;
+            "content" "content" &self.content
         )
     }
 }
 
 impl Show for HashOrNumber {
-    ghost display = { hash_or_number_display };
+    ghost display = { seen_as hash_or_number.reading.seen hash_or_number_display };
 
     fn show<S: Sink>(&self, _alloc: Global, name: &str, sink: &mut S) -> Result<(), AllocError> {
         match self {
-            HashOrNumber::Hash(hash) => sink.put(name, Shown::Bytes(&hash.0)),
-            HashOrNumber::Number(number) => sink.put(name, Shown::Number(*number)),
+            HashOrNumber::Hash(hash) => sink.put(name, bytes(&hash.0)),
+            HashOrNumber::Number(n) => sink.put(name, number(*n)),
         }
     }
 }
 
 impl Show for GetBlockHeaders {
-    ghost display = { get_block_headers_display };
+    ghost display = { seen_as get_block_headers.reading.seen get_block_headers_display };
 
     fn show<S: Sink>(&self, alloc: Global, name: &str, sink: &mut S) -> Result<(), AllocError> {
         show_fields!(alloc, name, sink;
             "start_block" "startBlock" &self.start_block;
             "limit" "limit" &self.limit;
             "skip" "skip" &self.skip;
-            "reverse" "reverse" &self.reverse;
+            "reverse" "reverse" number(self.reverse as u64);
         )
-    }
-}
-
-impl Show for BlockHeaders {
-    ghost display = { a_list (λ b. vec_items b.0) header_display };
-
-    fn show<S: Sink>(&self, alloc: Global, name: &str, sink: &mut S) -> Result<(), AllocError> {
-        Items(&self.0).show(alloc, name, sink)
-    }
-}
-
-impl Show for GetBlockBodies {
-    ghost display = { a_list (λ g. vec_items g.0) hash_display };
-
-    fn show<S: Sink>(&self, alloc: Global, name: &str, sink: &mut S) -> Result<(), AllocError> {
-        Items(&self.0).show(alloc, name, sink)
-    }
-}
-
-impl Show for BlockBodies {
-    ghost display = { a_list (λ b. vec_items b.0) body_display };
-
-    fn show<S: Sink>(&self, alloc: Global, name: &str, sink: &mut S) -> Result<(), AllocError> {
-        Items(&self.0).show(alloc, name, sink)
-    }
-}
-
-impl Show for GetPooledTransactions {
-    ghost display = { a_list (λ g. vec_items g.0) hash_display };
-
-    fn show<S: Sink>(&self, alloc: Global, name: &str, sink: &mut S) -> Result<(), AllocError> {
-        Items(&self.0).show(alloc, name, sink)
-    }
-}
-
-impl Show for PooledTransactions {
-    ghost display = { a_list (λ p. vec_items p.0) any_transaction_display };
-
-    fn show<S: Sink>(&self, alloc: Global, name: &str, sink: &mut S) -> Result<(), AllocError> {
-        Items(&self.0).show(alloc, name, sink)
-    }
-}
-
-impl Show for GetReceipts {
-    ghost display = { a_list (λ g. vec_items g.0) hash_display };
-
-    fn show<S: Sink>(&self, alloc: Global, name: &str, sink: &mut S) -> Result<(), AllocError> {
-        Items(&self.0).show(alloc, name, sink)
     }
 }
 
 // ---- receipts of blocks
 
 impl Show for BlockReceipts {
-    ghost display = { block_receipts_display };
-
-    fn show<S: Sink>(&self, alloc: Global, name: &str, sink: &mut S) -> Result<(), AllocError> {
-        Items(&self.0).show(alloc, name, sink)
-    }
-}
-
-impl Show for Receipts {
-    ghost display = { a_list (λ r. vec_items r.0) block_receipts_display };
+    ghost display = { seen_as block_receipts.reading.seen (a_list typed_receipt_display) };
 
     fn show<S: Sink>(&self, alloc: Global, name: &str, sink: &mut S) -> Result<(), AllocError> {
         Items(&self.0).show(alloc, name, sink)
@@ -240,7 +162,7 @@ impl Show for Receipts {
 }
 
 impl Show for Receipt69 {
-    ghost display = { receipt69_display };
+    ghost display = { seen_as receipt69.reading.seen receipt69_display };
 
     fn show<S: Sink>(&self, alloc: Global, name: &str, sink: &mut S) -> Result<(), AllocError> {
         show_fields!(alloc, name, sink;
@@ -253,15 +175,7 @@ impl Show for Receipt69 {
 }
 
 impl Show for BlockReceipts69 {
-    ghost display = { block_receipts69_display };
-
-    fn show<S: Sink>(&self, alloc: Global, name: &str, sink: &mut S) -> Result<(), AllocError> {
-        Items(&self.0).show(alloc, name, sink)
-    }
-}
-
-impl Show for Receipts69 {
-    ghost display = { a_list (λ r. vec_items r.0) block_receipts69_display };
+    ghost display = { seen_as block_receipts69.reading.seen (a_list receipt69_display) };
 
     fn show<S: Sink>(&self, alloc: Global, name: &str, sink: &mut S) -> Result<(), AllocError> {
         Items(&self.0).show(alloc, name, sink)
@@ -272,7 +186,7 @@ impl Show for Receipts69 {
 
 /// An object without fields.
 impl Show for Ping {
-    ghost display = { an_object end };
+    ghost display = { seen_as (λ x. x) (an_object end) };
 
     fn show<S: Sink>(&self, alloc: Global, name: &str, sink: &mut S) -> Result<(), AllocError> {
         Object(&()).show(alloc, name, sink)
@@ -281,52 +195,40 @@ impl Show for Ping {
 
 /// An object without fields.
 impl Show for Pong {
-    ghost display = { an_object end };
+    ghost display = { seen_as (λ x. x) (an_object end) };
 
     fn show<S: Sink>(&self, alloc: Global, name: &str, sink: &mut S) -> Result<(), AllocError> {
         Object(&()).show(alloc, name, sink)
     }
 }
 
-/// The number of the reason.
-impl Show for DisconnectReason {
-    ghost display = { through reason_number a_number };
-
-    fn show<S: Sink>(&self, alloc: Global, name: &str, sink: &mut S) -> Result<(), AllocError> {
-        self.number().show(alloc, name, sink)
-    }
-}
-
 /// The reason, in either form.
 impl Show for Disconnect {
-    ghost display = { disconnect_display };
+    ghost display = { seen_as disconnect.reading.seen disconnect_display };
 
     fn show<S: Sink>(&self, alloc: Global, name: &str, sink: &mut S) -> Result<(), AllocError> {
-        show_fields!(alloc, name, sink; "reason" "reason" self.reason();)
-    }
-}
-
-impl Show for NodeId {
-    ghost display = { the_bytes (λ n. n.0) };
-
-    fn show<S: Sink>(&self, _alloc: Global, name: &str, sink: &mut S) -> Result<(), AllocError> {
-        sink.put(name, Shown::Bytes(&self.0))
+        match self {
+            Disconnect::Listed(reason) | Disconnect::Bare(reason) => {
+                let number = number(u64::from(reason.number()));
+                show_fields!(alloc, name, sink; "reason" "reason" number)
+            }
+        }
     }
 }
 
 impl Show for Capability {
-    ghost display = { capability_display };
+    ghost display = { seen_as capability.reading.seen capability_display };
 
     fn show<S: Sink>(&self, alloc: Global, name: &str, sink: &mut S) -> Result<(), AllocError> {
         show_fields!(alloc, name, sink;
-            "name" "name" Shown::Word(self.name.as_slice());
+            "name" "name" Shown::Bytes(BytesKind::Word, self.name.as_slice());
             "version" "version" &self.version;
         )
     }
 }
 
 impl Show for FurtherItem {
-    ghost display = { through (λ f. f.item) raw_item_display };
+    ghost display = { seen_as further_fields.reading.seen further_item_display };
 
     fn show<S: Sink>(&self, alloc: Global, name: &str, sink: &mut S) -> Result<(), AllocError> {
         self.item.show(alloc, name, sink)
@@ -338,18 +240,19 @@ impl Show for FurtherItem {
 struct Further<'a>(&'a Vec<FurtherItem>);
 
 impl ShowFields for Further<'_> {
-    ghost fields = { part (λ f. vec_items f.0.now) further_display };
+    ghost fields = { seen_as (λ f. map further_fields.reading.seen (vec_items f.0.now))
+        further_display };
 
     fn give<S: Sink>(&self, alloc: Global, name: &str, sink: &mut S) -> Result<(), AllocError> {
         match self.0.as_slice() {
             [] => Ok(()),
-            [_, ..] => give_fields!(alloc, name, sink; "further" "further" Items(self.0);),
+            [_, ..] => (field!("further" "further" Items(self.0)), ()).give(alloc, name, sink),
         }
     }
 }
 
 impl Show for Hello {
-    ghost display = { hello_display };
+    ghost display = { seen_as hello.reading.seen hello_display };
 
     fn show<S: Sink>(&self, alloc: Global, name: &str, sink: &mut S) -> Result<(), AllocError> {
         show_fields!(alloc, name, sink;
@@ -357,8 +260,8 @@ impl Show for Hello {
             "client_id" "clientId" &self.client_id;
             "capabilities" "capabilities" Items(&self.capabilities);
             "listen_port" "listenPort" &self.listen_port;
-            "node_id" "nodeId" &self.node_id;
-            Further(&self.further);
+            "node_id" "nodeId" &self.node_id.0;
+            Further(&self.further)
         )
     }
 }

@@ -1,40 +1,35 @@
 //! Node records.
 
-ghost use Rattle.std.specs.Prelude.{◌≡◌, bytes_eq};
-ghost use Rattle.rlp.specs.Values.RawItem.{raw_item_of};
-ghost use Rattle.rlp_print.specs.Display.{through, content_of};
+ghost use Rattle.std.specs.Prelude.{◌≡◌};
+ghost use Rattle.rlp_node_record.specs.NodeFields.{node_fields, pair_fields};
+ghost use Rattle.rlp_print.specs.Display.{seen_as};
+ghost use Rattle.rlp_print.specs.Value.{content_of};
 ghost use Rattle.rlp_print.specs.NodeRecords.{is_ip, is_port_key, key_value_display, node_fields_display, node_pair_display, port_content, string_content};
 
 use crate::show::{Items, Show, show_fields};
-use crate::sink::{Shown, Sink};
+use crate::sink::{BytesKind, Shown, Sink, bytes, number};
 use rlp::{RawItem, Rlp};
-use rlp_node_record::{NodeFields, NodePair, NodeRecord};
+use rlp_node_record::{NodeFields, NodePair};
 use std::alloc::{AllocError, Global};
-
-/// Returns whether a key is this one.
-fn is_key(key: &[u8], name: &str) -> bool
-    ensures { result ≡ bytes_eq key.now name.now }
-{
-    key == name.as_bytes()
-}
 
 /// Returns whether the value of a key is a port.
 fn is_port_key(key: &[u8]) -> bool
     ensures { result ≡ is_port_key key.now }
 {
-    (is_key(key, "tcp") || is_key(key, "udp")) || (is_key(key, "tcp6") || is_key(key, "udp6"))
+    (key == "tcp".as_bytes() || key == "udp".as_bytes())
+        || (key == "tcp6".as_bytes() || key == "udp6".as_bytes())
 }
 
 /// Returns a port, or the bytes if they are none.
-fn port_in(bytes: &[u8]) -> Shown<'_>
-    ensures { content_of result ≡ port_content bytes.now }
+fn port_in(port: &[u8]) -> Shown<'_>
+    ensures { content_of result ≡ port_content port.now }
 {
-    match bytes {
-        [] => Shown::Number(0),
-        [0, ..] => Shown::Bytes(bytes),
-        [low] => Shown::Number(u64::from(*low)),
-        [high, low] => Shown::Number(256 * u64::from(*high) + u64::from(*low)),
-        _ => Shown::Bytes(bytes),
+    match port {
+        [] => number(0),
+        [0, ..] => bytes(port),
+        [low] => number(u64::from(*low)),
+        [high, low] => number(256 * u64::from(*high) + u64::from(*low)),
+        _ => bytes(port),
     }
 }
 
@@ -42,23 +37,23 @@ fn port_in(bytes: &[u8]) -> Shown<'_>
 fn is_ip(key: &[u8], bytes: &[u8]) -> bool
     ensures { result ≡ is_ip key.now bytes.now }
 {
-    (is_key(key, "ip") && bytes.len() == 4) || (is_key(key, "ip6") && bytes.len() == 16)
+    (key == "ip".as_bytes() && bytes.len() == 4) || (key == "ip6".as_bytes() && bytes.len() == 16)
 }
 
 /// Returns what is shown of the string at a key.
-fn string_at<'a>(key: &[u8], bytes: &'a [u8]) -> Shown<'a>
-    ensures { content_of result ≡ string_content key.now bytes.now }
+fn string_at<'a>(key: &[u8], string: &'a [u8]) -> Shown<'a>
+    ensures { content_of result ≡ string_content key.now string.now }
 {
-    if is_key(key, "id") {
-        return Shown::Word(bytes);
+    if key == "id".as_bytes() {
+        return Shown::Bytes(BytesKind::Word, string);
     }
-    if is_ip(key, bytes) {
-        return Shown::Ip(bytes);
+    if is_ip(key, string) {
+        return Shown::Bytes(BytesKind::Ip, string);
     }
     if is_port_key(key) {
-        return port_in(bytes);
+        return port_in(string);
     }
-    Shown::Bytes(bytes)
+    bytes(string)
 }
 
 /// The value of a key.
@@ -69,7 +64,7 @@ struct KeyValue<'a> {
 }
 
 impl Show for KeyValue<'_> {
-    ghost display = { through (λ v. (v.key.now, raw_item_of v.value.now)) key_value_display };
+    ghost display = { seen_as (λ v. (v.key.now, v.value.now)) key_value_display };
 
     #[tactic(auto, using(crate::proofs::ItemLemmas::values_of_keys))]
     fn show<S: Sink>(&self, alloc: Global, name: &str, sink: &mut S) -> Result<(), AllocError> {
@@ -81,7 +76,7 @@ impl Show for KeyValue<'_> {
 }
 
 impl Show for NodePair {
-    ghost display = { node_pair_display };
+    ghost display = { seen_as pair_fields.reading.seen node_pair_display };
 
     fn show<S: Sink>(&self, alloc: Global, name: &str, sink: &mut S) -> Result<(), AllocError> {
         let key = self.key.as_slice();
@@ -90,28 +85,20 @@ impl Show for NodePair {
             value: &self.value,
         };
         show_fields!(alloc, name, sink;
-            "key" "key" Shown::Word(key);
-            "value" "value" value;
+            "key" "key" Shown::Bytes(BytesKind::Word, key);
+            "value" "value" value
         )
     }
 }
 
 impl Show for NodeFields {
-    ghost display = { node_fields_display };
+    ghost display = { seen_as node_fields.reading.seen node_fields_display };
 
     fn show<S: Sink>(&self, alloc: Global, name: &str, sink: &mut S) -> Result<(), AllocError> {
         show_fields!(alloc, name, sink;
             "signature" "signature" &self.signature;
             "sequence" "sequence" &self.sequence;
-            "pairs" "pairs" Items(&self.pairs);
+            "pairs" "pairs" Items(&self.pairs)
         )
-    }
-}
-
-impl Show for NodeRecord {
-    ghost display = { node_fields_display };
-
-    fn show<S: Sink>(&self, alloc: Global, name: &str, sink: &mut S) -> Result<(), AllocError> {
-        self.fields().show(alloc, name, sink)
     }
 }

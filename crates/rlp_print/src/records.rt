@@ -1,106 +1,85 @@
 //! Numbers and strings, withdrawals, accounts, logs, receipts, and faults of records.
 
+ghost use Rattle.std.specs.Prelude.{option_map};
 ghost use Rattle.std.specs.Vec.{vec_items};
-ghost use Rattle.rlp_print.specs.Display.{a_bit, a_number, a_string, the_bytes, wide_number};
-ghost use Rattle.rlp_print.specs.Records.{address_display, bloom_display, hash_display, receipt_display, status_display, typed_receipt_display, account_display, log_display, withdrawal_display, withdrawals_display, fault_display, fault_fields, place_display};
+ghost use Rattle.rlp.specs.Codec.{uint};
+ghost use Rattle.rlp_headers.specs.{Account.account, Log.log, Receipt.receipt, ReceiptStatus.receipt_status, TypedReceipt.typed_receipt, Withdrawal.withdrawal, Withdrawal.withdrawals};
+ghost use Rattle.rlp_print.specs.Display.{a_list, a_number, a_string, number_as, seen_as};
+ghost use Rattle.rlp_print.specs.declared.sink.NumberKind.TheVariants.{Place};
+ghost use Rattle.rlp_print.specs.Records.{account_display, fault_display, log_display, receipt_display, status_fields, typed_receipt_display, withdrawal_display};
 
-use crate::show::{ByForm, Items, Object, Show, ShowFields, field, give_fields, show_fields};
-use crate::sink::{Shown, Sink};
-use rlp::Uint;
-use rlp_headers::{
-    Account, Bloom, Log, Receipt, ReceiptStatus, TypedReceipt, Withdrawal, Withdrawals,
+use crate::show::{
+    ByForm, Items, Object, Show, ShowFields, field, fields, give_fields, show_fields,
 };
-use rlp_records::{Address, Hash};
+use crate::sink::{BytesKind, NumberKind, Shown, Sink, bytes, number};
+use rlp::Uint;
+use rlp_headers::{Account, Log, Receipt, ReceiptStatus, TypedReceipt, Withdrawal, Withdrawals};
+use rlp_records::Hash;
 use std::alloc::{AllocError, Global};
 
 impl Show for u8 {
-    ghost display = { a_number };
+    ghost display = { seen_as (λ n. n) a_number };
 
     fn show<S: Sink>(&self, _alloc: Global, name: &str, sink: &mut S) -> Result<(), AllocError> {
-        sink.put(name, Shown::Number(u64::from(*self)))
+        sink.put(name, number(u64::from(*self)))
     }
 }
 
 impl Show for u64 {
-    ghost display = { a_number };
+    ghost display = { seen_as (λ n. n) a_number };
 
     fn show<S: Sink>(&self, _alloc: Global, name: &str, sink: &mut S) -> Result<(), AllocError> {
-        sink.put(name, Shown::Number(*self))
-    }
-}
-
-/// 0 or 1.
-impl Show for bool {
-    ghost display = { a_bit };
-
-    fn show<S: Sink>(&self, _alloc: Global, name: &str, sink: &mut S) -> Result<(), AllocError> {
-        sink.put(name, Shown::Number(*self as u64))
+        sink.put(name, number(*self))
     }
 }
 
 impl Show for Uint<32> {
-    ghost display = { wide_number };
+    ghost display = { seen_as (uint 32).reading.seen a_number };
 
     fn show<S: Sink>(&self, _alloc: Global, name: &str, sink: &mut S) -> Result<(), AllocError> {
-        sink.put(name, Shown::Wide(self))
+        sink.put(name, Shown::Number(NumberKind::Decimal, *self))
     }
 }
 
 impl Show for Vec<u8> {
-    ghost display = { the_bytes vec_items };
+    ghost display = { seen_as vec_items a_string };
 
     fn show<S: Sink>(&self, _alloc: Global, name: &str, sink: &mut S) -> Result<(), AllocError> {
-        sink.put(name, Shown::Bytes(self.as_slice()))
+        sink.put(name, bytes(self.as_slice()))
     }
 }
 
 impl<const N: usize> Show for [u8; N] {
-    ghost display = { a_string };
+    ghost display = { seen_as (λ b. b) a_string };
 
     fn show<S: Sink>(&self, _alloc: Global, name: &str, sink: &mut S) -> Result<(), AllocError> {
-        sink.put(name, Shown::Bytes(self))
+        sink.put(name, bytes(self))
     }
 }
 
 impl Show for Hash {
-    ghost display = { hash_display };
+    ghost display = { seen_as (λ h. h.0) a_string };
 
     fn show<S: Sink>(&self, _alloc: Global, name: &str, sink: &mut S) -> Result<(), AllocError> {
-        sink.put(name, Shown::Bytes(&self.0))
-    }
-}
-
-impl Show for Address {
-    ghost display = { address_display };
-
-    fn show<S: Sink>(&self, _alloc: Global, name: &str, sink: &mut S) -> Result<(), AllocError> {
-        sink.put(name, Shown::Bytes(&self.0))
-    }
-}
-
-impl Show for Bloom {
-    ghost display = { bloom_display };
-
-    fn show<S: Sink>(&self, _alloc: Global, name: &str, sink: &mut S) -> Result<(), AllocError> {
-        sink.put(name, Shown::Sparse(&self.0))
+        sink.put(name, bytes(&self.0))
     }
 }
 
 impl Show for Withdrawal {
-    ghost display = { withdrawal_display };
+    ghost display = { seen_as withdrawal.reading.seen withdrawal_display };
 
     fn show<S: Sink>(&self, alloc: Global, name: &str, sink: &mut S) -> Result<(), AllocError> {
         show_fields!(alloc, name, sink;
             "index" "index" &self.index;
             "validator_index" "validatorIndex" &self.validator_index;
-            "address" "address" &self.address;
+            "address" "address" &self.address.0;
             "amount" "amount" &self.amount;
         )
     }
 }
 
 impl Show for Withdrawals {
-    ghost display = { withdrawals_display };
+    ghost display = { seen_as withdrawals.reading.seen (a_list withdrawal_display) };
 
     fn show<S: Sink>(&self, alloc: Global, name: &str, sink: &mut S) -> Result<(), AllocError> {
         Items(&self.0).show(alloc, name, sink)
@@ -108,7 +87,7 @@ impl Show for Withdrawals {
 }
 
 impl Show for Account {
-    ghost display = { account_display };
+    ghost display = { seen_as account.reading.seen account_display };
 
     fn show<S: Sink>(&self, alloc: Global, name: &str, sink: &mut S) -> Result<(), AllocError> {
         show_fields!(alloc, name, sink;
@@ -121,11 +100,11 @@ impl Show for Account {
 }
 
 impl Show for Log {
-    ghost display = { log_display };
+    ghost display = { seen_as log.reading.seen log_display };
 
     fn show<S: Sink>(&self, alloc: Global, name: &str, sink: &mut S) -> Result<(), AllocError> {
         show_fields!(alloc, name, sink;
-            "address" "address" &self.address;
+            "address" "address" &self.address.0;
             "topics" "topics" Items(&self.topics);
             "data" "data" &self.data;
         )
@@ -133,50 +112,51 @@ impl Show for Log {
 }
 
 impl ShowFields for ReceiptStatus {
-    ghost fields = { status_display };
+    ghost fields = { seen_as receipt_status.reading.seen status_fields };
 
     fn give<S: Sink>(&self, alloc: Global, name: &str, sink: &mut S) -> Result<(), AllocError> {
-        let (bytes, number): (&[u8], u64) = match self {
+        let (digits, success): (&[u8], u64) = match self {
             ReceiptStatus::StateRoot(root) => {
-                return give_fields!(alloc, name, sink; "status_or_state_root" "root" root;);
+                return field!("status_or_state_root" "root" root).give(alloc, name, sink);
             }
             ReceiptStatus::Failure => (&[], 0),
             ReceiptStatus::Success => (&[1], 1),
         };
-        let lines = field!("status_or_state_root" "status" Shown::Bytes(bytes));
-        let json = field!("status_or_state_root" "status" Shown::Number(number));
+        let lines = field!("status_or_state_root" "status" bytes(digits));
+        let json = field!("status_or_state_root" "status" number(success));
         ByForm(lines, json).give(alloc, name, sink)
     }
 }
 
 impl ShowFields for Receipt {
-    ghost fields = { receipt_display };
+    ghost fields = { seen_as receipt.reading.seen receipt_display };
 
     fn give<S: Sink>(&self, alloc: Global, name: &str, sink: &mut S) -> Result<(), AllocError> {
         give_fields!(alloc, name, sink;
             &self.status_or_state_root;
             "cumulative_gas_used" "cumulativeGasUsed" &self.cumulative_gas_used;
-            "logs_bloom" "logsBloom" &self.logs_bloom;
+            "logs_bloom" "logsBloom" Shown::Bytes(BytesKind::Sparse, &self.logs_bloom.0);
             "logs" "logs" Items(&self.logs);
         )
     }
 }
 
 impl Show for TypedReceipt {
-    ghost display = { typed_receipt_display };
+    ghost display = { seen_as typed_receipt.reading.seen typed_receipt_display };
 
     fn show<S: Sink>(&self, alloc: Global, name: &str, sink: &mut S) -> Result<(), AllocError> {
         let (kind, receipt) = match self {
             TypedReceipt::Legacy(receipt) => {
                 let kind = ByForm((), field!("type" "type" Shown::TypeByte(0)));
-                return show_fields!(alloc, name, sink; kind; receipt;);
+                return Object(&(kind, receipt)).show(alloc, name, sink);
             }
             TypedReceipt::AccessList(receipt) => (1, receipt),
             TypedReceipt::FeeMarket(receipt) => (2, receipt),
             TypedReceipt::Blob(receipt) => (3, receipt),
             TypedReceipt::SetCode(receipt) => (4, receipt),
         };
-        show_fields!(alloc, name, sink; "type" "type" Shown::TypeByte(kind); receipt;)
+        let kind = field!("type" "type" Shown::TypeByte(kind));
+        Object(&(kind, receipt)).show(alloc, name, sink)
     }
 }
 
@@ -185,10 +165,10 @@ impl Show for TypedReceipt {
 pub struct Place(pub u64);
 
 impl Show for Place {
-    ghost display = { place_display };
+    ghost display = { seen_as (λ p. p.0) (number_as Place) };
 
     fn show<S: Sink>(&self, _alloc: Global, name: &str, sink: &mut S) -> Result<(), AllocError> {
-        sink.put(name, Shown::Place(self.0))
+        sink.put(name, Shown::Number(NumberKind::Place, Uint::from(self.0)))
     }
 }
 
@@ -206,22 +186,16 @@ pub struct Fault<'a> {
     pub fault: &'a str,
 }
 
-impl ShowFields for Fault<'_> {
-    ghost fields = { fault_fields };
-
-    fn give<S: Sink>(&self, alloc: Global, name: &str, sink: &mut S) -> Result<(), AllocError> {
-        give_fields!(alloc, name, sink;
-            "field" "field" ? &self.field;
-            "name" "name" Shown::Text(self.name);
-            "fault" "fault" Shown::Text(self.fault);
-        )
-    }
-}
-
 impl Show for Fault<'_> {
-    ghost display = { fault_display };
+    ghost display = { seen_as
+        (λ f. (option_map (λ p. p.0) f.field, (f.name.now, f.fault.now))) fault_display };
 
     fn show<S: Sink>(&self, alloc: Global, name: &str, sink: &mut S) -> Result<(), AllocError> {
-        show_fields!(alloc, name, sink; "error" "error" Object(self);)
+        let fault = fields!(
+            "field" "field" ? &self.field;
+            "name" "name" Shown::Text(self.name);
+            "fault" "fault" Shown::Text(self.fault)
+        );
+        Object(&field!("error" "error" Object(&fault))).show(alloc, name, sink)
     }
 }

@@ -1,9 +1,9 @@
 //! Values that are shown: as one text, as objects field by field, and as lists.
 
-ghost use Rattle.std.specs.Prelude.{◌≡◌, OnOk, string_bytes, IfOk};
-ghost use Rattle.rlp_print.specs.Display.{Display, through, shown_display, Fields, an_object, by_lines, end, in_order, named, named_if, part, part_if, a_list};
-ghost use Rattle.rlp_print.specs.Value.{after, after_fields, inside, item_name};
+ghost use Rattle.std.specs.Prelude.{◌≡◌, OnOk, string_bytes, IfOk, map, option_map};
 ghost use Rattle.std.specs.Vec.{vec_items};
+ghost use Rattle.rlp_print.specs.Display.{Showing, a_content, a_list, an_object, end, if_there, in_forms, in_order, named, seen_as, shown_of};
+ghost use Rattle.rlp_print.specs.Value.{Entries, Value, after, after_fields, content_of, inside, item_name};
 
 use crate::sink::{Bracket, Shown, Sink};
 use std::alloc::{AllocError, Global};
@@ -11,18 +11,18 @@ use std::fmt::Write;
 
 /// A type whose values are shown.
 pub trait Show {
-    /// What is shown of a value, and what values have in common that are shown alike.
-    ghost display: { Display Self };
+    /// What contracts see of a value, and what is shown of that.
+    ghost display: { Showing Value Self };
 
     /// Gives the value of this name to a sink. A whole record has no name. Fails with `AllocError`
     /// if memory is refused.
     fn show<S: Sink>(&self, alloc: Global, name: &str, sink: &mut S) -> Result<(), AllocError>
         ensures { OnOk result (S.seen sink.new
-            ≡ after S.steps name.now (display.value self.now) (S.seen sink.old)) };
+            ≡ after S.steps name.now (shown_of display self.now) (S.seen sink.old)) };
 }
 
 impl<T: Show> Show for &T {
-    ghost display = { through (λ v. v.now) T.display };
+    ghost display = { seen_as (λ v. T.display.seen v.now) T.display.form };
 
     fn show<S: Sink>(&self, alloc: Global, name: &str, sink: &mut S) -> Result<(), AllocError> {
         (**self).show(alloc, name, sink)
@@ -30,7 +30,7 @@ impl<T: Show> Show for &T {
 }
 
 impl Show for Shown<'_> {
-    ghost display = { shown_display };
+    ghost display = { seen_as content_of (a_content (λ c. c) (λ c d is. is)) };
 
     fn show<S: Sink>(&self, _alloc: Global, name: &str, sink: &mut S) -> Result<(), AllocError> {
         sink.put(name, *self)
@@ -40,14 +40,14 @@ impl Show for Shown<'_> {
 /// Fields that are shown one after another, such as the fields of a struct. A pair is the fields of
 /// its first part, and then those of its second part. A part that may be missing is an `Option`.
 pub trait ShowFields {
-    /// The fields, in order, and what values have in common whose fields are shown alike.
-    ghost fields: { Fields Self };
+    /// What contracts see of a value, and the fields of that, in order.
+    ghost fields: { Showing Entries Self };
 
     /// Gives the fields of the value of this name to a sink. Fails with `AllocError` if memory is
     /// refused.
     fn give<S: Sink>(&self, alloc: Global, name: &str, sink: &mut S) -> Result<(), AllocError>
         ensures { OnOk result (S.seen sink.new
-            ≡ after_fields S.steps name.now (fields.entries self.now) (S.seen sink.old)) };
+            ≡ after_fields S.steps name.now (shown_of fields self.now) (S.seen sink.old)) };
 }
 
 /// A field: its name in lines, its name in JSON, and its value.
@@ -77,7 +77,8 @@ pub struct NamedIf<'a, T> {
 }
 
 impl<V: Show> ShowFields for Named<'_, V> {
-    ghost fields = { named (λ f. f.name.now) (λ f. f.json.now) (λ f. f.value) V.display };
+    ghost fields = { seen_as (λ f. (f.name.now, (f.json.now, V.display.seen f.value)))
+        (named V.display.form) };
 
     fn give<S: Sink>(&self, alloc: Global, name: &str, sink: &mut S) -> Result<(), AllocError> {
         sink.key(self.json)?;
@@ -88,7 +89,7 @@ impl<V: Show> ShowFields for Named<'_, V> {
 
 /// No fields.
 impl ShowFields for () {
-    ghost fields = { end };
+    ghost fields = { seen_as (λ f. f) end };
 
     fn give<S: Sink>(&self, _alloc: Global, _name: &str, _sink: &mut S) -> Result<(), AllocError> {
         Ok(())
@@ -96,7 +97,8 @@ impl ShowFields for () {
 }
 
 impl<P: ShowFields, Q: ShowFields> ShowFields for (P, Q) {
-    ghost fields = { in_order P.fields Q.fields };
+    ghost fields = { seen_as (λ f. (P.fields.seen f.0, Q.fields.seen f.1))
+        (in_order P.fields.form Q.fields.form) };
 
     fn give<S: Sink>(&self, alloc: Global, name: &str, sink: &mut S) -> Result<(), AllocError> {
         self.0.give(alloc, name, sink)?;
@@ -105,7 +107,8 @@ impl<P: ShowFields, Q: ShowFields> ShowFields for (P, Q) {
 }
 
 impl<P: ShowFields, Q: ShowFields> ShowFields for ByForm<P, Q> {
-    ghost fields = { by_lines (λ f. f.0) P.fields (λ f. Q.fields.entries f.1) };
+    ghost fields = { seen_as (λ f. (P.fields.seen f.0, Q.fields.seen f.1))
+        (in_forms P.fields.form Q.fields.form) };
 
     fn give<S: Sink>(&self, alloc: Global, name: &str, sink: &mut S) -> Result<(), AllocError> {
         if sink.is_json() {
@@ -116,7 +119,7 @@ impl<P: ShowFields, Q: ShowFields> ShowFields for ByForm<P, Q> {
 }
 
 impl<T: ShowFields> ShowFields for &T {
-    ghost fields = { part (λ f. f.now) T.fields };
+    ghost fields = { seen_as (λ f. T.fields.seen f.now) T.fields.form };
 
     fn give<S: Sink>(&self, alloc: Global, name: &str, sink: &mut S) -> Result<(), AllocError> {
         (**self).give(alloc, name, sink)
@@ -124,7 +127,7 @@ impl<T: ShowFields> ShowFields for &T {
 }
 
 impl<T: ShowFields> ShowFields for Option<T> {
-    ghost fields = { part_if (λ f. f) T.fields };
+    ghost fields = { seen_as (option_map T.fields.seen) (if_there T.fields.form) };
 
     fn give<S: Sink>(&self, alloc: Global, name: &str, sink: &mut S) -> Result<(), AllocError> {
         match self {
@@ -135,7 +138,8 @@ impl<T: ShowFields> ShowFields for Option<T> {
 }
 
 impl<T: Show> ShowFields for NamedIf<'_, T> {
-    ghost fields = { named_if (λ f. f.name.now) (λ f. f.json.now) (λ f. f.value.now) T.display };
+    ghost fields = { seen_as (λ f. option_map (λ m. (f.name.now, (f.json.now, m)))
+        (option_map T.display.seen f.value.now)) (if_there (named T.display.form)) };
 
     fn give<S: Sink>(&self, alloc: Global, name: &str, sink: &mut S) -> Result<(), AllocError> {
         match self.value {
@@ -155,7 +159,7 @@ impl<T: Show> ShowFields for NamedIf<'_, T> {
 pub struct Object<'a, T>(pub &'a T);
 
 impl<T: ShowFields> Show for Object<'_, T> {
-    ghost display = { through (λ o. o.0.now) (an_object T.fields) };
+    ghost display = { seen_as (λ o. T.fields.seen o.0.now) (an_object T.fields.form) };
 
     fn show<S: Sink>(&self, alloc: Global, name: &str, sink: &mut S) -> Result<(), AllocError> {
         sink.begin(Bracket::Brace)?;
@@ -169,7 +173,8 @@ impl<T: ShowFields> Show for Object<'_, T> {
 pub struct Items<'a, T>(pub &'a Vec<T>);
 
 impl<T: Show> Show for Items<'_, T> {
-    ghost display = { a_list (λ v. vec_items v.0.now) T.display };
+    ghost display = { seen_as (λ v. map T.display.seen (vec_items v.0.now))
+        (a_list T.display.form) };
 
     fn show<S: Sink>(&self, alloc: Global, name: &str, sink: &mut S) -> Result<(), AllocError> {
         Slice(self.0.as_slice()).show(alloc, name, sink)
@@ -181,9 +186,9 @@ impl<T: Show> Show for Items<'_, T> {
 pub struct Slice<'a, T>(pub &'a [T]);
 
 impl<T: Show> Show for Slice<'_, T> {
-    ghost display = { a_list (λ s. s.0.now) T.display };
+    ghost display = { seen_as (λ s. map T.display.seen s.0.now) (a_list T.display.form) };
 
-    #[tactic(auto, using(crate::proofs::ItemLemmas::items_taken))]
+    #[tactic(auto, using(crate::proofs::ItemLemmas::seen_taken))]
     fn show<S: Sink>(&self, alloc: Global, name: &str, sink: &mut S) -> Result<(), AllocError> {
         if self.0.is_empty() {
             return sink.put(name, Shown::EmptyList);
@@ -230,10 +235,17 @@ macro_rules! field {
     ($name:literal $json:literal $value:expr) => {
         $crate::show::Named { name: $name, json: $json, value: $value }
     };
+    ($name:literal $json:literal ? $value:expr) => {
+        $crate::show::NamedIf { name: $name, json: $json, value: $value }
+    };
+    ($part:expr) => {
+        $part
+    };
 }
 
 /// Fields as nested pairs: for each the name in lines, the name in JSON and the value, or the fields
-/// of a part. After a `?` the value may be missing.
+/// of a part. After a `?` the value may be missing. The last pair ends with the last field, or with
+/// no fields after a `;`.
 macro_rules! fields {
     () => {
         ()
@@ -242,13 +254,13 @@ macro_rules! fields {
         ($crate::show::field!($name $json $value), $crate::show::fields!($($rest)*))
     };
     ($name:literal $json:literal ? $value:expr; $($rest:tt)*) => {
-        (
-            $crate::show::NamedIf { name: $name, json: $json, value: $value },
-            $crate::show::fields!($($rest)*),
-        )
+        ($crate::show::field!($name $json ? $value), $crate::show::fields!($($rest)*))
     };
     ($part:expr; $($rest:tt)*) => {
         ($part, $crate::show::fields!($($rest)*))
+    };
+    ($($last:tt)*) => {
+        $crate::show::field!($($last)*)
     };
 }
 

@@ -1,45 +1,72 @@
 //! Where values are shown.
 
 ghost use Rattle.std.specs.Prelude.{◌≡◌, OnOk};
-ghost use Rattle.rlp_print.specs.Display.{content_of};
-ghost use Rattle.rlp_print.specs.Value.{Steps};
+ghost use Rattle.rlp_print.specs.Value.{Steps, bytes as shown_bytes, content_of, number as shown_number};
+ghost use Rattle.rlp_print.specs.declared.sink.NumberKind.TheVariants.{Decimal};
+ghost use Rattle.rlp_print.specs.declared.sink.BytesKind.TheVariants.{Any};
 
 use rlp::Uint;
 use std::alloc::AllocError;
+
+/// How a number is shown.
+#[derive(Clone, Copy)]
+pub enum NumberKind {
+    /// A number, which is hexadecimal in JSON.
+    Decimal,
+    /// A place, counted from 0, which is decimal in JSON too.
+    Place,
+    /// A number that is hexadecimal in lines too.
+    Quantity,
+    /// The number `v` in the signature of a transaction without a type.
+    LegacyV,
+}
+
+/// How bytes are shown.
+#[derive(Clone, Copy)]
+pub enum BytesKind {
+    /// Bytes.
+    Any,
+    /// No bytes, for which JSON has `null`.
+    Null,
+    /// Bytes that are mostly zero.
+    Sparse,
+    /// The hex-prefix encoding of a path of the trie.
+    Path,
+    /// Bytes that are mostly a word: lower-case letters and digits.
+    Word,
+    /// An IP address of 4 or 16 bytes.
+    Ip,
+    /// The bytes after the number of a type.
+    Payload,
+}
 
 /// What is shown as one text.
 #[derive(Clone, Copy)]
 pub enum Shown<'a> {
     /// A number.
-    Number(u64),
-    /// A place, counted from 0, which is decimal in JSON too.
-    Place(u64),
-    /// A number of 256 bits.
-    Wide(&'a Uint<32>),
-    /// A number of 256 bits that is hexadecimal in lines too.
-    Quantity(&'a Uint<32>),
-    /// The number `v` in the signature of a transaction without a type.
-    LegacyV(&'a Uint<32>),
-    /// Bytes.
-    Bytes(&'a [u8]),
-    /// Bytes, of which there may be none; then JSON has `null`.
-    BytesOrNull(&'a [u8]),
-    /// Bytes that are mostly zero.
-    Sparse(&'a [u8]),
-    /// The hex-prefix encoding of a path of the trie.
-    Path(&'a [u8]),
-    /// Bytes that are mostly a word: lower-case letters and digits.
-    Word(&'a [u8]),
-    /// An IP address of 4 or 16 bytes.
-    Ip(&'a [u8]),
+    Number(NumberKind, Uint<32>),
     /// The number of a type of EIP-2718, which stands in front of a payload.
     TypeByte(u8),
-    /// The bytes after the number of a type.
-    Payload(&'a [u8]),
+    /// Bytes.
+    Bytes(BytesKind, &'a [u8]),
     /// A text without quotes, backslashes and control characters, which JSON would escape.
     Text(&'a str),
     /// A list without items.
     EmptyList,
+}
+
+/// A number of 64 bits at most.
+pub(crate) fn number(number: u64) -> Shown<'static>
+    ensures { content_of result ≡ shown_number Decimal number }
+{
+    Shown::Number(NumberKind::Decimal, Uint::from(number))
+}
+
+/// Bytes of any kind.
+pub(crate) fn bytes(bytes: &[u8]) -> Shown<'_>
+    ensures { content_of result ≡ shown_bytes Any bytes.now }
+{
+    Shown::Bytes(BytesKind::Any, bytes)
 }
 
 /// What stands between the fields of an object or the items of a list and what is around them.

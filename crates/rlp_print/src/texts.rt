@@ -1,10 +1,10 @@
 //! Numbers, bytes, paths of the trie and words as text.
 
-ghost use Rattle.std.specs.Prelude.{◌≡◌, ◌==◌, ◌++◌, string_bytes, OnOk, Some, ◌<◌, [], ◌∷◌, true};
+ghost use Rattle.std.specs.Prelude.{◌≡◌, ◌==◌, ◌++◌, string_bytes, OnOk, Some, ◌<◌, [], ◌∷◌, false};
+ghost use Rattle.std.specs.Fmt.{digit_glyph};
 ghost use Rattle.std.specs.Int.Digits.{number_from_digits};
 ghost use Rattle.std.specs.List.{list_all};
-ghost use Rattle.rlp_print.specs.Lines.{begins_with_letter, bytes_text, hex_text, ip_text, meaning_text, number_text, said_by, sparse_text, v_text, digits_text, nibbles_text, path_text, is_word, is_word_byte, word_text};
-ghost use Rattle.rlp_trie.specs.HexPrefix.{nibbles_of, path_nibbles};
+ghost use Rattle.rlp_print.specs.Lines.{bytes_text, digits_text, hex_text, ip_text, is_word, is_word_byte, meaning_text, path_text, said_by, sparse_text, v_text, word_text};
 
 use rlp::Uint;
 use rlp_lines::push_bytes;
@@ -33,16 +33,6 @@ pub(crate) fn put_hex(number: &Uint<32>, out: &mut String) -> Result<(), AllocEr
         ≡ string_bytes out.old ++ hex_text (number_from_digits 256 number.now.bytes)) }
 {
     write!(out, "{}", Hexadecimal(number))
-}
-
-/// Appends a number in decimal.
-pub(crate) fn put_decimal(number: u64, out: &mut String) -> Result<(), AllocError>
-    ensures { OnOk result (string_bytes out.new ≡ string_bytes out.old ++ number_text number) }
-{
-    let number = Uint::<8> {
-        bytes: number.to_be_bytes(),
-    };
-    write!(out, "{number}")
 }
 
 /// Appends bytes in hexadecimal.
@@ -121,7 +111,7 @@ pub(crate) fn put_v(v: &Uint<32>, out: &mut String) -> Result<(), AllocError>
 fn put_nibble(nibble: u8, out: &mut String) -> Result<(), AllocError>
     requires { nibble < 16 }
     ensures { OnOk result
-        (string_bytes out.new ≡ string_bytes out.old ++ digits_text (nibble ∷ [])) }
+        (string_bytes out.new ≡ string_bytes out.old ++ digit_glyph false nibble ∷ []) }
 {
     if nibble < 10 {
         return out.push(char::from(b'0' + nibble));
@@ -129,43 +119,19 @@ fn put_nibble(nibble: u8, out: &mut String) -> Result<(), AllocError>
     out.push(char::from(b'a' + (nibble - 10)))
 }
 
-/// Appends the nibbles of bytes, two of each.
-fn put_pairs(bytes: &[u8], out: &mut String) -> Result<(), AllocError>
-    ensures { OnOk result (string_bytes out.new
-        ≡ string_bytes out.old ++ digits_text (nibbles_of bytes.now)) }
-{
-    let mut rest = bytes;
-    while let [byte, more @ ..] = rest {
-        put_nibble(byte / 16, out)?;
-        put_nibble(byte % 16, out)?;
-        rest = more;
-    }
-    Ok(())
-}
-
 /// Appends the nibbles of an encoded path.
 pub(crate) fn put_digits(path: &[u8], out: &mut String) -> Result<(), AllocError>
-    ensures { OnOk result (string_bytes out.new
-        ≡ string_bytes out.old ++ digits_text (path_nibbles path.now)) }
+    ensures { OnOk result
+        (string_bytes out.new ≡ string_bytes out.old ++ digits_text path.now) }
 {
     let [first, rest @ ..] = path else {
         return Ok(());
     };
     if first / 16 % 2 == 1 {
         put_nibble(first % 16, out)?;
-        return put_pairs(rest, out);
+        return push_bytes(rest, out);
     }
-    put_pairs(rest, out)
-}
-
-/// Appends the nibbles of an encoded path, in brackets.
-fn put_nibbles(path: &[u8], out: &mut String) -> Result<(), AllocError>
-    ensures { OnOk result (string_bytes out.new
-        ≡ string_bytes out.old ++ nibbles_text (path_nibbles path.now)) }
-{
-    out.push_str(" (nibbles [")?;
-    put_digits(path, out)?;
-    out.push_str("])")
+    push_bytes(rest, out)
 }
 
 /// Appends the bytes of an encoded path, and its nibbles.
@@ -173,59 +139,37 @@ pub(crate) fn put_path(path: &[u8], out: &mut String) -> Result<(), AllocError>
     ensures { OnOk result (string_bytes out.new ≡ string_bytes out.old ++ path_text path.now) }
 {
     put_bytes(path, out)?;
-    put_nibbles(path, out)
-}
-
-/// Returns whether a byte is a lower-case letter or a digit.
-fn is_word_byte(byte: u8) -> bool
-    ensures { result ≡ is_word_byte byte }
-{
-    byte.is_ascii_lowercase() || byte.is_ascii_digit()
+    out.push_str(" (nibbles [")?;
+    put_digits(path, out)?;
+    out.push_str("])")
 }
 
 /// Returns whether all bytes are lower-case letters and digits.
 fn are_word_bytes(bytes: &[u8]) -> bool
     ensures { result ≡ list_all is_word_byte bytes.now }
 {
-    bytes.iter().all(|byte| is_word_byte(*byte))
-}
-
-/// Returns whether bytes begin with a lower-case letter.
-fn begins_with_letter(bytes: &[u8]) -> bool
-    ensures { result ≡ begins_with_letter bytes.now }
-{
-    match bytes {
-        [first, ..] => first.is_ascii_lowercase(),
-        [] => false,
-    }
+    bytes
+        .iter()
+        .all(|byte| byte.is_ascii_lowercase() || byte.is_ascii_digit())
 }
 
 /// Returns whether bytes are a word, which begins with a letter.
 fn is_word(bytes: &[u8]) -> bool
     ensures { result ≡ is_word bytes.now }
 {
-    begins_with_letter(bytes) && are_word_bytes(bytes)
-}
-
-/// Appends the letters and digits of a word.
-fn put_word(word: &[u8], out: &mut String) -> Result<(), AllocError>
-    requires { list_all is_word_byte word.now ≡ true }
-    ensures { OnOk result (string_bytes out.new ≡ string_bytes out.old ++ word.now) }
-{
-    let mut rest = word;
-    while let [byte, more @ ..] = rest {
-        out.push(char::from(*byte))?;
-        rest = more;
+    match bytes {
+        [first, ..] => first.is_ascii_lowercase() && are_word_bytes(bytes),
+        [] => false,
     }
-    Ok(())
 }
 
 /// Appends a word as it is, and other bytes in hexadecimal.
+#[tactic(auto, using(crate::proofs::WordLemmas::words_are_text))]
 pub(crate) fn put_word_or_bytes(bytes: &[u8], out: &mut String) -> Result<(), AllocError>
     ensures { OnOk result (string_bytes out.new ≡ string_bytes out.old ++ word_text bytes.now) }
 {
-    if is_word(bytes) {
-        return put_word(bytes, out);
+    match std::str::from_utf8(bytes) {
+        Ok(word) if is_word(bytes) => out.push_str(word),
+        _ => put_bytes(bytes, out),
     }
-    put_bytes(bytes, out)
 }

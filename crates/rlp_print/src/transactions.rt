@@ -1,59 +1,59 @@
 //! Transactions of all types, with their signatures and without, and as they are sent with their
 //! blobs.
 
-ghost use Rattle.rlp_print.specs.Transactions.{set_code_display, access_list_display, access_list_item_display, access_list_transaction_display, authorization_display, blob_display, fee_market_display, legacy_display, recipient_display, is_unsigned, legacy_signing_hash, said_display, said_of, signed_authorization_display, signed_legacy_display, typed_display, signing_entries, v_display, any_transaction_display, by_type_display, one_blob_display, payload_display, transaction_display, unsigned_display, unsigned_legacy_display, with_cell_proofs_display, with_proofs_display, without_blobs_display};
-ghost use Rattle.std.specs.Prelude.{◌≡◌, IfOk, OnOk};
-ghost use Rattle.rlp_print.specs.Display.{derived, part, through};
-ghost use Rattle.rlp_print.specs.Value.{after_fields, entries_if};
-ghost use Rattle.rlp_print.specs.Types.{type_entries};
-ghost use Rattle.rlp_records.specs.declared.hash.Hash.{Hash};
+ghost use Rattle.std.specs.Int.Digits.{number_from_digits};
+ghost use Rattle.std.specs.Prelude.{◌≡◌, ◌==◌, IfOk, option_map};
+ghost use Rattle.rlp_transactions.specs.{Access.access_list_item, AccessListTransaction.access_list_transaction_fields, AnyTransaction.any_transaction, Authorization.authorization_fields};
+ghost use Rattle.rlp_transactions.specs.{Authorization.signed_authorization, Blob.blob, BlobTransaction.blob_transaction_fields, BlobTransaction.signed_blob_transaction, Recipient.recipient};
+ghost use Rattle.rlp_transactions.specs.{BlobWrapper.with_cell_proofs, BlobWrapper.with_proofs, FeeMarketTransaction.fee_market_transaction_fields, Transaction.transaction};
+ghost use Rattle.rlp_transactions.specs.{LegacyTransaction.legacy_transaction_fields, LegacyTransaction.signed_legacy_transaction, SetCodeTransaction.set_code_transaction_fields};
+ghost use Rattle.rlp_transactions.specs.{UnsignedLegacyTransaction.unsigned_legacy_transaction, UnsignedTransaction.unsigned_transaction};
+ghost use Rattle.rlp_print.specs.Display.{bytes_as, seen_as};
+ghost use Rattle.rlp_print.specs.Transactions.{access_list_item_display, access_list_transaction_display, after_type, any_transaction_display, authorization_display, blob_display, blob_hash, fee_market_display, legacy_display, legacy_hash, legacy_signing_hash};
+ghost use Rattle.rlp_print.specs.Transactions.{payload_display, payload_hash, recipient_display, said_display, said_of, said_seen, set_code_display, signed_authorization_display, signed_legacy_display, signing_hash, transaction_display, transaction_hash};
+ghost use Rattle.rlp_print.specs.Transactions.{typed_fields, typed_seen, unsigned_display, unsigned_legacy_display, v_content, v_seen, with_cell_proofs_display, with_proofs_display, without_blobs_display};
+ghost use Rattle.rlp_print.specs.Value.{content_of};
+ghost use Rattle.rlp_print.specs.declared.sink.BytesKind.TheVariants.{Sparse};
 
-use crate::show::{ByForm, Items, NamedIf, Show, ShowFields, field, give_fields, show_fields};
-use crate::sink::{Shown, Sink};
+use crate::show::{ByForm, Items, Show, ShowFields, field, fields, give_fields, show_fields};
+use crate::sink::{BytesKind, NumberKind, Shown, Sink, bytes, number};
 use crate::texts::{are_zero, said_by};
 use keccak::keccak256;
+use rlp::Uint;
 use rlp_records::Hash;
 use rlp_transactions::{
-    AccessList, AccessListItem, AccessListTransaction, AnyTransaction, Authorization, Blob,
-    BlobTransaction, BlobTransactionWithCellProofs, BlobTransactionWithProofs, Eip155,
-    FeeMarketTransaction, LegacyTransaction, Recipient, SetCodeTransaction, Signed,
-    SignedAuthorization, SignedLegacyTransaction, Transaction, TypedTransaction,
-    UnsignedLegacyTransaction, UnsignedTransaction, signing_hash,
+    AccessListItem, AccessListTransaction, AnyTransaction, Authorization, Blob, BlobTransaction,
+    BlobTransactionWithCellProofs, BlobTransactionWithProofs, Eip155, FeeMarketTransaction,
+    LegacyTransaction, Recipient, SetCodeTransaction, Signed, SignedAuthorization,
+    SignedLegacyTransaction, Tagged, Transaction, TypedTransaction, UnsignedLegacyTransaction,
+    UnsignedTransaction, signing_hash,
 };
 use std::alloc::{AllocError, Global};
 
 impl Show for Recipient {
-    ghost display = { recipient_display };
+    ghost display = { seen_as recipient.reading.seen recipient_display };
 
     fn show<S: Sink>(&self, _alloc: Global, name: &str, sink: &mut S) -> Result<(), AllocError> {
         match self {
-            Recipient::Creation => sink.put(name, Shown::BytesOrNull(&[])),
-            Recipient::Account(address) => sink.put(name, Shown::BytesOrNull(&address.0)),
+            Recipient::Creation => sink.put(name, Shown::Bytes(BytesKind::Null, &[])),
+            Recipient::Account(address) => sink.put(name, bytes(&address.0)),
         }
     }
 }
 
 impl Show for AccessListItem {
-    ghost display = { access_list_item_display };
+    ghost display = { seen_as access_list_item.reading.seen access_list_item_display };
 
     fn show<S: Sink>(&self, alloc: Global, name: &str, sink: &mut S) -> Result<(), AllocError> {
         show_fields!(alloc, name, sink;
-            "address" "address" &self.address;
+            "address" "address" &self.address.0;
             "storage_keys" "storageKeys" Items(&self.storage_keys);
         )
     }
 }
 
-impl Show for AccessList {
-    ghost display = { access_list_display };
-
-    fn show<S: Sink>(&self, alloc: Global, name: &str, sink: &mut S) -> Result<(), AllocError> {
-        Items(&self.0).show(alloc, name, sink)
-    }
-}
-
 impl ShowFields for LegacyTransaction {
-    ghost fields = { legacy_display };
+    ghost fields = { seen_as legacy_transaction_fields.reading.seen legacy_display };
 
     fn give<S: Sink>(&self, alloc: Global, name: &str, sink: &mut S) -> Result<(), AllocError> {
         give_fields!(alloc, name, sink;
@@ -68,7 +68,8 @@ impl ShowFields for LegacyTransaction {
 }
 
 impl ShowFields for AccessListTransaction {
-    ghost fields = { access_list_transaction_display };
+    ghost fields = { seen_as access_list_transaction_fields.reading.seen
+        access_list_transaction_display };
 
     fn give<S: Sink>(&self, alloc: Global, name: &str, sink: &mut S) -> Result<(), AllocError> {
         give_fields!(alloc, name, sink;
@@ -79,13 +80,13 @@ impl ShowFields for AccessListTransaction {
             "to" "to" &self.to;
             "value" "value" &self.value;
             "data" "input" &self.data;
-            "access_list" "accessList" &self.access_list;
+            "access_list" "accessList" Items(&self.access_list.0);
         )
     }
 }
 
 impl ShowFields for FeeMarketTransaction {
-    ghost fields = { fee_market_display };
+    ghost fields = { seen_as fee_market_transaction_fields.reading.seen fee_market_display };
 
     fn give<S: Sink>(&self, alloc: Global, name: &str, sink: &mut S) -> Result<(), AllocError> {
         give_fields!(alloc, name, sink;
@@ -97,13 +98,13 @@ impl ShowFields for FeeMarketTransaction {
             "to" "to" &self.to;
             "value" "value" &self.value;
             "data" "input" &self.data;
-            "access_list" "accessList" &self.access_list;
+            "access_list" "accessList" Items(&self.access_list.0);
         )
     }
 }
 
 impl ShowFields for BlobTransaction {
-    ghost fields = { blob_display };
+    ghost fields = { seen_as blob_transaction_fields.reading.seen blob_display };
 
     fn give<S: Sink>(&self, alloc: Global, name: &str, sink: &mut S) -> Result<(), AllocError> {
         give_fields!(alloc, name, sink;
@@ -112,10 +113,10 @@ impl ShowFields for BlobTransaction {
             "max_priority_fee_per_gas" "maxPriorityFeePerGas" &self.max_priority_fee_per_gas;
             "max_fee_per_gas" "maxFeePerGas" &self.max_fee_per_gas;
             "gas_limit" "gas" &self.gas_limit;
-            "to" "to" &self.to;
+            "to" "to" &self.to.0;
             "value" "value" &self.value;
             "data" "input" &self.data;
-            "access_list" "accessList" &self.access_list;
+            "access_list" "accessList" Items(&self.access_list.0);
             "max_fee_per_blob_gas" "maxFeePerBlobGas" &self.max_fee_per_blob_gas;
             "blob_versioned_hashes" "blobVersionedHashes" Items(&self.blob_versioned_hashes);
         )
@@ -123,19 +124,19 @@ impl ShowFields for BlobTransaction {
 }
 
 impl ShowFields for Authorization {
-    ghost fields = { authorization_display };
+    ghost fields = { seen_as authorization_fields.reading.seen authorization_display };
 
     fn give<S: Sink>(&self, alloc: Global, name: &str, sink: &mut S) -> Result<(), AllocError> {
         give_fields!(alloc, name, sink;
             "chain_id" "chainId" &self.chain_id;
-            "address" "address" &self.address;
+            "address" "address" &self.address.0;
             "nonce" "nonce" &self.nonce;
         )
     }
 }
 
 impl ShowFields for SetCodeTransaction {
-    ghost fields = { set_code_display };
+    ghost fields = { seen_as set_code_transaction_fields.reading.seen set_code_display };
 
     fn give<S: Sink>(&self, alloc: Global, name: &str, sink: &mut S) -> Result<(), AllocError> {
         give_fields!(alloc, name, sink;
@@ -144,57 +145,76 @@ impl ShowFields for SetCodeTransaction {
             "max_priority_fee_per_gas" "maxPriorityFeePerGas" &self.max_priority_fee_per_gas;
             "max_fee_per_gas" "maxFeePerGas" &self.max_fee_per_gas;
             "gas_limit" "gas" &self.gas_limit;
-            "destination" "to" &self.destination;
+            "destination" "to" &self.destination.0;
             "value" "value" &self.value;
             "data" "input" &self.data;
-            "access_list" "accessList" &self.access_list;
+            "access_list" "accessList" Items(&self.access_list.0);
             "authorization_list" "authorizationList" Items(&self.authorization_list);
         )
     }
 }
 
+/// Returns the hash that is signed of a payload.
+fn signing_hash_of<T: Tagged>(alloc: Global, payload: &T) -> Result<Hash, AllocError>
+    ensures { IfOk result
+        (λ h. h.0 ≡ signing_hash T.TAG T.reading (T.reading.seen payload.now)) }
+{
+    signing_hash(alloc, payload)
+}
+
 impl<T: TypedTransaction + ShowFields> ShowFields for Signed<T, bool> {
-    ghost fields = { typed_display T.TAG T.items T.fields };
+    ghost fields = { seen_as (typed_seen T.fields.seen T.reading.seen)
+        (typed_fields T.TAG T.reading T.fields.form) };
 
     fn give<S: Sink>(&self, alloc: Global, name: &str, sink: &mut S) -> Result<(), AllocError> {
-        let hash = signing_hash(alloc, &self.payload)?;
+        let hash = signing_hash_of(alloc, &self.payload)?;
         give_fields!(alloc, name, sink;
             "type" "type" Shown::TypeByte(T::TAG);
             &self.payload;
-            "y_parity" "yParity" &self.v;
-            ByForm((), field!("v" "v" &self.v));
-            "r" "r" Shown::Quantity(&self.r);
-            "s" "s" Shown::Quantity(&self.s);
-            "signing_hash" "signingHash" &hash;
+            "y_parity" "yParity" number(self.v as u64);
+            ByForm((), field!("v" "v" number(self.v as u64)));
+            "r" "r" Shown::Number(NumberKind::Quantity, self.r);
+            "s" "s" Shown::Number(NumberKind::Quantity, self.s);
+            "signing_hash" "signingHash" &hash
         )
     }
 }
 
 impl Show for SignedAuthorization {
-    ghost display = { signed_authorization_display };
+    ghost display = { seen_as signed_authorization.reading.seen signed_authorization_display };
 
     fn show<S: Sink>(&self, alloc: Global, name: &str, sink: &mut S) -> Result<(), AllocError> {
-        let hash = signing_hash(alloc, &self.payload)?;
+        let hash = signing_hash_of(alloc, &self.payload)?;
         show_fields!(alloc, name, sink;
             &self.payload;
             "y_parity" "yParity" &self.v;
-            "r" "r" Shown::Quantity(&self.r);
-            "s" "s" Shown::Quantity(&self.s);
-            "signing_hash" "signingHash" &hash;
+            "r" "r" Shown::Number(NumberKind::Quantity, self.r);
+            "s" "s" Shown::Number(NumberKind::Quantity, self.s);
+            "signing_hash" "signingHash" &hash
         )
     }
 }
 
 /// What `v` says.
 impl ShowFields for Eip155 {
-    ghost fields = { said_display };
+    ghost fields = { seen_as said_seen said_display };
 
     fn give<S: Sink>(&self, alloc: Global, name: &str, sink: &mut S) -> Result<(), AllocError> {
         give_fields!(alloc, name, sink;
             "chain_id" "chainId" ? &self.chain_id;
-            "y_parity" "yParity" &self.y_parity;
+            "y_parity" "yParity" number(self.y_parity as u64)
         )
     }
+}
+
+/// Returns the hash that is signed of a transaction without a type.
+#[tactic(auto, using(crate::proofs::Written::legacy_written))]
+fn legacy_hash(alloc: Global, unsigned: &UnsignedLegacyTransaction) -> Result<Hash, AllocError>
+    ensures { IfOk result (λ h. h.0 ≡ legacy_hash
+        (legacy_transaction_fields.reading.seen unsigned.now.payload) unsigned.now.chain_id) }
+{
+    let bytes = rlp::encode(alloc, unsigned)?;
+    Ok(Hash(keccak256(bytes.as_slice())))
 }
 
 /// Returns the hash that is signed of a transaction without a type, if `v` says what that is.
@@ -203,7 +223,8 @@ fn legacy_signing_hash(
     payload: &LegacyTransaction,
     said: Option<Eip155>,
 ) -> Result<Option<Hash>, AllocError>
-    ensures { IfOk result (λ h. h ≡ legacy_signing_hash payload.now said) }
+    ensures { IfOk result (λ h. option_map (λ h. h.0) h
+        ≡ legacy_signing_hash (legacy_transaction_fields.reading.seen payload.now) said) }
 {
     let Some(said) = said else {
         return Ok(None);
@@ -212,83 +233,60 @@ fn legacy_signing_hash(
         payload: payload.clone()?,
         chain_id: said.chain_id,
     };
-    let bytes = rlp::encode(alloc, &unsigned)?;
-    Ok(Some(Hash(keccak256(bytes.as_slice()))))
+    let hash = legacy_hash(alloc, &unsigned)?;
+    Ok(Some(hash))
 }
 
-/// Returns whether a transaction without a type isn't signed: both numbers of its signature are zero,
-/// as in what EIP-155 signs.
-fn is_unsigned(transaction: &SignedLegacyTransaction) -> bool
-    ensures { result ≡ is_unsigned transaction.now }
+/// Returns whether a number is zero.
+#[tactic(auto, using(crate::proofs::NumberLemmas::zero_digits))]
+fn is_zero(number: &Uint<32>) -> bool
+    ensures { result ≡ (number_from_digits 256 number.now.bytes == 0) }
 {
-    are_zero(&transaction.r.bytes) && are_zero(&transaction.s.bytes)
+    are_zero(&number.bytes)
 }
 
-/// Returns what `v` says, if the transaction is signed.
-fn said_of(transaction: &SignedLegacyTransaction) -> Option<Eip155>
-    ensures { result ≡ said_of transaction.now }
+/// Returns what `v` says, if the transaction is signed: one of the two numbers of its signature isn't
+/// zero, as both are in what EIP-155 signs.
+fn said_of(tx: &SignedLegacyTransaction) -> Option<Eip155>
+    ensures { result ≡ said_of (signed_legacy_transaction.reading.seen tx.now) }
 {
-    if is_unsigned(transaction) {
+    if is_zero(&tx.r) && is_zero(&tx.s) {
         return None;
     }
-    said_by(&transaction.v)
+    said_by(&tx.v)
 }
 
-/// The `v` of a transaction without a type.
-#[derive(Clone, Copy)]
-struct LegacyV<'a>(&'a SignedLegacyTransaction);
-
-impl Show for LegacyV<'_> {
-    ghost display = { through (λ v. v.0.now) v_display };
-
-    fn show<S: Sink>(&self, _alloc: Global, name: &str, sink: &mut S) -> Result<(), AllocError> {
-        if is_unsigned(self.0) {
-            return sink.put(name, Shown::Wide(&self.0.v));
-        }
-        sink.put(name, Shown::LegacyV(&self.0.v))
-    }
-}
-
-/// Gives the hash that is signed to a sink, if `v` says what that is.
-fn show_legacy_signing<S: Sink>(
-    alloc: Global,
-    name: &str,
-    payload: &LegacyTransaction,
-    said: Option<Eip155>,
-    sink: &mut S,
-) -> Result<(), AllocError>
-    ensures { OnOk result (S.seen sink.new ≡ after_fields S.steps name.now
-        (entries_if (λ (h : Hash). signing_entries h.0) (legacy_signing_hash payload.now said))
-        (S.seen sink.old)) }
+/// Returns the `v` of a transaction, which comes with what it says if the transaction is signed.
+fn v_of(tx: &SignedLegacyTransaction) -> Shown<'static>
+    ensures { content_of result ≡ v_content
+        (v_seen (signed_legacy_transaction.reading.seen tx.now)) }
 {
-    let hash = legacy_signing_hash(alloc, payload, said)?;
-    let field = NamedIf {
-        name: "signing_hash",
-        json: "signingHash",
-        value: &hash,
-    };
-    field.give(alloc, name, sink)
+    if is_zero(&tx.r) && is_zero(&tx.s) {
+        return Shown::Number(NumberKind::Decimal, tx.v);
+    }
+    Shown::Number(NumberKind::LegacyV, tx.v)
 }
 
 impl ShowFields for SignedLegacyTransaction {
-    ghost fields = { signed_legacy_display };
+    ghost fields = { seen_as signed_legacy_transaction.reading.seen signed_legacy_display };
 
     fn give<S: Sink>(&self, alloc: Global, name: &str, sink: &mut S) -> Result<(), AllocError> {
         let said = said_of(self);
+        let hash = legacy_signing_hash(alloc, &self.payload, said)?;
         give_fields!(alloc, name, sink;
             ByForm((), field!("type" "type" Shown::TypeByte(0)));
             &self.payload;
-            "v" "v" LegacyV(self);
+            "v" "v" v_of(self);
             ByForm((), &said);
-            "r" "r" Shown::Quantity(&self.r);
-            "s" "s" Shown::Quantity(&self.s);
-        )?;
-        show_legacy_signing(alloc, name, &self.payload, said, sink)
+            "r" "r" Shown::Number(NumberKind::Quantity, self.r);
+            "s" "s" Shown::Number(NumberKind::Quantity, self.s);
+            "signing_hash" "signingHash" ? &hash
+        )
     }
 }
 
 impl ShowFields for Transaction {
-    ghost fields = { transaction_display };
+    ghost fields = { seen_as transaction.reading.seen transaction_display };
 
     fn give<S: Sink>(&self, alloc: Global, name: &str, sink: &mut S) -> Result<(), AllocError> {
         match self {
@@ -301,86 +299,106 @@ impl ShowFields for Transaction {
     }
 }
 
-/// The fields without the hash.
-impl ShowFields for AnyTransaction {
-    ghost fields = { by_type_display };
+/// Returns the hash of a transaction.
+#[tactic(auto, using(crate::proofs::Written::transaction_written))]
+fn hash_of(alloc: Global, tx: &AnyTransaction) -> Result<Hash, AllocError>
+    ensures { IfOk result
+        (λ h. h.0 ≡ transaction_hash (any_transaction.reading.seen tx.now)) }
+{
+    tx.hash(alloc)
+}
 
-    fn give<S: Sink>(&self, alloc: Global, name: &str, sink: &mut S) -> Result<(), AllocError> {
+impl Show for AnyTransaction {
+    ghost display = { seen_as any_transaction.reading.seen any_transaction_display };
+
+    fn show<S: Sink>(&self, alloc: Global, name: &str, sink: &mut S) -> Result<(), AllocError> {
+        let hash = hash_of(alloc, self)?;
         match self {
-            AnyTransaction::Known(tx) => tx.give(alloc, name, sink),
-            AnyTransaction::Other(tx) => {
-                give_fields!(alloc, name, sink;
-                    "type" "type" Shown::TypeByte(tx.transaction_type());
-                    "payload" "payload" Shown::Payload(tx.payload());
-                )
-            }
+            AnyTransaction::Known(tx) => show_fields!(alloc, name, sink; "hash" "hash" &hash; tx),
+            AnyTransaction::Other(tx) => show_fields!(alloc, name, sink;
+                "hash" "hash" &hash;
+                "type" "type" Shown::TypeByte(tx.transaction_type());
+                "payload" "payload" Shown::Bytes(BytesKind::Payload, tx.payload())
+            ),
         }
     }
 }
 
-impl Show for AnyTransaction {
-    ghost display = { any_transaction_display };
-
-    fn show<S: Sink>(&self, alloc: Global, name: &str, sink: &mut S) -> Result<(), AllocError> {
-        let hash = self.hash(alloc)?;
-        show_fields!(alloc, name, sink; "hash" "hash" &hash; self;)
-    }
-}
-
 impl ShowFields for UnsignedLegacyTransaction {
-    ghost fields = { unsigned_legacy_display };
+    ghost fields = { seen_as unsigned_legacy_transaction.reading.seen unsigned_legacy_display };
 
     fn give<S: Sink>(&self, alloc: Global, name: &str, sink: &mut S) -> Result<(), AllocError> {
-        give_fields!(alloc, name, sink;
-            ByForm((), field!("type" "type" Shown::TypeByte(0)));
-            &self.payload;
-            "chain_id" "chainId" ? &self.chain_id;
-        )
+        let kind = ByForm((), field!("type" "type" Shown::TypeByte(0)));
+        (kind, &self.payload).give(alloc, name, sink)?;
+        match &self.chain_id {
+            Some(chain) => field!("chain_id" "chainId" chain).give(alloc, name, sink),
+            None => Ok(()),
+        }
     }
 }
 
 /// The number of a type, and a payload.
 #[derive(Clone, Copy)]
-struct Typed<'a, T>(&'a T);
+struct Typed<'a, T>(u8, &'a T);
 
-impl<T: TypedTransaction + ShowFields> ShowFields for Typed<'_, T> {
-    ghost fields = { part (λ t. t.0.now) (derived (λ t. type_entries T.TAG) T.fields) };
+impl<T: ShowFields> ShowFields for Typed<'_, T> {
+    ghost fields = { seen_as (λ t. (t.0, T.fields.seen t.1.now)) (after_type T.fields.form) };
 
     fn give<S: Sink>(&self, alloc: Global, name: &str, sink: &mut S) -> Result<(), AllocError> {
-        give_fields!(alloc, name, sink; "type" "type" Shown::TypeByte(T::TAG); self.0;)
+        give_fields!(alloc, name, sink; "type" "type" Shown::TypeByte(self.0); self.1)
     }
 }
 
 /// The fields without the hash that is signed.
 impl ShowFields for UnsignedTransaction {
-    ghost fields = { payload_display };
+    ghost fields = { seen_as unsigned_transaction.reading.seen payload_display };
 
     fn give<S: Sink>(&self, alloc: Global, name: &str, sink: &mut S) -> Result<(), AllocError> {
         match self {
             UnsignedTransaction::Legacy(tx) => tx.give(alloc, name, sink),
-            UnsignedTransaction::AccessList(tx) => Typed(tx).give(alloc, name, sink),
-            UnsignedTransaction::FeeMarket(tx) => Typed(tx).give(alloc, name, sink),
-            UnsignedTransaction::Blob(tx) => Typed(tx).give(alloc, name, sink),
-            UnsignedTransaction::SetCode(tx) => Typed(tx).give(alloc, name, sink),
+            UnsignedTransaction::AccessList(tx) => Typed(1, tx).give(alloc, name, sink),
+            UnsignedTransaction::FeeMarket(tx) => Typed(2, tx).give(alloc, name, sink),
+            UnsignedTransaction::Blob(tx) => Typed(3, tx).give(alloc, name, sink),
+            UnsignedTransaction::SetCode(tx) => Typed(4, tx).give(alloc, name, sink),
         }
     }
 }
 
+/// Returns the hash that is signed of a transaction.
+#[tactic(auto, using(crate::proofs::Written::payload_written))]
+fn payload_hash(alloc: Global, tx: &UnsignedTransaction) -> Result<Hash, AllocError>
+    ensures { IfOk result
+        (λ h. h.0 ≡ payload_hash (unsigned_transaction.reading.seen tx.now)) }
+{
+    tx.signing_hash(alloc)
+}
+
 impl Show for UnsignedTransaction {
-    ghost display = { unsigned_display };
+    ghost display = { seen_as unsigned_transaction.reading.seen unsigned_display };
 
     fn show<S: Sink>(&self, alloc: Global, name: &str, sink: &mut S) -> Result<(), AllocError> {
-        let hash = self.signing_hash(alloc)?;
-        show_fields!(alloc, name, sink; self; "signing_hash" "signingHash" &hash;)
+        let hash = payload_hash(alloc, self)?;
+        show_fields!(alloc, name, sink; self; "signing_hash" "signingHash" &hash)
     }
 }
 
 impl Show for Blob {
-    ghost display = { one_blob_display };
+    ghost display = { seen_as blob.reading.seen (bytes_as Sparse) };
 
     fn show<S: Sink>(&self, _alloc: Global, name: &str, sink: &mut S) -> Result<(), AllocError> {
-        sink.put(name, Shown::Sparse(&self.bytes))
+        sink.put(name, Shown::Bytes(BytesKind::Sparse, &self.bytes))
     }
+}
+
+/// Returns the hash that names a transaction with blobs, which is the hash of the transaction without
+/// its blobs.
+#[tactic(auto, using(crate::proofs::Written::blob_written))]
+fn blob_hash(alloc: Global, tx: &Signed<BlobTransaction>) -> Result<Hash, AllocError>
+    ensures { IfOk result
+        (λ h. h.0 ≡ blob_hash (signed_blob_transaction.reading.seen tx.now)) }
+{
+    let bytes = tx.to_bytes(alloc)?;
+    Ok(Hash(keccak256(bytes.as_slice())))
 }
 
 /// A transaction without its blobs, and the hash that names it.
@@ -388,17 +406,18 @@ impl Show for Blob {
 struct WithoutBlobs<'a>(&'a Signed<BlobTransaction>);
 
 impl ShowFields for WithoutBlobs<'_> {
-    ghost fields = { part (λ t. t.0.now) without_blobs_display };
+    ghost fields = { seen_as (λ t. signed_blob_transaction.reading.seen t.0.now)
+        without_blobs_display };
 
     fn give<S: Sink>(&self, alloc: Global, name: &str, sink: &mut S) -> Result<(), AllocError> {
-        let bytes = self.0.to_bytes(alloc)?;
-        let hash = Hash(keccak256(bytes.as_slice()));
-        give_fields!(alloc, name, sink; "hash" "hash" &hash; self.0;)
+        let hash = blob_hash(alloc, self.0)?;
+        field!("hash" "hash" &hash).give(alloc, name, sink)?;
+        self.0.give(alloc, name, sink)
     }
 }
 
 impl Show for BlobTransactionWithProofs {
-    ghost display = { with_proofs_display };
+    ghost display = { seen_as with_proofs.reading.seen with_proofs_display };
 
     fn show<S: Sink>(&self, alloc: Global, name: &str, sink: &mut S) -> Result<(), AllocError> {
         show_fields!(alloc, name, sink;
@@ -411,12 +430,12 @@ impl Show for BlobTransactionWithProofs {
 }
 
 impl Show for BlobTransactionWithCellProofs {
-    ghost display = { with_cell_proofs_display };
+    ghost display = { seen_as with_cell_proofs.reading.seen with_cell_proofs_display };
 
     fn show<S: Sink>(&self, alloc: Global, name: &str, sink: &mut S) -> Result<(), AllocError> {
         show_fields!(alloc, name, sink;
             WithoutBlobs(&self.transaction);
-            "wrapper_version" "wrapperVersion" Shown::Number(1);
+            "wrapper_version" "wrapperVersion" &1_u64;
             "blobs" "blobs" Items(&self.blobs);
             "commitments" "commitments" Items(&self.commitments);
             "cell_proofs" "proofs" Items(&self.cell_proofs);

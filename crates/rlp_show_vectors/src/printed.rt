@@ -13,7 +13,7 @@ use rlp_ethereum::{
     TrieNode, TypedReceipt, Withdrawal,
 };
 use rlp_p2p::{Disconnect, Hello, Ping, Pong};
-use rlp_print::{Show, dump_of, json_of, lines_of};
+use rlp_print::{Items, Show, dump_of, json_of, lines_of};
 use rlp_rows::{Line, cut};
 use rlp_show::{Kind, MessageKind};
 use std::alloc::{AllocError, Global};
@@ -56,6 +56,26 @@ pub(crate) fn whole<T: StrictRead + Show>(
     text_of(alloc, how, &value)
 }
 
+/// Reads a list strictly, and prints its values.
+macro_rules! listed {
+    ($alloc:expr, $how:expr, $bytes:expr, $kind:ty) => {{
+        let list = rlp::decode_whole::<$kind>($alloc, $bytes)?;
+        text_of($alloc, $how, &Items(&list.0))
+    }};
+}
+
+/// Reads a list with the number of a request strictly, and prints both.
+macro_rules! listed_with_number {
+    ($alloc:expr, $how:expr, $bytes:expr, $kind:ty) => {{
+        let request = rlp::decode_whole::<WithRequestId<$kind>>($alloc, $bytes)?;
+        let shown = WithRequestId {
+            request_id: request.request_id,
+            content: Items(&request.content.0),
+        };
+        text_of($alloc, $how, &shown)
+    }};
+}
+
 /// Reads a record of a kind, and prints it.
 pub(crate) fn record(
     alloc: Global,
@@ -64,7 +84,7 @@ pub(crate) fn record(
     bytes: &[u8],
 ) -> Result<String, DecoderError> {
     match kind {
-        Kind::AccessList => whole::<AccessList>(alloc, how, bytes),
+        Kind::AccessList => listed!(alloc, how, bytes, AccessList),
         Kind::Account => whole::<Account>(alloc, how, bytes),
         Kind::Authorization => whole::<SignedAuthorization>(alloc, how, bytes),
         Kind::Block => whole::<Block>(alloc, how, bytes),
@@ -72,7 +92,10 @@ pub(crate) fn record(
         Kind::Header => whole::<Header>(alloc, how, bytes),
         Kind::Node => whole::<TrieNode>(alloc, how, bytes),
         Kind::Receipt => text_of(alloc, how, &TypedReceipt::from_bytes(alloc, bytes)?),
-        Kind::NodeRecord => whole::<NodeRecord>(alloc, how, bytes),
+        Kind::NodeRecord => {
+            let node = rlp::decode_whole::<NodeRecord>(alloc, bytes)?;
+            text_of(alloc, how, node.fields())
+        }
         Kind::Transaction => text_of(alloc, how, &AnyTransaction::from_bytes(alloc, bytes)?),
         Kind::Withdrawal => whole::<Withdrawal>(alloc, how, bytes),
         Kind::Message(kind) => message(alloc, kind, how, bytes),
@@ -93,8 +116,8 @@ fn message(
         MessageKind::Pong => whole::<Pong>(alloc, how, bytes),
         MessageKind::Status68 => whole::<Status68>(alloc, how, bytes),
         MessageKind::Status69 => whole::<Status69>(alloc, how, bytes),
-        MessageKind::NewBlockHashes => whole::<NewBlockHashes>(alloc, how, bytes),
-        MessageKind::Transactions => whole::<Transactions>(alloc, how, bytes),
+        MessageKind::NewBlockHashes => listed!(alloc, how, bytes, NewBlockHashes),
+        MessageKind::Transactions => listed!(alloc, how, bytes, Transactions),
         MessageKind::NewBlock => whole::<NewBlock>(alloc, how, bytes),
         MessageKind::NewPooledTransactionHashes => {
             whole::<NewPooledTransactionHashes>(alloc, how, bytes)
@@ -113,18 +136,18 @@ fn numbered(
 ) -> Result<String, DecoderError> {
     match kind {
         MessageKind::GetBlockHeaders => whole::<WithRequestId<GetBlockHeaders>>(alloc, how, bytes),
-        MessageKind::BlockHeaders => whole::<WithRequestId<BlockHeaders>>(alloc, how, bytes),
-        MessageKind::GetBlockBodies => whole::<WithRequestId<GetBlockBodies>>(alloc, how, bytes),
-        MessageKind::BlockBodies => whole::<WithRequestId<BlockBodies>>(alloc, how, bytes),
+        MessageKind::BlockHeaders => listed_with_number!(alloc, how, bytes, BlockHeaders),
+        MessageKind::GetBlockBodies => listed_with_number!(alloc, how, bytes, GetBlockBodies),
+        MessageKind::BlockBodies => listed_with_number!(alloc, how, bytes, BlockBodies),
         MessageKind::GetPooledTransactions => {
-            whole::<WithRequestId<GetPooledTransactions>>(alloc, how, bytes)
+            listed_with_number!(alloc, how, bytes, GetPooledTransactions)
         }
         MessageKind::PooledTransactions => {
-            whole::<WithRequestId<PooledTransactions>>(alloc, how, bytes)
+            listed_with_number!(alloc, how, bytes, PooledTransactions)
         }
-        MessageKind::GetReceipts => whole::<WithRequestId<GetReceipts>>(alloc, how, bytes),
-        MessageKind::Receipts68 => whole::<WithRequestId<Receipts>>(alloc, how, bytes),
-        MessageKind::Receipts69 => whole::<WithRequestId<Receipts69>>(alloc, how, bytes),
+        MessageKind::GetReceipts => listed_with_number!(alloc, how, bytes, GetReceipts),
+        MessageKind::Receipts68 => listed_with_number!(alloc, how, bytes, Receipts),
+        MessageKind::Receipts69 => listed_with_number!(alloc, how, bytes, Receipts69),
         _ => Err(DecoderError::Custom("a message without the number of a request")),
     }
 }

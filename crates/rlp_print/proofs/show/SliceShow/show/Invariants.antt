@@ -1,4 +1,4 @@
-use Rattle.std.proofs.Common.{◌≡◌, ◌+◌, ◌<◌, ◌^◌, length}
+use Rattle.std.proofs.Common.{◌≡◌, ◌+◌, ◌<◌, ◌^◌, length, map}
 use Rattle.rlp_print.specs.Value.{after, after_items, array, values_of}
 use Rattle.rlp_print.specs.declared.sink.Bracket.TheVariants.{Square}
 use Rattle.rlp_print.proofs.show.SliceShow.show.Given as goal
@@ -6,8 +6,8 @@ use Rattle.rlp_print.proofs.show.SliceShow.show.Given as goal
 -- the items that are left, after those so far, are all items
 abbrev pub invariant-loop-first : goal.invariant-loop-first
 invariant-loop-first g l = record {
-  left : after g.S.Sink.steps l.name (array (values_of g.T.Show.display.value l.self.0.now)) (g.S.Sink.seen l.fn.sink)
-      ≡ g.S.Sink.steps.finish Square (after_items g.S.Sink.steps l.name l.index (values_of g.T.Show.display.value l.rest) (g.S.Sink.seen l.sink));
+  left : after g.S.Sink.steps l.name (array (values_of g.T.Show.display.form.shown (map g.T.Show.display.seen l.self.0.now))) (g.S.Sink.seen l.fn.sink)
+      ≡ g.S.Sink.steps.finish Square (after_items g.S.Sink.steps l.name l.index (values_of g.T.Show.display.form.shown (map g.T.Show.display.seen l.rest)) (g.S.Sink.seen l.sink));
   few : l.index + length l.rest < 2 ^ 64;
 }
 

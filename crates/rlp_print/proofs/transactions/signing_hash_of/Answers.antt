@@ -1,0 +1,12 @@
+use Rattle.std.proofs.Common.{◌≡◌, IfOk, sym, subst, ◌∷◌}
+use Rattle.keccak.specs.Keccak.{keccak256}
+use Rattle.rlp.specs.{Format.Encoding.encoding, Format.Item.list_of}
+use Rattle.rlp_records.specs.declared.hash.Hash.{Hash}
+use Rattle.rlp_print.specs.Transactions.{signing_hash}
+use Rattle.rlp_print.proofs.transactions.signing_hash_of.Goals as goal
+
+pub returns : goal.returns
+unfolding signing_hash
+returns g c =
+    subst (λ xs. IfOk c.signing_hash.result (λ (h : Hash). h.0 ≡ keccak256 (g.T.Tagged.TAG ∷ encoding (list_of xs))))
+    (sym (g.met.T.Payload.laws.told.written c.args.payload.now)) c.signing_hash.ensures.hash
