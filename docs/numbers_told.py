@@ -12,7 +12,7 @@ from trusted import count as files_of_definitions
 
 WORDS = "zero one two three four five six seven eight nine ten eleven twelve thirteen fourteen fifteen sixteen seventeen eighteen nineteen twenty".split()
 # The files that say what the format is.
-FORMAT = ("Item", "WrittenHeader", "Encoding")
+FORMAT = ("Encoding",)
 
 
 def wrong_bodies(root):

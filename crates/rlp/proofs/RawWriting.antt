@@ -1,8 +1,7 @@
 -- What is written for a raw item.
 use Rattle.std.proofs.Common.{◌≡◌, ◌<◌, ◌^◌, ℕ, false, List, length, refl, sym, ap, ◌∙◌}
-use Rattle.rlp_format.specs.Format.Item.{Item, is_list, string, list}
-use Rattle.rlp_format.specs.Format.Encoding.{encoding}
-use Rattle.rlp_reading.specs.Format.Split.{begins_as_list}
+use Rattle.rlp_format.specs.Format.Encoding.{Item, is_list, string, list, encoding}
+use Rattle.rlp_reading.specs.Format.Framing.{begins_as_list}
 use Rattle.rlp_write.specs.Streams.Stream.{State, put, put_item}
 use Rattle.rlp_reading.specs.Values.RawItem.{IsRawItem, raw_item_of}
 use Rattle.rlp_reading.proofs.Lemmas.RawItems.{list_by, raw_encoding}

@@ -4,9 +4,7 @@ use Rattle.std.proofs.lemmas.Bool.{cond-true, cond-false}
 use Rattle.rlp_reading.specs.declared.error.DecoderError.{DecoderError}
 use Rattle.rlp_reading.specs.declared.error.DecoderError.TheVariants.{RlpExpectedToBeList}
 use Rattle.rlp_reading.specs.declared.header.PayloadInfo.{PayloadInfo}
-use Rattle.rlp_reading.specs.Format.Framing.{fault, framing, value}
-use Rattle.rlp_reading.specs.Format.Split.{begins_as_list, items, payload, payload_in, split}
-use Rattle.rlp_reading.specs.Format.Strict.{after_items, strict_list_fault}
+use Rattle.rlp_reading.specs.Format.Framing.{fault, framing, value, begins_as_list, items, payload, payload_in, split, after_items, strict_list_fault}
 use Rattle.rlp_reading.proofs.Lemmas.Numbered.{item_count-fault, item_count-told, payload-fault, told_begins}
 use Rattle.rlp_reading.specs.Views.View.{View, item_at, item_count, items_fault, list_fault}
 use Rattle.rlp_reading.proofs.Format.Splits.{length-split, split-nil}

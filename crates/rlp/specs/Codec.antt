@@ -2,7 +2,7 @@
 use Rattle.std.specs.Prelude.{ℕ, ◌≡◌, ◌==◌, ◌⊎◌, Bool, true, false, List, Option, Result}
 use Rattle.rlp_format.specs.declared.uint.Uint.{Uint}
 use Rattle.std.specs.Int.Digits.{number_from_digits}
-use Rattle.rlp_format.specs.Format.Item.{Item, is_list}
+use Rattle.rlp_format.specs.Format.Encoding.{Item, is_list}
 use Rattle.rlp_codec.specs.Form.{Form, Fault, FieldsForm, FieldsReading, Reading}
 use Rattle.rlp_codec.specs.Form as form
 use Rattle.rlp_codec.specs.Sums.{CasesForm}

@@ -14,8 +14,7 @@
 
 ghost use Rattle.std.specs.Prelude.{◌≡◌, IfOk, IfErr, IsOkAnd, IsTrue, ◌⊎◌, List, map, All};
 ghost use Rattle.std.specs.Vec.{vec_items};
-ghost use Rattle.rlp_format.specs.Format.Item.{list_of};
-ghost use Rattle.rlp_format.specs.Format.Encoding.{encoding};
+ghost use Rattle.rlp_format.specs.Format.Encoding.{list_of, encoding};
 ghost use Rattle.rlp_format.specs.Values.Value.{AreAlike};
 ghost use Rattle.rlp_reading.specs.declared.error.DecoderError.TheVariants.{OutOfMemory};
 ghost use Rattle.rlp_reading.specs.Views.View.{strict_view_of, view_of};

@@ -5,8 +5,7 @@ use Rattle.std.specs.Bool.{⊤}
 use Rattle.std.specs.List.{list_all, slice_get}
 use Rattle.std.proofs.lemmas.Bool.{cases_Bool, cond-true, cond-false}
 use Rattle.rlp_reading.specs.declared.error.DecoderError.{DecoderError}
-use Rattle.rlp_reading.specs.Format.Split.{begins_as_list, items, payload, split}
-use Rattle.rlp_reading.specs.Format.Strict.{strict_list_fault}
+use Rattle.rlp_reading.specs.Format.Framing.{begins_as_list, items, payload, split, strict_list_fault}
 use Rattle.rlp_reading.specs.Views.View.{View, item_count, item_views, items_fault, strict_view_of}
 use Rattle.rlp_reading.proofs.Lemmas.Numbered.{item_count-fault, item_count-told, length-views}
 use Rattle.rlp_reading.proofs.Lemmas.StrictReads.{counted_items}

@@ -2,9 +2,8 @@
 use Rattle.std.proofs.Common.{◌≡◌, ℕ, ◌+◌, ◌-◌, ◌<◌, ◌≤◌, ⊎_elim, List, [], ◌++◌, length, take, drop, refl, sym, ap, ◌∙◌, subst, arith}
 use Rattle.std.proofs.Common.{true, false, append-nil, append_assoc, length-append, take_at, drop_at}
 use Rattle.std.proofs.lemmas.Bool.{cases_Bool}
-use Rattle.rlp_format.specs.Format.Item.{Item, string, list, Items, no_items, item_and, item_depth, items_depth}
-use Rattle.rlp_format.specs.Format.Encoding.{encoding, is_low_byte, join_items}
-use Rattle.rlp_format.specs.Format.WrittenHeader.{written_header}
+use Rattle.rlp_format.specs.Format.Encoding.{Item, string, list, Items, no_items, item_and, item_depth, items_depth, encoding, is_low_byte, join_items}
+use Rattle.rlp_format.specs.Format.Encoding.{written_header}
 use Rattle.rlp_c.specs.declared.item.RlpItem.{RlpItem}
 use Rattle.rlp_reading.specs.Format.Flat.{flat_item, flat_rows, header_length}
 use Rattle.rlp_c.specs.Flat.{flat, flat_items, row_of}

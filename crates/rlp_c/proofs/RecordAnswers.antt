@@ -5,10 +5,9 @@ use Rattle.std.specs.Bool.{⊤}
 use Rattle.std.proofs.lemmas.Bool.{cond-true, cond-false}
 use Rattle.std.proofs.lemmas.Bool.Decides.{nat_tests}
 use Rattle.std.proofs.lemmas.List.{take_all}
-use Rattle.rlp_format.specs.Format.Item.{Item, list_of}
-use Rattle.rlp_format.specs.Format.Encoding.{IsSized, encoding}
+use Rattle.rlp_format.specs.Format.Encoding.{Item, list_of, IsSized, encoding}
 use Rattle.rlp_format.proofs.Lemmas.Encodings.{listed_from}
-use Rattle.rlp_reading.specs.Format.Split.{begins_as_list}
+use Rattle.rlp_reading.specs.Format.Framing.{begins_as_list}
 use Rattle.rlp_reading.specs.Views.View.{View, strict_view_of}
 use Rattle.rlp_reading.proofs.Lemmas.Views.{list_shape}
 use Rattle.rlp_reading.proofs.Lemmas.WholeLists.{strict_items, whole_sized}

@@ -3,9 +3,7 @@ use Rattle.std.proofs.Common.{◌≡◌, ℕ, ◌+◌, ◌-◌, ◌^◌, ◌<◌
 use Rattle.std.proofs.Common.{subst, arith, Ok, Some, None, append-nil, append_assoc, length-append}
 use Rattle.rlp_reading.specs.declared.error.DecoderError.{DecoderError}
 use Rattle.rlp_reading.specs.declared.header.PayloadInfo.{PayloadInfo}
-use Rattle.rlp_reading.specs.Format.Framing.{IsFramedItem, fault, framing, value}
-use Rattle.rlp_reading.specs.Format.Split.{begins_as_list, split}
-use Rattle.rlp_reading.specs.Format.Strict.{after_items, fault_of_some, strict_fault, strict_list_fault}
+use Rattle.rlp_reading.specs.Format.Framing.{IsFramedItem, fault, framing, value, begins_as_list, split, after_items, fault_of_some, strict_fault, strict_list_fault}
 use Rattle.rlp_reading.proofs.Format.Splits.{split-nil}
 use Rattle.rlp_reading.proofs.Format.StrictLists.{after_items-next, after_items-nil, after_items-none, fault_of_some-some, strict_whole, value-items}
 use Rattle.rlp_c.specs.declared.item.RlpItem.{RlpItem}

@@ -3,7 +3,7 @@ use Rattle.std.proofs.Common.{◌≡◌, ℕ, ◌+◌, ◌-◌, ◌^◌, ◌<◌
 use Rattle.std.proofs.Common.{append-nil, append_assoc, length-append}
 use Rattle.std.proofs.lemmas.Grind.{flat_map-append}
 use Rattle.std.proofs.lemmas.List.{drop-drop, drop_at, length-take-le, take_at, take_more}
-use Rattle.rlp_reading.specs.Format.Split.{items, split}
+use Rattle.rlp_reading.specs.Format.Framing.{items, split}
 use Rattle.rlp_reading.specs.Views.Text.{hex, hex_pair, separated, text}
 use Rattle.rlp_reading.proofs.Views.Printing.{done-more, separator_after, separator_after-more, texts-more}
 use Rattle.rlp_c.specs.Written.{IsPut}

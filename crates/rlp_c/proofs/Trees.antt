@@ -2,9 +2,7 @@
 use Rattle.std.proofs.Common.{◌≡◌, ◌≢◌, ℕ, zero, suc, ◌+◌, ◌<◌, ◌≤◌, ⊎_elim, false, ltb, ◌==◌, List, [], ◌∷◌, ◌++◌, length, refl, sym, ap, ◌∙◌, arith}
 use Rattle.std.proofs.Common.{append-nil, append_assoc, length-append, lt-ltb, le-ltb, eq-eqb, ne_eqb}
 use Rattle.std.proofs.lemmas.Bool.{cases_eq, cases_lt, cond-true, cond-false}
-use Rattle.rlp_format.specs.Format.Item.{Item, string, list, Items, no_items, item_and}
-use Rattle.rlp_format.specs.Format.Encoding.{encoding, is_low_byte, join_items, string_encoding}
-use Rattle.rlp_format.specs.Format.WrittenHeader.{written_header}
+use Rattle.rlp_format.specs.Format.Encoding.{Item, string, list, Items, no_items, item_and, encoding, is_low_byte, join_items, string_encoding, written_header}
 use Rattle.rlp_format.proofs.Lemmas.Headers.{written_header_long, written_header_short}
 use Rattle.rlp_c.specs.declared.item.RlpItem.{RlpItem}
 use Rattle.rlp_c.specs.Rows.{payload_at}

@@ -2,10 +2,9 @@
 use Rattle.std.specs.Prelude.{ℕ, ◌≡◌, ◌<◌, ◌≤◌, List, ◌++◌, length, drop, Some}
 use Rattle.rlp_reading.specs.declared.flat.FlatItem.{FlatItem}
 use Rattle.rlp_reading.specs.declared.flat.TreeFault.{TreeFault}
-use Rattle.rlp_format.specs.Format.Item.{Item, Items, item_depth}
-use Rattle.rlp_format.specs.Format.Encoding.{encoding}
+use Rattle.rlp_format.specs.Format.Encoding.{Item, Items, item_depth, encoding}
 use Rattle.rlp_reading.specs.Format.Flat.{flat_rows, flat_rows_inside}
-use Rattle.rlp_reading.specs.Format.Strict.{IsCanonicalWithin}
+use Rattle.rlp_reading.specs.Format.Framing.{IsCanonicalWithin}
 use Rattle.rlp_reading.specs.Format.TreeFaults.{tree_fault}
 use Rattle.rlp_format.specs.Values.Value.{bit}
 use Rattle.rlp_c.specs.declared.item.RlpItem.{RlpItem}

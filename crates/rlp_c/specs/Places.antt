@@ -1,7 +1,6 @@
 -- Where the fields of a transaction and of a header are, by the codecs of `rlp_ethereum`.
 use Rattle.std.specs.Prelude.{ℕ, ◌≡◌, ◌⊎◌, List, [], map}
-use Rattle.rlp_format.specs.Format.Item.{Item, list, listed, string}
-use Rattle.rlp_format.specs.Format.Encoding.{encoding}
+use Rattle.rlp_format.specs.Format.Encoding.{Item, list, listed, string, encoding}
 use Rattle.rlp_transactions.specs.declared.transaction.Transaction.{Transaction}
 use Rattle.rlp_transactions.specs.declared.transaction.Transaction.TheVariants.{AccessList, Blob, FeeMarket, Legacy, SetCode}
 use Rattle.rlp_transactions.specs.AccessListTransaction.{signed_access_list_transaction}

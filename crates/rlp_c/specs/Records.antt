@@ -1,6 +1,6 @@
 -- The answers for transactions and headers.
 use Rattle.std.specs.Prelude.{ℕ, ◌≡◌, ◌+◌, ◌&&◌, ◌==◌, if◌then◌else◌, nat_lt, true, false, ⊤, List, [], ◌∷◌, length, Option, Some, None, Result, Ok, Err}
-use Rattle.rlp_reading.specs.Format.Split.{begins_as_list, items}
+use Rattle.rlp_reading.specs.Format.Framing.{begins_as_list, items}
 use Rattle.rlp_codec.specs.Form.{Fault, custom, is_too_short}
 use Rattle.rlp_records.specs.Alone.{unknown_type}
 use Rattle.rlp_transactions.specs.Transaction.{transaction_alone}

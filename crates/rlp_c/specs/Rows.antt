@@ -2,8 +2,7 @@
 use Rattle.std.specs.Prelude.{ℕ, ◌≡◌, ◌+◌, ◌<◌, ◌≤◌, ◌⊎◌, Bool, false, List, [], ◌∷◌, ◌++◌, length, take, drop, Option, Some, None, Result, Ok, Err, MatchResult}
 use Rattle.rlp_reading.specs.declared.error.DecoderError.{DecoderError}
 use Rattle.rlp_reading.specs.declared.header.PayloadInfo.{PayloadInfo}
-use Rattle.rlp_reading.specs.Format.Framing.{framing}
-use Rattle.rlp_reading.specs.Format.Split.{begins_as_list, items}
+use Rattle.rlp_reading.specs.Format.Framing.{framing, begins_as_list, items}
 use Rattle.rlp_format.specs.Values.Value.{bit}
 use Rattle.rlp_c.specs.Status.{fault_status}
 use Rattle.rlp_c.specs.declared.item.RlpItem.{RlpItem}

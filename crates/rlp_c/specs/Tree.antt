@@ -1,8 +1,6 @@
 -- The tree that rows describe.
 use Rattle.std.specs.Prelude.{ℕ, ◌≡◌, ◌+◌, ◌≤◌, if◌then◌else◌, ◌==◌, nat_lt, List, [], ◌∷◌, length}
-use Rattle.rlp_format.specs.Format.Item.{Item, string, list, Items, no_items, item_and}
-use Rattle.rlp_format.specs.Format.Encoding.{string_encoding}
-use Rattle.rlp_format.specs.Format.WrittenHeader.{written_header}
+use Rattle.rlp_format.specs.Format.Encoding.{Item, string, list, Items, no_items, item_and, string_encoding, written_header}
 use Rattle.rlp_c.specs.declared.item.RlpItem.{RlpItem}
 use Rattle.rlp_c.specs.Rows.{payload_at}
 

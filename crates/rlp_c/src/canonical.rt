@@ -1,7 +1,7 @@
 //! Whether bytes are canonical.
 
 ghost use Rattle.std.specs.Prelude.{◌≡◌, ◌↔◌, IsTrue, min};
-ghost use Rattle.rlp_reading.specs.Format.Strict.{IsCanonicalWithin};
+ghost use Rattle.rlp_reading.specs.Format.Framing.{IsCanonicalWithin};
 
 use rlp_reading::walking::is_canonical;
 

@@ -1,9 +1,7 @@
 //! Writing into the caller's array.
 
 ghost use Rattle.std.specs.Prelude.{◌≡◌, ◌++◌, if◌then◌else◌};
-ghost use Rattle.rlp_format.specs.Format.Item.{string};
-ghost use Rattle.rlp_format.specs.Format.Encoding.{encoding, is_low_byte};
-ghost use Rattle.rlp_format.specs.Format.WrittenHeader.{written_header};
+ghost use Rattle.rlp_format.specs.Format.Encoding.{string, encoding, is_low_byte, written_header};
 ghost use Rattle.rlp_format.specs.Values.Value.{number_item};
 ghost use Rattle.rlp_c.specs.Written.{IsWritten};
 

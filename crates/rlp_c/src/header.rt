@@ -1,8 +1,7 @@
 //! The header of the item that bytes begin with.
 
 ghost use Rattle.std.specs.Prelude.{◌≡◌, MatchResult};
-ghost use Rattle.rlp_reading.specs.Format.Framing.{framing};
-ghost use Rattle.rlp_reading.specs.Format.Split.{begins_as_list};
+ghost use Rattle.rlp_reading.specs.Format.Framing.{framing, begins_as_list};
 ghost use Rattle.rlp_c.specs.Rows.{row};
 ghost use Rattle.rlp_c.specs.Status.{fault_status};
 

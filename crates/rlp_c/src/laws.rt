@@ -1,8 +1,7 @@
 //! Laws over the definitions. These functions have no effect: each contract is the law.
 
 ghost use Rattle.std.specs.Prelude.{ℕ, ◌≡◌, ◌≤◌};
-ghost use Rattle.rlp_format.specs.Format.Item.{Item, item_depth};
-ghost use Rattle.rlp_format.specs.Format.Encoding.{encoding};
+ghost use Rattle.rlp_format.specs.Format.Encoding.{Item, item_depth, encoding};
 ghost use Rattle.rlp_c.specs.Flat.{flat};
 ghost use Rattle.rlp_c.specs.Tree.{DescribeTree, tree_of};
 

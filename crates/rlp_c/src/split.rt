@@ -1,8 +1,7 @@
 //! The items of one list as rows.
 
 ghost use Rattle.std.specs.Prelude.{◌≡◌, ◌+◌, ◌<◌, ◌^◌, length, None, Some, IfOk, MatchResult};
-ghost use Rattle.rlp_reading.specs.Format.Split.{split};
-ghost use Rattle.rlp_reading.specs.Format.Strict.{after_items, fault_of_some, strict_list_fault};
+ghost use Rattle.rlp_reading.specs.Format.Framing.{split, after_items, fault_of_some, strict_list_fault};
 ghost use Rattle.rlp_reading.specs.Format.Walk.{Extends};
 ghost use Rattle.rlp_c.specs.Rows.{IsItemized, rows_at};
 

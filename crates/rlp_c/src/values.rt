@@ -1,8 +1,8 @@
 //! Values that are read from one string.
 
 ghost use Rattle.std.specs.Prelude.{◌≡◌};
-ghost use Rattle.rlp_reading.specs.Format.StringReading.{IsString};
-ghost use Rattle.rlp_format.specs.Format.WrittenHeader.{big_endian};
+ghost use Rattle.rlp_reading.specs.Format.Framing.{IsString};
+ghost use Rattle.rlp_format.specs.Format.Encoding.{big_endian};
 ghost use Rattle.rlp_codec.specs.Form.{map_value, string_of};
 ghost use Rattle.rlp.specs.Codec.{number};
 ghost use Rattle.rlp_c.specs.Answers.{Answers, view_as};

@@ -4,9 +4,7 @@ use Rattle.std.proofs.Common.{Result, Ok, Err, IfOk, IfErr, IsOkAnd, append-nil}
 use Rattle.std.specs.List.{All}
 use Rattle.rlp_reading.specs.declared.error.DecoderError.{DecoderError}
 use Rattle.rlp_reading.specs.declared.error.DecoderError.TheVariants.{OutOfMemory}
-use Rattle.rlp_format.specs.Format.Item.{list_of}
-use Rattle.rlp_format.specs.Format.WrittenHeader.{AreBytes}
-use Rattle.rlp_format.specs.Format.Encoding.{BeginsWith, IsSized, encoding}
+use Rattle.rlp_format.specs.Format.Encoding.{list_of, AreBytes, BeginsWith, IsSized, encoding}
 use Rattle.rlp_format.specs.Values.Value.{AreAlike}
 use Rattle.rlp_reading.specs.Values.RoundTrip.{AlwaysReadsBack, AlwaysReadsStrictly}
 use Rattle.rlp_reading.specs.Values.RoundTrip as words

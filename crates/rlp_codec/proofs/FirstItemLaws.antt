@@ -1,9 +1,7 @@
 -- Types that are read from the whole first item of a view are read back, and from nothing else.
 use Rattle.std.proofs.Common.{◌≡◌, ℕ, ◌^◌, ◌<◌, Bool, true, false, List, length, Result, Ok, Err, refl, ap, ◌∙◌, subst}
 use Rattle.std.proofs.lemmas.List.Elements.{All-from_recursion, recursion_from_All}
-use Rattle.rlp_format.specs.Format.Encoding.{IsSized, encoding}
-use Rattle.rlp_format.specs.Format.Item.{Item}
-use Rattle.rlp_format.specs.Format.WrittenHeader.{AreBytes}
+use Rattle.rlp_format.specs.Format.Encoding.{IsSized, encoding, Item, AreBytes}
 use Rattle.rlp_reading.specs.declared.error.DecoderError.{DecoderError}
 use Rattle.rlp_reading.proofs.Lemmas.OneReading.{front_bytes}
 use Rattle.rlp_reading.proofs.Lemmas.RawItems.{view_frame-held}

@@ -4,8 +4,7 @@ use Rattle.std.proofs.Math.Nat.{mod-eq_of_lt}
 use Rattle.std.proofs.lemmas.List.{length-map, map-append}
 use Rattle.std.proofs.lemmas.List.Elements.{All-from_recursion, recursion_from_All}
 use Rattle.std.specs.List.{AllByRecursion}
-use Rattle.rlp_format.specs.Format.Encoding.{IsSized, encoding}
-use Rattle.rlp_format.specs.Format.Item.{Item}
+use Rattle.rlp_format.specs.Format.Encoding.{IsSized, encoding, Item}
 use Rattle.rlp_format.specs.Values.Value.{all_items}
 use Rattle.rlp_reading.proofs.Lemmas.Groups.{groups_counted, groups_right}
 use Rattle.rlp_reading.specs.Views.View.{View}

@@ -6,13 +6,10 @@ use Rattle.std.proofs.lemmas.List.Elements.{All-from_recursion, recursion_from_A
 use Rattle.std.proofs.lemmas.List.{map-append}
 use Rattle.std.proofs.lemmas.Simd.{map-map}
 use Rattle.rlp_reading.specs.declared.error.DecoderError.{DecoderError}
-use Rattle.rlp_format.specs.Format.Item.{Item, list_of}
-use Rattle.rlp_format.specs.Format.WrittenHeader.{AreBytes}
-use Rattle.rlp_format.specs.Format.Encoding.{encoding, join, IsSized}
+use Rattle.rlp_format.specs.Format.Encoding.{Item, list_of, AreBytes, encoding, join, IsSized}
 use Rattle.rlp_format.specs.Values.Value.{option_item}
 use Rattle.rlp_format.proofs.Lemmas.Encodings.{encoding_list, front_sized, small_payload}
-use Rattle.rlp_reading.specs.Format.Split.{items}
-use Rattle.rlp_reading.specs.Format.Strict.{strict_list_fault}
+use Rattle.rlp_reading.specs.Format.Framing.{items, strict_list_fault}
 use Rattle.rlp_reading.specs.Views.View.{View, Holds, item_count, item_views, items_fault, strict_view_of, view_of}
 use Rattle.rlp_reading.proofs.Lemmas.Numbered.{item_count-fault, item_count-list, item_count-told, item_views-list}
 use Rattle.rlp_reading.proofs.Lemmas.StrictLists.{IsPart, item_parts}

@@ -4,13 +4,11 @@ use Rattle.std.proofs.Common.{arith, append-nil, length-append, take_all, take-a
 use Rattle.std.specs.Str.{bytes_eq}
 use Rattle.std.proofs.lemmas.Bool.{cases_lt, cond-true, cond-false}
 use Rattle.std.proofs.lemmas.Slice.Eq.{bytes_eq-Decides}
-use Rattle.rlp_format.specs.Format.Encoding.{encoding}
-use Rattle.rlp_format.specs.Format.Item.{item_depth}
+use Rattle.rlp_format.specs.Format.Encoding.{encoding, item_depth}
 use Rattle.rlp_format.proofs.Lemmas.Encodings.{front_sized}
 use Rattle.rlp_reading.specs.declared.error.DecoderError.{DecoderError}
 use Rattle.rlp_reading.specs.declared.header.PayloadInfo.{PayloadInfo}
-use Rattle.rlp_reading.specs.Format.Framing.{frame, framing, map_ok, total_len}
-use Rattle.rlp_reading.specs.Format.Strict.{IsCanonicalWithin, strict_fault, unless}
+use Rattle.rlp_reading.specs.Format.Framing.{frame, framing, map_ok, total_len, IsCanonicalWithin, strict_fault, unless}
 use Rattle.rlp_reading.specs.Values.RawItem.{IsRawItem, deepest_raw_item, raw_item_of, view_frame}
 use Rattle.rlp_reading.specs.Views.Depth.{depth}
 use Rattle.rlp_reading.specs.Views.View.{Holds}

@@ -1,14 +1,13 @@
 -- Each view gives one value or has one fault.
 use Rattle.std.proofs.Common.{◌≡◌, ℕ, zero, suc, ◌^◌, ◌<◌, ◌⊎◌, inl, inr, List, [], ◌∷◌, Bool, length, map, refl, sym, ap, subst, ◌∙◌, Option, Some, None, option_map, Result, Ok, Err}
-use Rattle.rlp_format.specs.Format.Item.{Item, list_of}
-use Rattle.rlp_format.specs.Format.WrittenHeader.{AreBytes}
+use Rattle.rlp_format.specs.Format.Encoding.{Item, list_of, AreBytes}
 use Rattle.rlp_format.specs.Values.Value.{option_item}
 use Rattle.rlp_reading.specs.declared.error.DecoderError.{DecoderError}
 use Rattle.rlp_reading.specs.declared.error.DecoderError.TheVariants.{RlpIsTooBig, RlpIsTooShort, RlpExpectedToBeList, RlpExpectedToBeData}
 use Rattle.rlp_reading.specs.declared.error.DecoderError.TheVariants.{RlpIncorrectListLen, RlpDataLenWithZeroPrefix, RlpListLenWithZeroPrefix}
 use Rattle.rlp_reading.specs.declared.error.DecoderError.TheVariants.{RlpInvalidIndirection, RlpInconsistentLengthAndData, RlpInvalidLength, Custom}
 use Rattle.rlp_reading.specs.declared.error.DecoderError.TheVariants.{OutOfMemory}
-use Rattle.rlp_reading.specs.Format.Split.{items}
+use Rattle.rlp_reading.specs.Format.Framing.{items}
 use Rattle.rlp_reading.proofs.Lemmas.Numbered.{item_at-slice_get}
 use Rattle.rlp_reading.proofs.Lemmas.StrictLists.{IsPart, item_parts}
 use Rattle.std.specs.List.{AllByRecursion, slice_get}

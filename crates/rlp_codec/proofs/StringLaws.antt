@@ -9,13 +9,11 @@ use Rattle.std.proofs.lemmas.Bool.{cases_Bool, cond-true, cond-false, eqb-false}
 use Rattle.std.proofs.lemmas.Str.{IsUtf8-from_is_utf8, is_utf8-from_IsUtf8}
 use Rattle.std.proofs.lemmas.List.Elements.{All-from_recursion, recursion_from_All}
 use Rattle.rlp_reading.specs.declared.error.DecoderError.{DecoderError}
-use Rattle.rlp_format.specs.Format.Item.{string}
-use Rattle.rlp_format.specs.Format.WrittenHeader.{AreBytes, big_endian, written_header}
-use Rattle.rlp_format.specs.Format.Encoding.{encoding, string_encoding, is_low_byte}
+use Rattle.rlp_format.specs.Format.Encoding.{string, AreBytes, big_endian, written_header, encoding, string_encoding, is_low_byte}
 use Rattle.rlp_format.specs.Values.Value.{FitsBytes, bit}
 use Rattle.rlp_format.proofs.Lemmas.Digits.{big_endian_first, big_endian_value, bytes_held, big_endian_zero, digits_fit, digits_again}
 use Rattle.rlp_format.proofs.Lemmas.Encodings.{front_sized}
-use Rattle.rlp_reading.specs.Format.StringReading.{IsString}
+use Rattle.rlp_reading.specs.Format.Framing.{IsString}
 use Rattle.rlp_reading.specs.Views.View.{View, HoldsString, view_string}
 use Rattle.rlp_reading.specs.Values.ValueReading.{GivesNumber}
 use Rattle.rlp_reading.proofs.Lemmas.OneReading.{front_bytes, back_bytes, few_digits}

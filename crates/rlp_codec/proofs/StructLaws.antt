@@ -3,8 +3,7 @@ use Rattle.std.proofs.Common.{Bool, Err, List, Ok, Result, [], ap, append-nil, a
 use Rattle.std.proofs.lemmas.Bool.{cond-false, cond-true, lt-leb}
 use Rattle.std.proofs.lemmas.List.{length-map}
 use Rattle.std.specs.List.{AllByRecursion}
-use Rattle.rlp_format.specs.Format.Encoding.{IsSized, encoding}
-use Rattle.rlp_format.specs.Format.Item.{list_of}
+use Rattle.rlp_format.specs.Format.Encoding.{IsSized, encoding, list_of}
 use Rattle.rlp_reading.specs.Views.View.{View, strict_view_of}
 use Rattle.rlp_codec.proofs.ListLaws.{not_faulty, goes_on, is_mapped, items_held, items_only, items_sized}
 use Rattle.rlp_codec.specs.Form.{Answer, Fault, FieldsForm, Path, Taken, and_then, go_on, here, incorrect_list_len, items_of, map_fault, map_value, path_by, read_struct, struct_of, all_taken}

@@ -5,11 +5,8 @@ use Rattle.std.proofs.lemmas.Bool.{cases_lt, cond-true, cond-false, lt-leb}
 use Rattle.std.proofs.lemmas.Bool.{eqb-true}
 use Rattle.std.proofs.lemmas.List.Elements.{All-from_recursion, recursion_from_All}
 use Rattle.rlp_reading.specs.declared.error.DecoderError.TheVariants.{RlpExpectedToBeData}
-use Rattle.rlp_format.specs.Format.Item.{Item, is_list, list, string}
-use Rattle.rlp_format.specs.Format.WrittenHeader.{AreBytes}
-use Rattle.rlp_format.specs.Format.Encoding.{BeginsWith, IsSized, encoding}
-use Rattle.rlp_reading.specs.Format.Split.{begins_as_list}
-use Rattle.rlp_reading.specs.Format.StringReading.{IsString}
+use Rattle.rlp_format.specs.Format.Encoding.{Item, is_list, list, string, AreBytes, BeginsWith, IsSized, encoding}
+use Rattle.rlp_reading.specs.Format.Framing.{begins_as_list, IsString}
 use Rattle.rlp_reading.specs.Views.View.{View, Holds, strict_view_of}
 use Rattle.rlp_reading.specs.Values.Sums.{OnSum, sum_item}
 use Rattle.rlp_reading.proofs.Lemmas.Strings.{string_list, string_only}

@@ -1,6 +1,6 @@
 -- Types that are read from the whole first item of a view.
 use Rattle.std.specs.Prelude.{ℕ, List, Bool}
-use Rattle.rlp_format.specs.Format.Item.{Item}
+use Rattle.rlp_format.specs.Format.Encoding.{Item}
 use Rattle.rlp_reading.specs.Values.RawItem.{view_frame}
 use Rattle.rlp_codec.specs.Form.{Answer, Fault, Form, go_on, here, seen_fault}
 

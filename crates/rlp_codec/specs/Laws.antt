@@ -1,9 +1,7 @@
 -- What codecs promise.
 use Rattle.std.specs.Prelude.{ℕ, ◌≡◌, ◌^◌, ◌<◌, ◌⊎◌, Bool, true, false, List, [], ◌++◌, length, map, Ok}
 use Rattle.std.specs.List.{AllByRecursion}
-use Rattle.rlp_format.specs.Format.Item.{Item}
-use Rattle.rlp_format.specs.Format.WrittenHeader.{AreBytes}
-use Rattle.rlp_format.specs.Format.Encoding.{IsSized, encoding}
+use Rattle.rlp_format.specs.Format.Encoding.{Item, AreBytes, IsSized, encoding}
 use Rattle.rlp_reading.specs.Views.View.{View, Holds, strict_view_of}
 use Rattle.rlp_reading.specs.declared.error.DecoderError.{DecoderError}
 use Rattle.rlp_reading.specs.Values.ValueReading.{IsSameFault}

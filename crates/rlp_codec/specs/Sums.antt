@@ -1,10 +1,9 @@
 -- Values of several types, told apart by their kind of item or by a tag in front of a payload.
 use Rattle.std.specs.Prelude.{ℕ, ◌⊎◌, ◌==◌, ◌||◌, Bool, true, false, if◌then◌else◌, List, [], ◌∷◌, Err}
 use Rattle.std.proofs.Common.{inl, inr}
-use Rattle.rlp_format.specs.Format.Item.{Item, list_of, string}
-use Rattle.rlp_format.specs.Format.Encoding.{encoding}
+use Rattle.rlp_format.specs.Format.Encoding.{Item, list_of, string, encoding}
 use Rattle.rlp_format.specs.Values.Value.{FitsBytes, number_item}
-use Rattle.rlp_reading.specs.Format.Split.{begins_as_list}
+use Rattle.rlp_reading.specs.Format.Framing.{begins_as_list}
 use Rattle.rlp_reading.specs.Values.Sums.{OnSum, sum_item, sum_tag}
 use Rattle.rlp_reading.specs.Views.View.{View, strict_view_of}
 use Rattle.rlp_codec.specs.Form.{Answer, Form, Fault, custom, go_on, here, incorrect_list_len, is_too_short, items_of, map_answer, number, string_of, within}

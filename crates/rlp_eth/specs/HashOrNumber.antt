@@ -4,7 +4,7 @@ use Rattle.std.proofs.Common.{◌^◌, ◌<◌, inl, inr, ap, arith, eq-eqb, ne_
 use Rattle.std.proofs.lemmas.Bool.{cond-true, cond-false, eqb-true}
 use Rattle.rlp.specs.Codec.{Codec, string_type}
 use Rattle.rlp.specs.Form.{Fault, map_value, number_of}
-use Rattle.rlp.specs.Format.WrittenHeader.{AreBytes, big_endian}
+use Rattle.rlp.specs.Format.Encoding.{AreBytes, big_endian}
 use Rattle.rlp_reading.proofs.Lemmas.OneReading.{few_digits}
 use Rattle.rlp.specs.Values.Value.{FitsBytes}
 use Rattle.rlp_codec.proofs.ListLaws.{is_mapped}

@@ -9,7 +9,7 @@ pub struct HalfWritten;
 
 impl Encodable for HalfWritten {
     ghost use Rattle.std.specs.Prelude.{⊤, []};
-    ghost use Rattle.rlp.specs.Format.Item.{string};
+    ghost use Rattle.rlp.specs.Format.Encoding.{string};
 
     ghost item = { λ v. string [] };
 

@@ -2,7 +2,7 @@
 
 ghost use Rattle.std.specs.Prelude.{[], ◌∷◌, ⊤, All, map};
 ghost use Rattle.std.specs.Vec.{vec_items};
-ghost use Rattle.rlp.specs.Format.Item.{list_of};
+ghost use Rattle.rlp.specs.Format.Encoding.{list_of};
 ghost use Rattle.rlp.specs.Codec.{codec_of};
 ghost use Rattle.rlp.specs.Laws.{form_of};
 ghost use Rattle.rlp_examples.specs.Nest.{nest, nest_read_back, nest_reading};

@@ -5,7 +5,7 @@
 ghost use Rattle.std.specs.Prelude.{◌≡◌, ◌+◌, ◌≤◌, length, drop};
 ghost use Rattle.std.specs.Int.{w64, w128, to_be_bytes};
 ghost use Rattle.std.specs.Int.Digits.{number_from_digits};
-ghost use Rattle.rlp_format.specs.Format.WrittenHeader.{big_endian};
+ghost use Rattle.rlp_format.specs.Format.Encoding.{big_endian};
 
 use std::marker::Model;
 

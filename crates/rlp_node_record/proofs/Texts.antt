@@ -5,8 +5,7 @@ use Rattle.base64.specs.GeneralPurpose.{IsBytes, decode_of}
 use Rattle.base64.proofs.EngineFacts.{decode_of-encode_of}
 use Rattle.rlp.specs.DecoderError.{DecoderError}
 use Rattle.rlp.specs.DecoderError.TheVariants.{OutOfMemory}
-use Rattle.rlp.specs.Format.Encoding.{encoding}
-use Rattle.rlp.specs.Format.WrittenHeader.{AreBytes}
+use Rattle.rlp.specs.Format.Encoding.{encoding, AreBytes}
 use Rattle.rlp_reading.proofs.Lemmas.Reading.{bytes_held}
 use Rattle.rlp.specs.Views.View.{strict_view_of}
 use Rattle.rlp.specs.Form.{Faults, custom, fault_of}

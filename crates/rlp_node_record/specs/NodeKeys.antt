@@ -4,8 +4,7 @@ use Rattle.std.specs.Str.{bytes_eq}
 use Rattle.std.specs.Vec.{vec_items}
 use Rattle.rlp.specs.DecoderError.{DecoderError}
 use Rattle.rlp.specs.DecoderError.TheVariants.{OutOfMemory}
-use Rattle.rlp.specs.Format.Item.{Item, string}
-use Rattle.rlp.specs.Format.Encoding.{encoding}
+use Rattle.rlp.specs.Format.Encoding.{Item, string, encoding}
 use Rattle.rlp.specs.Values.Value.{FitsBytes, number_item}
 use Rattle.rlp.specs.Views.View.{strict_view_of}
 use Rattle.rlp.specs.Form.{Faults, Gives, Reading}

@@ -5,8 +5,7 @@ use Rattle.std.proofs.lemmas.Bool.{cond-true, cond-false, lt-ltb}
 use Rattle.std.specs.Str.{bytes_eq}
 use Rattle.std.specs.Bool.{⊤}
 use Rattle.std.specs.Vec.{vec_items}
-use Rattle.rlp.specs.Format.Encoding.{encoding}
-use Rattle.rlp.specs.Format.WrittenHeader.{AreBytes}
+use Rattle.rlp.specs.Format.Encoding.{encoding, AreBytes}
 use Rattle.rlp.specs.Views.View.{strict_view_of}
 use Rattle.rlp_codec.specs.FirstItems.{item_type}
 use Rattle.rlp.specs.Form.{Answer, Fault, and_then, custom, is_too_big, map_value}

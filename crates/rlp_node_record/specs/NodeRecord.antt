@@ -3,8 +3,7 @@ use Rattle.std.specs.Prelude.{ℕ, ◌≤◌, ◌&&◌, ⊤, nat_lt, if◌then�
 use Rattle.std.specs.Cmp.Lexicographic.{slice_cmp}
 use Rattle.std.specs.Ordering.{is_lt, nat_cmp}
 use Rattle.std.specs.Vec.{vec_items}
-use Rattle.rlp.specs.Format.Encoding.{encoding}
-use Rattle.rlp.specs.Format.WrittenHeader.{AreBytes}
+use Rattle.rlp.specs.Format.Encoding.{encoding, AreBytes}
 use Rattle.rlp.specs.Views.View.{strict_view_of}
 use Rattle.rlp.specs.Form.{Answer, Fault, and_then, custom, go_on, here, is_too_big, map_value}
 use Rattle.rlp_node_record.specs.NodeFields.{node_fields}

@@ -2,8 +2,7 @@
 use Rattle.std.proofs.Common.{◌≡◌, ℕ, ◌^◌, ◌<◌, ◌≤◌, ◌+◌, ◌-◌, Bool, true, false, List, ◌++◌, length, drop, drop_at, ltb, le-ltb, ltb-false, refl, ap, sym, ◌∙◌, Ok, Err, subst, arith}
 use Rattle.std.proofs.lemmas.Bool.{cond-true, cond-false}
 use Rattle.rlp.specs.DecoderError.{DecoderError}
-use Rattle.rlp.specs.Format.Encoding.{BeginsWith, encoding}
-use Rattle.rlp.specs.Format.WrittenHeader.{AreBytes, big_endian}
+use Rattle.rlp.specs.Format.Encoding.{BeginsWith, encoding, AreBytes, big_endian}
 use Rattle.rlp.specs.Form.{Gives, and_then, custom, number}
 use Rattle.rlp_format.proofs.Lemmas.Encodings.{front_sized, prefix_free}
 use Rattle.rlp_format.proofs.Lemmas.Digits.{big_endian_same}

@@ -6,8 +6,7 @@ use Rattle.rlp.specs.Codec.{Cases}
 use Rattle.rlp.specs.DecoderError.{DecoderError}
 use Rattle.rlp.specs.DecoderError.TheVariants.{OutOfMemory}
 use Rattle.rlp.specs.Form.{and_then, fault_of}
-use Rattle.rlp.specs.Format.Encoding.{IsSized, encoding}
-use Rattle.rlp.specs.Format.WrittenHeader.{AreBytes}
+use Rattle.rlp.specs.Format.Encoding.{IsSized, encoding, AreBytes}
 use Rattle.rlp_reading.proofs.Lemmas.OneReading.{back_bytes}
 use Rattle.rlp_reading.proofs.Lemmas.Reading.{Bytes}
 use Rattle.rlp.specs.Values.Sums.{sum_tag}

@@ -1,7 +1,7 @@
 -- Lists are taken item by item, and items by what their bytes begin with.
 use Rattle.std.proofs.Common.{◌≡◌, ◌≢◌, ◌<◌, ◌-◌, ℕ, zero, suc, Bool, true, false, List, [], ◌∷◌, length, map, refl, ap, ◌∙◌, arith, Ok, Err}
 use Rattle.rlp.specs.Views.View.{item_views, view_of}
-use Rattle.rlp.specs.{DecoderError.DecoderError, Format.StringReading.read_string, Values.RawItem.string_or_none}
+use Rattle.rlp.specs.{DecoderError.DecoderError, Format.Framing.read_string, Values.RawItem.string_or_none}
 use Rattle.rlp_print.specs.Items.{item_shown, items_shown, node_shown, shown_within}
 use Rattle.rlp_print.specs.Value.{Steps, Value, after, after_items, array, bytes, content, values_of}
 use Rattle.rlp_print.specs.declared.{sink.Bracket.TheVariants.Square, sink.BytesKind.TheVariants.Any}

@@ -2,8 +2,8 @@
 use Rattle.std.specs.Prelude.{ℕ, zero, suc, ◌-◌, ◌==◌, ◌&&◌, nat_lt, nat_eq, if◌then◌else◌, Bool, false, List, [], ◌∷◌, ◌++◌, codes, decimal, length, take, drop, Result, Ok, Err}
 use Rattle.std.specs.List.{starts_with}
 use Rattle.hex.specs.Hex.{encode_lower}
-use Rattle.rlp.specs.{DecoderError.DecoderError, Format.Encoding.encoding, Format.Split.begins_as_list, PayloadInfo.PayloadInfo, Values.Value.number_item, Views.View.begins_as_data}
-use Rattle.rlp.specs.{Format.Framing.framing, Format.Item.string}
+use Rattle.rlp.specs.{DecoderError.DecoderError, Format.Encoding.encoding, Format.Framing.begins_as_list, PayloadInfo.PayloadInfo, Values.Value.number_item, Views.View.begins_as_data}
+use Rattle.rlp.specs.{Format.Framing.framing, Format.Encoding.string}
 use Rattle.rlp_print.specs.Value.{Steps, after, Content, Value, number, type_byte, bytes, text, empty_list}
 use Rattle.rlp_print.specs.declared.{sink.NumberKind.TheVariants.Place, sink.BytesKind.TheVariants.Payload}
 use Rattle.rlp_print.specs.Lines.{line}

@@ -4,9 +4,9 @@ use Rattle.std.specs.Vec.{vec_items}
 use Rattle.std.proofs.Common.{◌≡◌, ◌∙◌, refl, sym, ap, arith, inl, inr}
 use Rattle.std.proofs.lemmas.{Bool.Decides.nat_tests, List.length-map}
 use Rattle.keccak.specs.Keccak.{keccak256}
-use Rattle.rlp.specs.Format.Item.{Item, Items, string, list, no_items, item_and, items_from}
+use Rattle.rlp.specs.Format.Encoding.{Item, Items, string, list, no_items, item_and, items_from}
 use Rattle.rlp.specs.Values.RawItem.{item_by, item_within, raw_item_of, string_or_none}
-use Rattle.rlp.specs.{DecoderError.DecoderError, Format.Encoding.encoding, Format.StringReading.read_string, Format.Split.items, Views.View.View, Views.View.item_views, Views.View.view_of}
+use Rattle.rlp.specs.{DecoderError.DecoderError, Format.Encoding.encoding, Format.Framing.read_string, Format.Framing.items, Views.View.View, Views.View.item_views, Views.View.view_of}
 use Rattle.rlp_trie.specs.{BranchChild.branch_child, ChildLaws.child, HexPrefix.ends_in_leaf, TrieNodeLaws.trie_node}
 use Rattle.rlp_trie.specs.declared.trie_node.TrieNode.{TrieNode}
 use Rattle.rlp_trie.specs.declared.trie_node.TrieNode.TheVariants as node

@@ -2,7 +2,7 @@
 use Rattle.std.specs.Prelude.{ℕ, ◌≡◌, ◌==◌, ◌&&◌, ◌||◌, ◌⊎◌, nat_lt, if◌then◌else◌, Bool, false, List, codes, length, refl, Result, Ok, Err}
 use Rattle.std.specs.{Int.Digits.number_from_digits, Str.bytes_eq}
 use Rattle.std.proofs.Common.{ap, inl, inr}
-use Rattle.rlp.specs.{DecoderError.DecoderError, Form.begins_with_zero, Format.Item.Item, Format.StringReading.read_string, Values.RawItem.raw_item_of}
+use Rattle.rlp.specs.{DecoderError.DecoderError, Form.begins_with_zero, Format.Encoding.Item, Format.Framing.read_string, Values.RawItem.raw_item_of}
 use Rattle.rlp_node_record.specs.NodeFields.{node_fields, pair_fields}
 use Rattle.rlp_print.specs.Display.{Display, a_list, a_number, a_string, an_object, bytes_as, content_same, field, one, through}
 use Rattle.rlp_print.specs.Value.{Content, Value, content, bytes, number}

@@ -2,7 +2,7 @@
 use Rattle.std.specs.Prelude.{ℕ, List, codes, refl, ◌≡◌, ◌==◌, ◌&&◌, if◌then◌else◌, Bool, true, false, ◌∷◌, Option, Some, None, option_map, drop, ◌⊎◌, ⊤}
 use Rattle.std.proofs.Common.{inl, inr, ap, sym, ◌∙◌}
 use Rattle.keccak.specs.Keccak.{keccak256}
-use Rattle.rlp.specs.{Format.Encoding.encoding, Format.Item.list_of}
+use Rattle.rlp.specs.{Format.Encoding.encoding, Format.Encoding.list_of}
 use Rattle.rlp.specs.Form.{FieldsReading}
 use Rattle.rlp.specs.Sums.{sum_map}
 use Rattle.rlp_records.specs.Alone.{bytes_alone}

@@ -1,8 +1,7 @@
 -- Headers and strings, by the first of some bytes.
 use Rattle.std.proofs.Common.{◌≡◌, ◌-◌, ◌≤◌, ℕ, List, [], ◌∷◌, length, take, drop, take_all, get_or, Ok, Err, sym, ap, ◌∙◌, arith}
 use Rattle.rlp_reading.specs.declared.error.DecoderError.TheVariants.{RlpDataLenWithZeroPrefix, RlpExpectedToBeData, RlpListLenWithZeroPrefix}
-use Rattle.rlp_reading.specs.Format.Header.{header, long_header, payload_info}
-use Rattle.rlp_reading.specs.Format.StringReading.{read_string, short_string, long_string}
+use Rattle.rlp_reading.specs.Format.Framing.{header, long_header, payload_info, read_string, short_string, long_string}
 use Rattle.rlp_reading.proofs.Lemmas.Reading.{header_low, header_string, header_long_string, header_list, header_long_list}
 use Rattle.rlp_reading.proofs.Lemmas.Strings.{string_low, string_short, string_long, string_list}
 

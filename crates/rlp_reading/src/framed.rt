@@ -1,10 +1,7 @@
 //! The first item of bytes. Its header is read once.
 
 ghost use Rattle.std.specs.Prelude.{◌≡◌, ◌↔◌, ◌+◌, ◌∷◌, ◌++◌, ◌<◌, ◌≤◌, [], length, Ok, Err, None, Some, IsTrue, IfOk, IfSome, MatchResult};
-ghost use Rattle.rlp_reading.specs.Format.Header.{HasHeader};
-ghost use Rattle.rlp_reading.specs.Format.Framing.{IsFramedItem, fault, frame, framing, total_len, value};
-ghost use Rattle.rlp_reading.specs.Format.Split.{begins_as_list, split};
-ghost use Rattle.rlp_reading.specs.Format.Strict.{is_followed, strict_fault};
+ghost use Rattle.rlp_reading.specs.Format.Framing.{HasHeader, IsFramedItem, fault, frame, framing, total_len, value, begins_as_list, split, is_followed, strict_fault};
 
 use crate::error::DecoderError;
 use crate::header::PayloadInfo;

@@ -2,8 +2,7 @@
 
 ghost use Rattle.std.specs.Prelude.{◌≡◌, ◌<◌, ◌≤◌, ◌^◌};
 ghost use Rattle.std.specs.Option.{SomeIff};
-ghost use Rattle.rlp_reading.specs.Format.Header.{ReadsHeader, header, long_header};
-ghost use Rattle.rlp_reading.specs.Format.Framing.{total_len};
+ghost use Rattle.rlp_reading.specs.Format.Framing.{ReadsHeader, header, long_header, total_len};
 
 use crate::error::DecoderError;
 use rlp_format::digits::number_of;
@@ -58,7 +57,7 @@ impl PayloadInfo {
 
 /// Reads the header by the table of first bytes. Only the proof of this function unfolds `header`.
 #[inline(always)]
-#[tactic(auto, unfolding(crate::specs::Format::Header::header))]
+#[tactic(auto, unfolding(crate::specs::Format::Framing::header))]
 fn header_by_first_byte(bytes: &[u8]) -> Result<PayloadInfo, DecoderError>
     ensures { result ≡ header bytes.now }
 {

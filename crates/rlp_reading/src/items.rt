@@ -1,9 +1,7 @@
 //! The walk over items, one by one.
 
 ghost use Rattle.std.specs.Prelude.{◌≡◌, ◌∷◌, ◌++◌, [], ◌+◌, ◌<◌, ◌≤◌, ◌^◌, length, true, false, Ok, Err, IsOk, IsTrue, None, Some, IfOk, MatchResult};
-ghost use Rattle.rlp_reading.specs.Format.Framing.{fault, framing, value};
-ghost use Rattle.rlp_reading.specs.Format.Split.{begins_as_list, payload, split};
-ghost use Rattle.rlp_reading.specs.Format.Strict.{after_items, fault_of_some};
+ghost use Rattle.rlp_reading.specs.Format.Framing.{fault, framing, value, begins_as_list, payload, split, after_items, fault_of_some};
 ghost use Rattle.rlp_reading.specs.Views.View.{Reading};
 
 use crate::error::DecoderError;
@@ -98,7 +96,7 @@ impl<'a> ItemReader<'a> {
 
     /// Goes on to the items of the next list, by its header. If there is no framed list, it returns
     /// `false` and nothing is left.
-    #[tactic(auto, unfolding(crate::specs::Format::Split::payload))]
+    #[tactic(auto, unfolding(crate::specs::Format::Framing::payload))]
     pub fn enter_list(&mut self) -> bool
         ensures rest { self.new.rest ≡ payload self.old.rest }
         ensures framed { IsTrue result → (begins_as_list self.old.rest ≡ true)

@@ -4,13 +4,9 @@
 ghost use Rattle.std.specs.Prelude.{◌≡◌, ℕ, ◌^◌, ◌<◌, ◌≤◌, ◌+◌, ◌↔◌, ◌⊎◌, List, [], ◌++◌, length, map, All, get_or, take, drop, ◌∷◌, Ok, Err, IsTrue, is_ok};
 ghost use Rattle.std.specs.List.{concat};
 ghost use Rattle.std.specs.Int.Digits.{number_from_digits};
-ghost use Rattle.rlp_format.specs.Format.Item.{Item, list_of, item_depth};
-ghost use Rattle.rlp_format.specs.Format.WrittenHeader.{big_endian, written_header, IsBase, AreBytes};
-ghost use Rattle.rlp_format.specs.Format.Encoding.{encoding, join, IsSized, BeginsWith};
+ghost use Rattle.rlp_format.specs.Format.Encoding.{Item, list_of, item_depth, big_endian, written_header, IsBase, AreBytes, encoding, join, IsSized, BeginsWith};
 ghost use Rattle.rlp_reading.specs.declared.error.DecoderError.{DecoderError};
-ghost use Rattle.rlp_reading.specs.Format.Header.{HasHeader, ReadsHeader, header, payload_info};
-ghost use Rattle.rlp_reading.specs.Format.Framing.{IsFramed, IsFramedItem, IsFault, fault, framing, value, frame};
-ghost use Rattle.rlp_reading.specs.Format.Split.{IsCut, IsSplit, split, items, rest};
+ghost use Rattle.rlp_reading.specs.Format.Framing.{HasHeader, ReadsHeader, header, payload_info, IsFramed, IsFramedItem, IsFault, fault, framing, value, frame, IsCut, IsSplit, split, items, rest};
 ghost use Rattle.rlp_reading.specs.Views.Text.{text, text_by};
 ghost use Rattle.rlp_reading.specs.Views.Depth.{depth, depth_by};
 

@@ -1,7 +1,7 @@
 //! The string that bytes begin with.
 
 ghost use Rattle.std.specs.Prelude.{◌≡◌, ◌≤◌, Ok, Err, MatchResult};
-ghost use Rattle.rlp_reading.specs.Format.StringReading.{ReadsString, read_string, short_string, long_string, long_value};
+ghost use Rattle.rlp_reading.specs.Format.Framing.{ReadsString, read_string, short_string, long_string, long_value};
 
 use crate::error::DecoderError;
 use rlp_format::digits::number_of;
@@ -16,7 +16,7 @@ pub fn string_in(bytes: &[u8]) -> Result<&[u8], DecoderError>
 }
 
 /// The string, by the table of first bytes. Only the proof of this function unfolds `read_string`.
-#[tactic(auto, unfolding(crate::specs::Format::StringReading::read_string))]
+#[tactic(auto, unfolding(crate::specs::Format::Framing::read_string))]
 fn string_by_first_byte(bytes: &[u8]) -> Result<&[u8], DecoderError>
     ensures { MatchResult result (λ d. read_string bytes.now ≡ Ok d.now)
         (λ e. read_string bytes.now ≡ Err e) }

@@ -3,9 +3,7 @@ use Rattle.std.proofs.Common.{◌≡◌, ◌≢◌, ◌≤◌, ◌-◌, ◌^◌,
 use Rattle.std.proofs.Common.{◌⊎◌, inl, inr, arith, eq-eqb, Result, Ok, Err, IfOk, IfErr, IsOkAnd}
 use Rattle.std.proofs.lemmas.Bool.{cond-true, cond-false, eqb-true}
 use Rattle.rlp.specs.DecoderError.{DecoderError}
-use Rattle.rlp.specs.Format.Item.{Item}
-use Rattle.rlp.specs.Format.Encoding.{encoding}
-use Rattle.rlp.specs.Format.WrittenHeader.{AreBytes}
+use Rattle.rlp.specs.Format.Encoding.{Item, encoding, AreBytes}
 use Rattle.rlp.specs.Values.Value.{AreAlike}
 use Rattle.rlp.specs.Views.View.{View, strict_view_of}
 use Rattle.rlp_codec.specs.Form.{Answer, Fault, Form, custom, fault_of}

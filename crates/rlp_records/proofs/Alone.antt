@@ -1,10 +1,8 @@
 -- Values of several types by themselves, as in EIP-2718: the bytes of a value are read back, and no other bytes are read.
 use Rattle.std.proofs.Common.{◌≡◌, ℕ, ◌^◌, ◌<◌, ◌⊎◌, inl, inr, Bool, true, false, List, [], length, refl, sym, ap, ◌∙◌, append-nil, Result, Ok, Err}
 use Rattle.std.proofs.lemmas.Bool.{cond-true, cond-false, lt-leb}
-use Rattle.rlp.specs.Format.Item.{Item, is_list, list, string}
-use Rattle.rlp.specs.Format.Encoding.{encoding}
-use Rattle.rlp.specs.Format.Split.{begins_as_list}
-use Rattle.rlp.specs.Format.WrittenHeader.{AreBytes}
+use Rattle.rlp.specs.Format.Encoding.{Item, is_list, list, string, encoding, AreBytes}
+use Rattle.rlp.specs.Format.Framing.{begins_as_list}
 use Rattle.rlp.specs.Values.Sums.{OnSum, sum_item}
 use Rattle.rlp_reading.proofs.Lemmas.Sums.{list_first}
 use Rattle.rlp_codec.specs.Form.{Answer, Fault, Form, map_value}

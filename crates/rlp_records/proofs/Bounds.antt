@@ -6,9 +6,8 @@ use Rattle.std.proofs.lemmas.Bool.{cond-false, cond-true}
 use Rattle.std.proofs.lemmas.Slice.Eq.{bytes_eq-Decides}
 use Rattle.rlp.specs.DecoderError.{DecoderError}
 use Rattle.rlp.specs.DecoderError.TheVariants.{OutOfMemory}
-use Rattle.rlp.specs.Format.Item.{Item}
-use Rattle.rlp.specs.Format.Encoding.{encoding}
-use Rattle.rlp.specs.Format.Strict.{IsCanonicalWithin}
+use Rattle.rlp.specs.Format.Encoding.{Item, encoding}
+use Rattle.rlp.specs.Format.Framing.{IsCanonicalWithin}
 use Rattle.rlp.specs.Format.TreeFaults.{tree_fault}
 use Rattle.rlp_format.proofs.Lemmas.Encodings.{encoding_same}
 use Rattle.rlp_reading.proofs.Lemmas.RawItems.{raw_item_of-encoding, shallow_within}

@@ -5,13 +5,9 @@ use Rattle.std.proofs.lemmas.Bool.{cond-false, cond-true}
 use Rattle.rlp.specs.DecoderError.{DecoderError}
 use Rattle.rlp.specs.FlatItem.{FlatItem}
 use Rattle.rlp.specs.PayloadInfo.{PayloadInfo}
-use Rattle.rlp.specs.Format.Item.{Item, Items, item_and, list, listed, no_items, string}
-use Rattle.rlp.specs.Format.Encoding.{IsSized, encoding, join, join_items}
-use Rattle.rlp.specs.Format.WrittenHeader.{written_header}
-use Rattle.rlp.specs.Format.Framing.{IsFramedItem, frame, framing, total_len, value}
-use Rattle.rlp.specs.Format.Header.{HasHeader, lone, payload_info, written}
-use Rattle.rlp.specs.Format.Split.{begins_as_list}
-use Rattle.rlp.specs.Format.Strict.{IsCanonical, IsCanonicalWithin, strict_fault}
+use Rattle.rlp.specs.Format.Encoding.{Item, Items, item_and, list, listed, no_items, string, IsSized, encoding, join, join_items, written_header}
+use Rattle.rlp.specs.Format.Framing.{IsFramedItem, frame, framing, total_len, value, HasHeader, lone, payload_info, written, begins_as_list}
+use Rattle.rlp.specs.Format.Framing.{IsCanonical, IsCanonicalWithin, strict_fault}
 use Rattle.rlp.specs.Format.Walk.{IsWalked}
 use Rattle.rlp_format.proofs.Lemmas.Encodings.{first_of_header, list_written, string_cases}
 use Rattle.rlp_reading.proofs.Lemmas.Frames.{encoding_item, frame_front, framed_same, framing_is, item_some, value_is}

@@ -2,9 +2,8 @@
 -- number is an envelope.
 use Rattle.std.specs.Prelude.{ℕ, List, ◌⊎◌, if◌then◌else◌, codes}
 use Rattle.std.proofs.Common.{inl, inr}
-use Rattle.rlp.specs.Format.Item.{Item, list, string}
-use Rattle.rlp.specs.Format.Encoding.{encoding}
-use Rattle.rlp.specs.Format.Split.{begins_as_list}
+use Rattle.rlp.specs.Format.Encoding.{Item, list, string, encoding}
+use Rattle.rlp.specs.Format.Framing.{begins_as_list}
 use Rattle.rlp.specs.Views.View.{View, strict_view_of}
 use Rattle.rlp_codec.specs.Form.{Answer, Fault, map_answer}
 use Rattle.rlp_codec.specs.Sums.{envelope_of}

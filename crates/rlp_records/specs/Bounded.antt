@@ -2,11 +2,9 @@
 use Rattle.std.specs.Prelude.{ℕ, ◌≡◌, ◌+◌, ◌≤◌, ◌&&◌, nat_le, nat_lt, if◌then◌else◌, Bool, List, [], ◌∷◌, Option, Some, None, Err, length, codes}
 use Rattle.std.specs.Str.{bytes_eq}
 use Rattle.rlp.specs.DecoderError.{DecoderError}
-use Rattle.rlp.specs.Format.Item.{Item, Items, item_and, item_depth, list, no_items, string}
-use Rattle.rlp.specs.Format.Encoding.{encoding}
+use Rattle.rlp.specs.Format.Encoding.{Item, Items, item_and, item_depth, list, no_items, string, encoding}
 use Rattle.rlp.specs.Format.Flat.{flat}
-use Rattle.rlp.specs.Format.Split.{begins_as_list}
-use Rattle.rlp.specs.Format.Strict.{strict_fault}
+use Rattle.rlp.specs.Format.Framing.{begins_as_list, strict_fault}
 use Rattle.rlp.specs.Format.TreeFaults.{tree_fault}
 use Rattle.rlp.specs.Values.RawItem.{raw_item_of}
 use Rattle.rlp.specs.Views.View.{View, strict_view_of}

@@ -3,8 +3,7 @@
 
 ghost use Rattle.std.specs.Prelude.{◌≡◌, ◌∷◌, ◌⊎◌, [], Err, IfErr, IfOk, IsTrue, Ok, OnOk};
 ghost use Rattle.rlp.specs.DecoderError.TheVariants.{OutOfMemory};
-ghost use Rattle.rlp.specs.Format.Encoding.{encoding};
-ghost use Rattle.rlp.specs.Format.Item.{list_of};
+ghost use Rattle.rlp.specs.Format.Encoding.{encoding, list_of};
 ghost use Rattle.rlp.specs.Streams.Stream.{initial_state};
 ghost use Rattle.rlp.specs.Values.Value.{AreAlike};
 ghost use Rattle.rlp_codec.specs.Form.{fault_of};

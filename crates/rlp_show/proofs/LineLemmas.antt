@@ -8,8 +8,7 @@ use Rattle.std.proofs.lemmas.List.Elements.{All-from_get_or}
 use Rattle.hex.proofs.HexLemmas.{decode_of-ok}
 use Rattle.hex.specs.Hex.{decode_of}
 use Rattle.hex.specs.declared.error.FromHexError.{FromHexError}
-use Rattle.rlp.specs.Format.Encoding.{IsSized, encoding}
-use Rattle.rlp.specs.Format.Item.{Item}
+use Rattle.rlp.specs.Format.Encoding.{IsSized, encoding, Item}
 use Rattle.rlp.specs.Views.View.{strict_view_of}
 use Rattle.rlp_lines.specs.Digits.{bytes_in, digits_of}
 use Rattle.rlp_json.specs.Json.{json_of}

@@ -3,9 +3,8 @@ use Rattle.std.proofs.Common.{◌≡◌, ◌≢◌, ◌==◌, ◌⊎◌, ⊎_eli
 use Rattle.std.proofs.Common.{refl, ap, ◌∙◌, arith}
 use Rattle.std.proofs.lemmas.Bool.Decides.{nat_tests}
 use Rattle.rlp.specs.DecoderError.{DecoderError}
-use Rattle.rlp.specs.Format.Encoding.{encoding}
-use Rattle.rlp.specs.Format.Item.{Item, string}
-use Rattle.rlp.specs.Format.Split.{begins_as_list}
+use Rattle.rlp.specs.Format.Encoding.{encoding, Item, string}
+use Rattle.rlp.specs.Format.Framing.{begins_as_list}
 use Rattle.rlp_reading.proofs.Lemmas.StringsHeld.{ReadsHeld, held_reads}
 use Rattle.rlp.specs.Views.View.{strict_view_of, view_string}
 use Rattle.rlp_records.specs.Alone.{bytes_alone}

@@ -2,9 +2,8 @@
 use Rattle.std.proofs.Common.{◌≡◌, ◌≢◌, ◌==◌, ◌^◌, ◌<◌, ◌≤◌, ℕ, List, [], ◌∷◌, length, true, refl, sym, ap, ◌∙◌, ⊎_elim, arith, append-nil}
 use Rattle.std.proofs.lemmas.Bool.{cond-false, cond-true}
 use Rattle.std.proofs.lemmas.Bool.Decides.{nat_tests}
-use Rattle.rlp.specs.Format.Encoding.{IsSized, encoding}
-use Rattle.rlp.specs.Format.Item.{Item, list_of, string}
-use Rattle.rlp.specs.Format.Split.{begins_as_list}
+use Rattle.rlp.specs.Format.Encoding.{IsSized, encoding, Item, list_of, string}
+use Rattle.rlp.specs.Format.Framing.{begins_as_list}
 use Rattle.rlp_format.proofs.Lemmas.Encodings.{string_cases}
 use Rattle.rlp_reading.proofs.Lemmas.RawItems.{string_kind}
 use Rattle.rlp_reading.proofs.Lemmas.StringsHeld.{held_only}

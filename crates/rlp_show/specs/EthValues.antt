@@ -6,8 +6,7 @@ use Rattle.std.proofs.Common.{◌⊎◌, inl, inr, refl, ap, ◌∙◌, arith}
 use Rattle.std.proofs.lemmas.Bool.Decides.{nat_tests}
 use Rattle.rlp.specs.Codec.{Codec, list_type}
 use Rattle.rlp.specs.DecoderError.{DecoderError}
-use Rattle.rlp.specs.Format.Encoding.{IsSized, encoding}
-use Rattle.rlp.specs.Format.Item.{Item, list_of as list_item, string}
+use Rattle.rlp.specs.Format.Encoding.{IsSized, encoding, Item, list_of as list_item, string}
 use Rattle.rlp.specs.Values.Value.{FitsBytes, number_item}
 use Rattle.rlp.specs.Views.Text.{error_name}
 use Rattle.rlp.specs.Views.View.{View, strict_view_of}

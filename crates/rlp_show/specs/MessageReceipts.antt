@@ -3,7 +3,7 @@ use Rattle.std.proofs.Common.{◌≡◌, ◌∙◌, ℕ, List, Bool, true, false
 use Rattle.std.specs.Vec.{vec_items}
 use Rattle.rlp.specs.DecoderError.{DecoderError}
 use Rattle.rlp.specs.Format.Encoding.{IsSized, encoding}
-use Rattle.rlp.specs.Format.Split.{begins_as_list}
+use Rattle.rlp.specs.Format.Framing.{begins_as_list}
 use Rattle.rlp_reading.proofs.Lemmas.StringsHeld.{ReadsHeld, held_reads}
 use Rattle.rlp.specs.Views.View.{strict_view_of, view_string}
 use Rattle.rlp_headers.specs.Receipt.{receipt_fields}

@@ -7,10 +7,8 @@ use Rattle.std.specs.Global.{Vec}
 use Rattle.std.specs.Vec.{vec_items}
 use Rattle.rlp.specs.DecoderError.{DecoderError}
 use Rattle.rlp.specs.DecoderError.TheVariants.{RlpIncorrectListLen}
-use Rattle.rlp.specs.Format.Encoding.{IsSized, encoding, join_items}
-use Rattle.rlp.specs.Format.Item.{Item, Items, item_and, item_depth, items_depth, list, list_of, no_items, string}
-use Rattle.rlp.specs.Format.Split.{begins_as_list}
-use Rattle.rlp.specs.Format.WrittenHeader.{written_header}
+use Rattle.rlp.specs.Format.Encoding.{IsSized, encoding, join_items, Item, Items, item_and, item_depth, items_depth, list, list_of, no_items, string, written_header}
+use Rattle.rlp.specs.Format.Framing.{begins_as_list}
 use Rattle.rlp_format.proofs.Lemmas.Encodings.{AllSized, first_of_header, list_written, parts_sized}
 use Rattle.rlp_show_text.specs.NodeRecordLemmas.{raw_whole}
 use Rattle.rlp_reading.proofs.Lemmas.StringsHeld.{held_only}

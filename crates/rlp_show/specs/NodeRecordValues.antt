@@ -10,10 +10,8 @@ use Rattle.std.proofs.lemmas.Bool.Decides.{nat_tests}
 use Rattle.std.proofs.lemmas.List.Elements.{All-from_recursion}
 use Rattle.rlp.specs.Codec.{byte_string as byte_string_codec}
 use Rattle.rlp.specs.DecoderError.{DecoderError}
-use Rattle.rlp.specs.Format.Encoding.{IsSized, encoding, join}
-use Rattle.rlp.specs.Format.Item.{list_of, string}
-use Rattle.rlp.specs.Format.Split.{items}
-use Rattle.rlp.specs.Format.Strict.{strict_list_fault}
+use Rattle.rlp.specs.Format.Encoding.{IsSized, encoding, join, list_of, string}
+use Rattle.rlp.specs.Format.Framing.{items, strict_list_fault}
 use Rattle.rlp_reading.proofs.Lemmas.RawItems.{shallow_within}
 use Rattle.rlp_reading.proofs.Lemmas.StrictReads.{counted_items, counted_told, told_whole}
 use Rattle.rlp_reading.proofs.Lemmas.WholeLists.{strict_item_count, whole_list}

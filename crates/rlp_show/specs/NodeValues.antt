@@ -9,9 +9,8 @@ use Rattle.std.proofs.lemmas.Bool.Decides.{nat_tests}
 use Rattle.rlp_codec.proofs.StringLaws.{array_strings}
 use Rattle.rlp_show_text.specs.Displays.{given_back}
 use Rattle.rlp.specs.Codec.{Fields, byte_array, byte_string as byte_string_codec, each, end, field as field_codec}
-use Rattle.rlp.specs.Format.Encoding.{IsSized, encoding, join}
-use Rattle.rlp.specs.Format.Item.{Item, list_of, string}
-use Rattle.rlp.specs.Format.Split.{begins_as_list}
+use Rattle.rlp.specs.Format.Encoding.{IsSized, encoding, join, Item, list_of, string}
+use Rattle.rlp.specs.Format.Framing.{begins_as_list}
 use Rattle.rlp_reading.proofs.Lemmas.RawItems.{string_kind}
 use Rattle.rlp_reading.proofs.Lemmas.WholeLists.{strict_item_count}
 use Rattle.rlp.specs.Values.RawItem.{raw_item_of}

@@ -11,11 +11,8 @@ use Rattle.std.proofs.lemmas.List.Elements.{All-from_recursion}
 use Rattle.rlp.specs.Codec.{Fields, byte_string as byte_string_codec, end as end_codec, field as field_codec, list_type, number as number_codec, struct_of}
 use Rattle.rlp.specs.DecoderError.{DecoderError}
 use Rattle.rlp.specs.DecoderError.TheVariants.{RlpIncorrectListLen}
-use Rattle.rlp.specs.Format.Encoding.{IsSized, encoding, join}
-use Rattle.rlp.specs.Format.Item.{list_of}
-use Rattle.rlp.specs.Format.Split.{begins_as_list, items}
-use Rattle.rlp.specs.Format.Strict.{strict_list_fault}
-use Rattle.rlp.specs.Format.WrittenHeader.{big_endian}
+use Rattle.rlp.specs.Format.Encoding.{IsSized, encoding, join, list_of, big_endian}
+use Rattle.rlp.specs.Format.Framing.{begins_as_list, items, strict_list_fault}
 use Rattle.rlp_reading.proofs.Lemmas.RawItems.{shallow_within, string_kind}
 use Rattle.rlp_show_text.specs.NodeRecordLemmas.{raw_whole}
 use Rattle.rlp_reading.proofs.Lemmas.StrictReads.{counted_items, counted_told, told_whole}

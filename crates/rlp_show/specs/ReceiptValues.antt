@@ -3,9 +3,8 @@ use Rattle.std.specs.Prelude.{ℕ, ◌≡◌, ◌⊎◌, ◌<◌, ◌^◌, List,
 use Rattle.std.specs.Str.Lines.{strip_carriage_return}
 use Rattle.std.proofs.Common.{ap, ◌∙◌, arith, inl, inr, ⊎_elim}
 use Rattle.std.proofs.lemmas.Bool.{cond-true}
-use Rattle.rlp.specs.Format.Encoding.{IsSized, encoding}
-use Rattle.rlp.specs.Format.Item.{string}
-use Rattle.rlp.specs.Format.Split.{begins_as_list}
+use Rattle.rlp.specs.Format.Encoding.{IsSized, encoding, string}
+use Rattle.rlp.specs.Format.Framing.{begins_as_list}
 use Rattle.rlp.specs.Views.View.{strict_view_of}
 use Rattle.rlp_headers.specs.Receipt.{receipt as receipt_codec, receipt_fields}
 use Rattle.rlp_headers.specs.TypedReceipt.{typed_receipt}

@@ -1,7 +1,7 @@
 -- The lines of transactions and receipts of every type.
 use Rattle.std.specs.Prelude.{ℕ, nat_lt, if◌then◌else◌, List, [], ◌∷◌, ◌++◌, codes, Ok, Err}
 use Rattle.rlp.specs.DecoderError.TheVariants.{RlpIsTooShort}
-use Rattle.rlp.specs.Format.Split.{begins_as_list}
+use Rattle.rlp.specs.Format.Framing.{begins_as_list}
 use Rattle.rlp.specs.Views.Text.{error_name}
 use Rattle.rlp_show_text.specs.Lines.{Shape, Shown, hashed, line, list_or_string, prefix, typed, wrong}
 use Rattle.rlp_show_text.specs.Text.{bytes_text, number_text}

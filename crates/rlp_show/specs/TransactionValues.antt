@@ -4,7 +4,7 @@ use Rattle.std.specs.Vec.{vec_items}
 use Rattle.std.proofs.Common.{◌≢◌, ◌&&◌, not, ap, sym, ◌∙◌, arith, ltb-true, refl}
 use Rattle.std.proofs.lemmas.Bool.{cond-false, cond-true, lt-leb}
 use Rattle.rlp.specs.Format.Encoding.{IsSized, encoding}
-use Rattle.rlp.specs.Format.Split.{begins_as_list}
+use Rattle.rlp.specs.Format.Framing.{begins_as_list}
 use Rattle.rlp.specs.Views.View.{View, strict_view_of}
 use Rattle.rlp_transactions.specs.declared.access_list_transaction.AccessListTransaction.{AccessListTransaction}
 use Rattle.rlp_transactions.specs.declared.blob_transaction.BlobTransaction.{BlobTransaction}

@@ -1,8 +1,7 @@
 //! Types whose values are shown as their lines.
 
 ghost use Rattle.std.specs.Prelude.{◌≡◌, ◌<◌, ◌^◌, ℕ, List, Ok, IsOk, length};
-ghost use Rattle.rlp.specs.Format.Encoding.{IsSized, encoding};
-ghost use Rattle.rlp.specs.Format.WrittenHeader.{AreBytes};
+ghost use Rattle.rlp.specs.Format.Encoding.{IsSized, encoding, AreBytes};
 ghost use Rattle.rlp.specs.Views.View.{strict_view_of};
 ghost use Rattle.rlp_show.specs.Values.{withdrawal_display, account_display, header_display, log_display, receipt_display, access_list_item_display, access_list_alone_display, legacy_transaction_display, authorization_display};
 ghost use Rattle.rlp_show.specs.BodyValues.{body_display};

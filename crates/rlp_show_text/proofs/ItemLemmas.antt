@@ -1,7 +1,7 @@
 -- Items of any kind, by their first byte.
 use Rattle.std.proofs.Common.{◌≡◌, ◌≢◌, ◌-◌, ℕ, zero, suc, List, true, false, codes, refl, ap, ◌∙◌, arith, Err}
 use Rattle.std.proofs.lemmas.Bool.{cond-true, cond-false}
-use Rattle.rlp.specs.Format.Split.{begins_as_list}
+use Rattle.rlp.specs.Format.Framing.{begins_as_list}
 use Rattle.rlp.specs.Views.View.{View}
 use Rattle.rlp_show_text.specs.Lines.{byte_string, item_within, list_of, wrong}
 

@@ -12,10 +12,8 @@ use Rattle.std.proofs.lemmas.Bool.Decides.{nat_tests}
 use Rattle.std.proofs.lemmas.List.{length-map, map-append}
 use Rattle.std.proofs.lemmas.List.Elements.{All-from_recursion, recursion_from_All}
 use Rattle.rlp.specs.DecoderError.{DecoderError}
-use Rattle.rlp.specs.Format.Encoding.{encoding, join, string_encoding}
-use Rattle.rlp.specs.Format.Item.{Item, list_of, string}
-use Rattle.rlp.specs.Format.Split.{items, payload, rest}
-use Rattle.rlp.specs.Format.WrittenHeader.{AreBytes, big_endian, written_header}
+use Rattle.rlp.specs.Format.Encoding.{encoding, join, string_encoding, Item, list_of, string, AreBytes, big_endian, written_header}
+use Rattle.rlp.specs.Format.Framing.{items, payload, rest}
 use Rattle.rlp_format.proofs.Lemmas.Encodings.{encoding_list, form, form_some, string_cases}
 use Rattle.rlp_reading.proofs.Lemmas.Numbered.{length-views}
 use Rattle.rlp_reading.proofs.Lemmas.OneReading.{back_bytes, front_bytes}

@@ -7,9 +7,7 @@ use Rattle.std.proofs.Common.{refl, sym, ap, ◌∙◌, length-append}
 use Rattle.std.proofs.lemmas.List.Elements.{recursion_from_All}
 use Rattle.rlp.specs.Codec.{Codec, Fields, byte_array, byte_string as byte_string_codec, end, field as field_codec, list_type, newtype}
 use Rattle.rlp.specs.Codec.{group, number as number_codec, optional as optional_codec, optional_group, struct_of, truth_value as truth_codec, uint}
-use Rattle.rlp.specs.Format.Encoding.{IsSized, encoding, join}
-use Rattle.rlp.specs.Format.Item.{list_of as list_item}
-use Rattle.rlp.specs.Format.WrittenHeader.{big_endian}
+use Rattle.rlp.specs.Format.Encoding.{IsSized, encoding, join, list_of as list_item, big_endian}
 use Rattle.rlp_format.proofs.Lemmas.Digits.{big_endian_value}
 use Rattle.rlp.specs.Uint.{Uint}
 use Rattle.rlp.specs.Values.Value.{bit}

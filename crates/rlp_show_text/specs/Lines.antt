@@ -6,7 +6,7 @@ use Rattle.keccak.specs.Keccak.{keccak256}
 use Rattle.rlp_codec.specs.Form.{begins_with_zero}
 use Rattle.rlp.specs.DecoderError.{DecoderError}
 use Rattle.rlp.specs.DecoderError.TheVariants.{RlpIsTooBig, RlpIsTooShort, RlpInvalidIndirection, RlpIncorrectListLen}
-use Rattle.rlp.specs.Format.Split.{begins_as_list}
+use Rattle.rlp.specs.Format.Framing.{begins_as_list}
 use Rattle.rlp.specs.Views.Text.{error_name}
 use Rattle.rlp.specs.Views.View.{View, item_count, item_views, strict_view_of, view_string}
 use Rattle.rlp_show_text.specs.Text.{bloom_text, bytes_text, hex_text, number_text, unsigned_v_text, v_text}

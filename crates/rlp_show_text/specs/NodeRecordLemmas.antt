@@ -12,9 +12,8 @@ use Rattle.std.proofs.lemmas.List.{map-id}
 use Rattle.std.proofs.lemmas.List.Elements.{recursion_from_All}
 use Rattle.rlp.specs.DecoderError.{DecoderError}
 use Rattle.rlp.specs.DecoderError.TheVariants.{RlpExpectedToBeData}
-use Rattle.rlp.specs.Format.Encoding.{IsSized, encoding, join}
-use Rattle.rlp.specs.Format.Item.{Item, Items, item_and, item_depth, items_depth, items_from, list, list_of, listed, no_items, string}
-use Rattle.rlp.specs.Format.Split.{begins_as_list}
+use Rattle.rlp.specs.Format.Encoding.{IsSized, encoding, join, Item, Items, item_and, item_depth, items_depth, items_from, list, list_of, listed, no_items, string}
+use Rattle.rlp.specs.Format.Framing.{begins_as_list}
 use Rattle.rlp_format.proofs.Lemmas.Encodings.{items_from-listed}
 use Rattle.rlp_reading.proofs.Lemmas.RawItems.{list_by, raw_encoding, raw_if}
 use Rattle.rlp_reading.proofs.Lemmas.Strings.{string_list}

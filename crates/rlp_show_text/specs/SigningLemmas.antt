@@ -4,9 +4,7 @@ use Rattle.std.proofs.lemmas.Bool.{cond-false, cond-true}
 use Rattle.std.proofs.lemmas.Bool.Decides.{nat_tests}
 use Rattle.std.specs.Int.Digits.{number_from_digits}
 use Rattle.rlp.specs.Codec.{uint}
-use Rattle.rlp.specs.Format.Item.{Item, list_of, string}
-use Rattle.rlp.specs.Format.Encoding.{IsSized, encoding, join}
-use Rattle.rlp.specs.Format.WrittenHeader.{big_endian}
+use Rattle.rlp.specs.Format.Encoding.{Item, list_of, string, IsSized, encoding, join, big_endian}
 use Rattle.rlp_format.proofs.Lemmas.Digits.{big_endian_value, big_endian_zero}
 use Rattle.rlp_format.proofs.Lemmas.Encodings.{encoding_list}
 use Rattle.rlp_reading.proofs.Lemmas.StringsHeld.{held_only}

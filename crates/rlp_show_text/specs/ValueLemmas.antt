@@ -4,8 +4,7 @@ use Rattle.std.proofs.Common.{◌≡◌, ◌^◌, ◌<◌, ◌+◌, ℕ, zero, s
 use Rattle.std.proofs.Common.{append-nil, append_assoc, length-append, Ok, Err}
 use Rattle.std.specs.List.{AllByRecursion}
 use Rattle.std.proofs.lemmas.Bool.{cond-true}
-use Rattle.rlp.specs.Format.Encoding.{IsSized, encoding, join}
-use Rattle.rlp.specs.Format.Item.{Item, list_of}
+use Rattle.rlp.specs.Format.Encoding.{IsSized, encoding, join, Item, list_of}
 use Rattle.rlp_format.proofs.Lemmas.Encodings.{encoding_list, small_payload}
 use Rattle.rlp_reading.proofs.Lemmas.WholeLists.{strict_item_count, strict_items}
 use Rattle.rlp.specs.Views.View.{View, item_views, strict_view_of}

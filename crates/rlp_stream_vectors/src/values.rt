@@ -1,7 +1,7 @@
 //! Values that are appended, or that are refused.
 
 ghost use Rattle.std.specs.Prelude.{⊤, []};
-ghost use Rattle.rlp_format.specs.Format.Item.{string};
+ghost use Rattle.rlp_format.specs.Format.Encoding.{string};
 ghost use Rattle.rlp_format.specs.Values.Value.{FitsBytes, number_item};
 
 use rlp_write::{Encodable, RlpStream};

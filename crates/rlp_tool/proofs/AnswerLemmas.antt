@@ -2,8 +2,7 @@
 use Rattle.std.proofs.Common.{◌≡◌, ℕ, suc, ◌+◌, ◌^◌, ◌<◌, All, subst, Bool, true, false, cond, List, [], ◌∷◌, ◌++◌, length, append-nil, codes}
 use Rattle.std.proofs.Common.{decimal, Result, Ok, Err, OnOk, IsTrue, nat_lt, refl, sym, ap, ◌∙◌, arith}
 use Rattle.std.proofs.lemmas.Bool.Decides.{nat_tests}
-use Rattle.rlp.specs.Format.Item.{Item}
-use Rattle.rlp.specs.Format.Encoding.{join, BeginsWith, IsSized}
+use Rattle.rlp.specs.Format.Encoding.{Item, join, BeginsWith, IsSized}
 use Rattle.rlp.specs.Streams.Stream.{OpenList, Stack, State, initial_state, closed_size, raw_text}
 use Rattle.rlp.specs.Streams.Stream.{Call, append, append_empty_data, append_raw, append_raw_checked, begin_list, begin_unbounded_list}
 use Rattle.rlp.specs.Streams.Stream.{finalize_unbounded_list, append_internal, encode_value, clear, effect, is_admitted, after, after_from}

@@ -5,8 +5,7 @@ use Rattle.std.proofs.Common.{ap, ◌∙◌, nat_le, arith, subst}
 use Rattle.std.specs.declared.alloc.Global.{Global}
 use Rattle.std.specs.List.{AllByRecursion}
 use Rattle.std.proofs.lemmas.List.Elements.{All-from_recursion}
-use Rattle.rlp.specs.Format.Item.{Item, string, list, list_of}
-use Rattle.rlp.specs.Format.Encoding.{join, IsSized}
+use Rattle.rlp.specs.Format.Encoding.{Item, string, list, list_of, join, IsSized}
 use Rattle.rlp.specs.Streams.Stream.{OpenList, Stack, empty_stack, has_room, awaited, State, initial_state, IsFinished, put, count, put_item, after_from}
 use Rattle.rlp.specs.Streams.Stream.{Call, append, append_empty_data, append_raw, append_raw_checked, begin_list, begin_unbounded_list}
 use Rattle.rlp.specs.Streams.Stream.{finalize_unbounded_list, append_internal, encode_value, clear, effect, is_admitted, is_within_size, after}

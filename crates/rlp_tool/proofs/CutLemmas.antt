@@ -12,7 +12,7 @@ use Rattle.std.proofs.lemmas.Bool.Decides.{nat_tests}
 use Rattle.std.specs.Borrow.{Bor}
 use Rattle.rlp.specs.Streams.Stream.{Call, append}
 use Rattle.hex.specs.Hex.{is_hex_digit}
-use Rattle.rlp.specs.Format.Item.{string}
+use Rattle.rlp.specs.Format.Encoding.{string}
 use Rattle.rlp_lines.specs.Digits.{number_in, bytes_in, digits_of}
 use Rattle.rlp_tool.specs.Pieces.{bytes_of, pieces_left, spaces}
 use Rattle.rlp_tool.specs.Script.{raw_call, raw_parts, call_in, calls_in, is_call, script, AddsCall, IsUnread, IsScriptFault}

@@ -5,7 +5,7 @@ use Rattle.std.proofs.lemmas.List.{replicate-append-replicate, length-replicate}
 use Rattle.std.specs.Borrow.{Bor}
 use Rattle.std.specs.List.{list_all, prefix_len}
 use Rattle.std.specs.Option.{IsSomeAnd}
-use Rattle.rlp.specs.Format.Item.{string}
+use Rattle.rlp.specs.Format.Encoding.{string}
 use Rattle.rlp.specs.Streams.Stream.{unbounded_count, State, initial_state}
 use Rattle.rlp.specs.Streams.Stream.{Call, append, append_raw, begin_list, begin_unbounded_list, clear, effect, finalize_unbounded_list, finalized, is_admitted}
 use Rattle.rlp.specs.Streams.Described.{finishes, by_finalize}

@@ -7,11 +7,8 @@ use Rattle.std.proofs.lemmas.Bool.Decides.{nat_tests, Decides-eqb}
 use Rattle.std.proofs.lemmas.List.{append_cancel_left}
 use Rattle.std.specs.List.{AllByRecursion}
 use Rattle.std.proofs.lemmas.List.Elements.{recursion_from_All, All-from_recursion}
-use Rattle.rlp.specs.Format.Item.{Item}
-use Rattle.rlp.specs.Format.Encoding.{encoding, join, BeginsWith, IsSized}
-use Rattle.rlp.specs.Format.Framing.{IsFramed, frame}
-use Rattle.rlp.specs.Format.Split.{split}
-use Rattle.rlp.specs.Format.Strict.{IsCanonicalWithin}
+use Rattle.rlp.specs.Format.Encoding.{Item, encoding, join, BeginsWith, IsSized}
+use Rattle.rlp.specs.Format.Framing.{IsFramed, frame, split, IsCanonicalWithin}
 use Rattle.rlp_reading.proofs.Lemmas.Frames.{split_join}
 use Rattle.rlp_reading.proofs.Lemmas.RawItems.{item_within-encoding, shallow_within}
 use Rattle.rlp_reading.proofs.Lemmas.Views.{sized_items}

@@ -1,7 +1,6 @@
 -- The result of calls over a front.
 use Rattle.std.specs.Prelude.{ℕ, suc, ◌≡◌, ◌<◌, ◌⊎◌, Bool, true, false, IsTrue, List, [], ◌∷◌, ◌++◌, length, Ok}
-use Rattle.rlp.specs.Format.Item.{Item}
-use Rattle.rlp.specs.Format.Encoding.{join}
+use Rattle.rlp.specs.Format.Encoding.{Item, join}
 use Rattle.rlp.specs.Streams.Stream.{Call, append_raw, append_raw_checked, clear, finalize_unbounded_list, is_admitted, after}
 use Rattle.rlp.specs.Streams.Stream.{State, initial_state, IsFinished, closed_size, raw_text}
 use Rattle.rlp.specs.Streams.Described.{Step, DescribesWhere, AreDescribedWhere, IsDescribed, IsDescribedWhere, FinishAs}

@@ -5,7 +5,7 @@ use Rattle.std.specs.List.{slice_split, list_all}
 use Rattle.std.specs.Result.{result_ok}
 use Rattle.std.specs.Str.{byte}
 use Rattle.hex.specs.Hex.{decode_of, is_hex_digit}
-use Rattle.rlp.specs.Format.Item.{string}
+use Rattle.rlp.specs.Format.Encoding.{string}
 use Rattle.rlp.specs.Streams.Stream.{Call, append, append_raw, begin_list, begin_unbounded_list, finalize_unbounded_list, clear}
 use Rattle.rlp_tool.specs.declared.script.Piece.{Piece}
 use Rattle.rlp_tool.specs.declared.script.Piece.TheVariants.{Value, Byte, Raw, Begin, BeginUnbounded, Finish, Clear}

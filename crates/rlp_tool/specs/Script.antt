@@ -3,7 +3,7 @@ use Rattle.std.specs.Prelude.{ℕ, ◌≡◌, ◌≢◌, IsSome, ◌+◌, ◌==�
 use Rattle.std.specs.Prelude.{Option, Some, None, option_map, position, filter_map, Result, Ok, Err}
 use Rattle.std.specs.List.{slice_split, list_all, prefix_len}
 use Rattle.std.specs.Str.{byte}
-use Rattle.rlp.specs.Format.Item.{string}
+use Rattle.rlp.specs.Format.Encoding.{string}
 use Rattle.rlp.specs.Streams.Stream.{Call, append, append_raw, begin_list, begin_unbounded_list, finalize_unbounded_list, clear}
 use Rattle.rlp_lines.specs.Digits.{bytes_in, number_in}
 use Rattle.rlp_tool.specs.declared.script.ScriptFault.{ScriptFault}

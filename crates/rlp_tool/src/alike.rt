@@ -1,7 +1,7 @@
 //! Whether calls finish as the same bytes.
 
 ghost use Rattle.std.specs.Prelude.{◌≡◌, ◌<◌, ◌↔◌, ◌⊎◌, List, length, IfOk, IfErr, IfSome, IsNone, IsSome, IsSomeAnd, IsTrue, OnErr, OnOk};
-ghost use Rattle.rlp.specs.Format.Item.{Item};
+ghost use Rattle.rlp.specs.Format.Encoding.{Item};
 ghost use Rattle.rlp.specs.Streams.Described.{IsDescribed, FinishAs};
 ghost use Rattle.rlp_tool.specs.Building.{AreJoined, AreTaken, DescribeItems, IsRefusal, IsRefusalOver, LeaveOpen};
 ghost use Rattle.rlp_tool.specs.StreamCalls.{calls_of};

@@ -1,7 +1,6 @@
 //! Makes calls of a stream over a front.
 ghost use Rattle.std.specs.Prelude.{ℕ, ◌≡◌, ◌≢◌, ◌++◌, ◌∷◌, [], ◌+◌, ◌<◌, ◌↔◌, List, length, MatchOption, OnOk, OnErr, IfOk, IfErr, IsTrue, Ok};
-ghost use Rattle.rlp.specs.Format.Item.{Item};
-ghost use Rattle.rlp.specs.Format.Encoding.{join};
+ghost use Rattle.rlp.specs.Format.Encoding.{Item, join};
 ghost use Rattle.rlp.specs.Format.Framing.{IsFramed, frame};
 ghost use Rattle.rlp.specs.Streams.Stream.{has_room, IsFinished, Call, append_raw, effect, finalize_unbounded_list, is_admitted};
 ghost use Rattle.rlp.specs.Streams.Described.{IsDescribed, IsDescribedWhere};

@@ -1,7 +1,7 @@
 //! Makes the calls of a script on a stream, each as its piece is read.
 ghost use Rattle.std.specs.Prelude.{ℕ, ◌≡◌, ◌++◌, ◌∷◌, ◌+◌, ◌<◌, [], List, length, IfOk, IfErr, OnOk, Ok, Some};
 ghost use Rattle.rlp.specs.Streams.Stream.{initial_state, Call, append, append_raw};
-ghost use Rattle.rlp.specs.Format.Item.{string};
+ghost use Rattle.rlp.specs.Format.Encoding.{string};
 ghost use Rattle.rlp_tool.specs.Making.{AreMade, AreMadeBut, Goes, IsLineFault, IsTaken, IsUnmade, MakesScript};
 ghost use Rattle.rlp_tool.specs.Script.{script};
 ghost use Rattle.rlp_tool.specs.Pieces.{ArePairs, HasPairs, bytes_of, piece_call};

@@ -1,7 +1,7 @@
 //! Scripts: calls of a stream as text.
 ghost use Rattle.std.specs.Prelude.{◌≡◌, ◌≢◌, [], ◌==◌, ◌+◌, ◌++◌, ◌/◌, ◌^◌, ◌<◌, ◌≤◌, ◌∷◌, false, IsTrue, length, position, option_map, take, vec_len, Some, None, MatchOption, IfSome, IfOk, IfErr, OnOk, Ok};
 ghost use Rattle.std.specs.List.{list_all, prefix_len};
-ghost use Rattle.rlp.specs.Format.Item.{string};
+ghost use Rattle.rlp.specs.Format.Encoding.{string};
 ghost use Rattle.rlp.specs.Streams.Stream.{append, begin_list};
 ghost use Rattle.rlp_tool.specs.Script.{call_in, calls_in, is_call, labelled_call, letter_call, raw_parts, script, AddsCall, IsUnread, IsScriptFault};
 ghost use Rattle.rlp_lines.specs.Digits.{bytes_in, number_in};

@@ -1,7 +1,6 @@
 -- What a key signs: the same bytes have one meaning.
 use Rattle.std.proofs.Common.{◌≡◌, ℕ, ◌^◌, ◌<◌, List, ◌∷◌, [], length, refl, sym, ap, ◌∙◌, arith, Err}
-use Rattle.rlp.specs.Format.Item.{list_of}
-use Rattle.rlp.specs.Format.Encoding.{encoding}
+use Rattle.rlp.specs.Format.Encoding.{list_of, encoding}
 use Rattle.rlp_codec.specs.Form.{custom}
 use Rattle.rlp.specs.Codec.{plain, struct_of}
 use Rattle.rlp_records.proofs.AfterByte.{after_strings}

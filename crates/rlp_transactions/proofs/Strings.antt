@@ -1,7 +1,7 @@
 -- Transactions by themselves: the bytes of a transaction are read back, and no other bytes are read.
 use Rattle.std.proofs.Common.{◌≡◌, ℕ, ◌^◌, ◌<◌, ◌≤◌, inl, inr, true, false, ltb, List, [], ◌∷◌, length, refl, arith, le-ltb, leb-true}
-use Rattle.rlp.specs.Format.Item.{string}
-use Rattle.rlp.specs.Format.Split.{begins_as_list}
+use Rattle.rlp.specs.Format.Encoding.{string}
+use Rattle.rlp.specs.Format.Framing.{begins_as_list}
 use Rattle.rlp.specs.Values.Sums.{sum_item}
 use Rattle.rlp_codec.specs.Sums.{envelope}
 use Rattle.rlp_codec.proofs.StringLaws.{ReadsStrings}

@@ -1,7 +1,7 @@
 -- How transactions of every type are written and read, also of those that this crate doesn't know.
 use Rattle.std.specs.Prelude.{ℕ, ◌≡◌, ◌⊎◌, List, Ok, false, true}
 use Rattle.std.proofs.Common.{inl, inr, refl, sym, ap, ◌∙◌}
-use Rattle.rlp.specs.Format.Item.{is_list, string}
+use Rattle.rlp.specs.Format.Encoding.{is_list, string}
 use Rattle.rlp.specs.Values.Sums.{sum_item}
 use Rattle.rlp_codec.specs.Form.{Answer, Fault}
 use Rattle.rlp_codec.specs.Sums.{envelope}

@@ -4,13 +4,11 @@ use Rattle.std.proofs.Common.{leb-true, Result, Ok, Err}
 use Rattle.std.proofs.lemmas.Bool.{cond-true, cond-false}
 use Rattle.rlp.specs.DecoderError.{DecoderError}
 use Rattle.rlp.specs.DecoderError.TheVariants.{RlpExpectedToBeData}
-use Rattle.rlp.specs.Format.Item.{Item, is_list, list, string}
-use Rattle.rlp.specs.Format.Encoding.{encoding}
-use Rattle.rlp.specs.Format.Split.{begins_as_list}
-use Rattle.rlp.specs.Format.WrittenHeader.{AreBytes}
+use Rattle.rlp.specs.Format.Encoding.{Item, is_list, list, string, encoding, AreBytes}
+use Rattle.rlp.specs.Format.Framing.{begins_as_list}
 use Rattle.rlp.specs.Values.Sums.{OnSum, sum_item}
 use Rattle.rlp.specs.Views.View.{View, Holds, HoldsItem, strict_view_of, view_string}
-use Rattle.rlp_reading.specs.Format.StringReading.{read_string}
+use Rattle.rlp_reading.specs.Format.Framing.{read_string}
 use Rattle.rlp_reading.proofs.Lemmas.Strings.{string_list}
 use Rattle.rlp_reading.proofs.Lemmas.StringsHeld.{ReadsHeld, held_begins, held_fault, held_only, held_reads}
 use Rattle.rlp_reading.proofs.Lemmas.Sums.{list_first}

@@ -1,6 +1,6 @@
 -- How payloads are written and read, with their signatures and without.
 use Rattle.std.specs.Prelude.{◌≡◌, List, ◌++◌, ◌∷◌, true}
-use Rattle.rlp.specs.Format.Item.{Item, list_of}
+use Rattle.rlp.specs.Format.Encoding.{Item, list_of}
 use Rattle.rlp_codec.specs.Form.{FieldsReading, Reading, group_before, one_field, struct_reading}
 use Rattle.rlp.specs.Codec.{Codec, Fields, end, field, group, newtype, struct_of, uint}
 use Rattle.rlp_transactions.specs.declared.signed.Signed.{Signed}

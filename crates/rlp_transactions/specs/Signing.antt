@@ -1,7 +1,6 @@
 -- What a key signs, and when two of these mean the same.
 use Rattle.std.specs.Prelude.{ℕ, ◌≡◌, List, ◌∷◌}
-use Rattle.rlp.specs.Format.Item.{list_of}
-use Rattle.rlp.specs.Format.Encoding.{encoding}
+use Rattle.rlp.specs.Format.Encoding.{list_of, encoding}
 use Rattle.rlp_records.specs.Alone.{bytes_alone}
 use Rattle.rlp_transactions.specs.Authorization.{authorization_fields}
 use Rattle.rlp_transactions.specs.UnsignedTransaction.{unsigned_transaction}

@@ -1,8 +1,7 @@
 //! Hashes of transactions, and what is signed: Keccak-256 of their bytes.
 
 ghost use Rattle.std.specs.Prelude.{◌∷◌, IfOk, OnOk};
-ghost use Rattle.rlp.specs.Format.Encoding.{encoding};
-ghost use Rattle.rlp.specs.Format.Item.{list_of};
+ghost use Rattle.rlp.specs.Format.Encoding.{encoding, list_of};
 ghost use Rattle.rlp_records.specs.Alone.{bytes_alone};
 ghost use Rattle.rlp_records.specs.Hashing.{IsHashOf};
 ghost use Rattle.rlp_transactions.specs.Transaction.{transaction};

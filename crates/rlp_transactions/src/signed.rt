@@ -2,8 +2,7 @@
 
 ghost use Rattle.std.specs.Prelude.{◌≡◌, ◌∷◌, ◌⊎◌, ℕ, true, Bool, Err, IfErr, IfOk, IsTrue, Ok, OnOk};
 ghost use Rattle.rlp.specs.DecoderError.TheVariants.{OutOfMemory};
-ghost use Rattle.rlp.specs.Format.Encoding.{encoding};
-ghost use Rattle.rlp.specs.Format.Item.{list_of};
+ghost use Rattle.rlp.specs.Format.Encoding.{encoding, list_of};
 ghost use Rattle.rlp_codec.specs.Form.{fault_of, held_reading, struct_reading};
 ghost use Rattle.rlp_codec.specs.Laws.{AreLawful, fields_of};
 ghost use Rattle.rlp.specs.Codec.{codec_of, lawful_fields};

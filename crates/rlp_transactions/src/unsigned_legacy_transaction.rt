@@ -1,8 +1,7 @@
 //! Transactions without a type, before they are signed.
 
 ghost use Rattle.std.specs.Prelude.{◌≡◌, IfOk};
-ghost use Rattle.rlp.specs.Format.Encoding.{encoding};
-ghost use Rattle.rlp.specs.Format.Item.{list_of};
+ghost use Rattle.rlp.specs.Format.Encoding.{encoding, list_of};
 ghost use Rattle.rlp_transactions.specs.Eip155.{v_of};
 ghost use Rattle.rlp_transactions.specs.Signatures.{number_of};
 ghost use Rattle.rlp_transactions.specs.UnsignedLegacyTransaction.{unsigned_legacy_transaction};

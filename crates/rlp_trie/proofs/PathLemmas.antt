@@ -7,7 +7,7 @@ use Rattle.std.proofs.lemmas.Bool.{cases_lt}
 use Rattle.std.proofs.lemmas.Bool.Decides.{nat_tests}
 use Rattle.std.proofs.lemmas.List.{take_rest}
 use Rattle.std.proofs.lemmas.List.Elements.{All-cons, All-drop, All-head, All-nil, All-tail, All-take}
-use Rattle.rlp.specs.Format.WrittenHeader.{AreBytes}
+use Rattle.rlp.specs.Format.Encoding.{AreBytes}
 use Rattle.rlp_reading.proofs.Lemmas.Reading.{bytes_held}
 use Rattle.rlp_trie.specs.HexPrefix.{AreNibbles, IsHexPrefix, above_nibbles, bytes_of, ends_in_leaf, is_empty_extension, no_nibbles, first_ends_in_leaf, flag_of, hex_prefix, nibbles_of, odd_prefix, path_nibbles}
 

@@ -9,8 +9,7 @@ use Rattle.std.specs.Prelude.{nat_eq}
 use Rattle.std.specs.Str.{bytes_eq}
 use Rattle.std.specs.Vec.{vec_items}
 use Rattle.rlp.specs.Codec.{Codec, Fields, byte_string, each, end, field}
-use Rattle.rlp.specs.Format.Item.{Item, string}
-use Rattle.rlp.specs.Format.Item.{items_from, listed, list_of}
+use Rattle.rlp.specs.Format.Encoding.{Item, string, items_from, listed, list_of}
 use Rattle.rlp_format.proofs.Lemmas.Encodings.{listed_from}
 use Rattle.rlp_trie.specs.BranchChild.{branch_child, place_item}
 use Rattle.rlp_trie.specs.Child.{IsChild, child_item}

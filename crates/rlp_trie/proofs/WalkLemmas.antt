@@ -10,10 +10,9 @@ use Rattle.std.specs.Vec.{vec_items}
 use Rattle.keccak.specs.Keccak.{keccak256}
 use Rattle.rlp.specs.DecoderError.{DecoderError}
 use Rattle.rlp.specs.DecoderError.TheVariants as decoder
-use Rattle.rlp.specs.Format.Encoding.{encoding}
-use Rattle.rlp.specs.Format.Item.{Item, list, string}
+use Rattle.rlp.specs.Format.Encoding.{encoding, Item, list, string}
 use Rattle.rlp_format.proofs.Lemmas.Encodings.{encoding_same}
-use Rattle.rlp.specs.Format.Split.{begins_as_list}
+use Rattle.rlp.specs.Format.Framing.{begins_as_list}
 use Rattle.rlp_reading.proofs.Lemmas.RawItems.{string_kind}
 use Rattle.rlp.specs.Values.RawItem.{raw_item_of}
 use Rattle.rlp.specs.Views.View.{strict_view_of}

@@ -1,8 +1,8 @@
 -- How children of nodes of the trie are written and read.
 use Rattle.std.specs.Prelude.{ℕ, ◌≡◌, ◌⊎◌, if◌then◌else◌, nat_le, List, length, Result, Err}
 use Rattle.std.proofs.Common.{inl, inr}
-use Rattle.rlp.specs.Format.Item.{Item, string}
-use Rattle.rlp.specs.Format.Split.{begins_as_list}
+use Rattle.rlp.specs.Format.Encoding.{Item, string}
+use Rattle.rlp.specs.Format.Framing.{begins_as_list}
 use Rattle.rlp.specs.Values.RawItem.{raw_item_of}
 use Rattle.rlp.specs.Values.Sums.{sum_item}
 use Rattle.rlp.specs.Views.View.{strict_view_of}

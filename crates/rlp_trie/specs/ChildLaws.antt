@@ -2,10 +2,8 @@
 use Rattle.std.proofs.Common.{◌≡◌, ◌≢◌, ◌<◌, ◌^◌, ◌⊎◌, inl, inr, ℕ, Bool, true, false, List, [], length, refl, sym, ap, ◌∙◌, subst, arith, Ok, Err}
 use Rattle.std.specs.Prelude.{nat_le}
 use Rattle.std.proofs.lemmas.Bool.{cond-true, cond-false}
-use Rattle.rlp.specs.Format.Item.{string}
-use Rattle.rlp.specs.Format.Encoding.{IsSized, encoding}
-use Rattle.rlp.specs.Format.Split.{begins_as_list}
-use Rattle.rlp.specs.Format.WrittenHeader.{AreBytes}
+use Rattle.rlp.specs.Format.Encoding.{string, IsSized, encoding, AreBytes}
+use Rattle.rlp.specs.Format.Framing.{begins_as_list}
 use Rattle.rlp.specs.Values.RawItem.{raw_item_of}
 use Rattle.rlp_reading.proofs.Lemmas.RawItems.{raw_is, string_kind}
 use Rattle.rlp_codec.specs.FirstItems.{item_type}

@@ -2,9 +2,7 @@
 use Rattle.std.specs.Prelude.{ℕ, ◌≡◌, ◌≢◌, ◌==◌, Bool, true, false, List, [], ◌∷◌}
 use Rattle.std.proofs.Common.{refl, ap, ◌∙◌, sym, arith, length}
 use Rattle.std.proofs.lemmas.Bool.{eqb-true}
-use Rattle.rlp.specs.Format.Encoding.{IsSized, encoding}
-use Rattle.rlp.specs.Format.Item.{Item, string}
-use Rattle.rlp.specs.Format.WrittenHeader.{big_endian, written_header}
+use Rattle.rlp.specs.Format.Encoding.{IsSized, encoding, Item, string, big_endian, written_header}
 use Rattle.rlp_format.proofs.Lemmas.Encodings.{encoding_same}
 
 -- whether bytes are the encoding of the empty string: the byte 0x80

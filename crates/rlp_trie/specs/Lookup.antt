@@ -4,8 +4,7 @@ use Rattle.std.specs.List.{starts_with}
 use Rattle.std.specs.Str.{bytes_eq}
 use Rattle.std.specs.Vec.{vec_items}
 use Rattle.keccak.specs.Keccak.{keccak256}
-use Rattle.rlp.specs.Format.Encoding.{encoding}
-use Rattle.rlp.specs.Format.Item.{Item, Items, list, string}
+use Rattle.rlp.specs.Format.Encoding.{encoding, Item, Items, list, string}
 use Rattle.rlp_trie.specs.Child.{child_item}
 use Rattle.rlp_trie.specs.HexPrefix.{path_nibbles}
 use Rattle.rlp_trie.specs.Trie.{child_at}

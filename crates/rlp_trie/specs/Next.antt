@@ -4,7 +4,7 @@ use Rattle.std.specs.Global.{Vec}
 use Rattle.std.specs.Vec.{vec_items}
 use Rattle.rlp.specs.DecoderError.{DecoderError}
 use Rattle.rlp.specs.DecoderError.TheVariants as decoder
-use Rattle.rlp.specs.Format.Item.{Item}
+use Rattle.rlp.specs.Format.Encoding.{Item}
 use Rattle.rlp_trie.specs.Child.{child_item}
 use Rattle.rlp_trie.specs.Lookup.{Step, ends, goes}
 use Rattle.rlp_trie.specs.ProofWalk.{IsSameKind, Walk}

@@ -3,8 +3,7 @@ use Rattle.std.specs.Prelude.{ℕ, ◌≡◌, ◌⊎◌, ⊤, if◌then◌else�
 use Rattle.std.specs.Str.{bytes_eq}
 use Rattle.keccak.specs.Keccak.{keccak256}
 use Rattle.rlp.specs.DecoderError.{DecoderError}
-use Rattle.rlp.specs.Format.Encoding.{encoding}
-use Rattle.rlp.specs.Format.Item.{Item, list, string}
+use Rattle.rlp.specs.Format.Encoding.{encoding, Item, list, string}
 use Rattle.rlp.specs.Views.Text.{error_name}
 use Rattle.rlp.specs.Views.View.{strict_view_of}
 use Rattle.rlp.specs.Form.{Faults}

@@ -2,7 +2,7 @@
 use Rattle.std.specs.Prelude.{ℕ, ⊤, ◌⊎◌, ◌==◌, if◌then◌else◌, Bool, false, List, [], Result, Ok, Err}
 use Rattle.std.proofs.Common.{inl, inr}
 use Rattle.rlp.specs.DecoderError.{DecoderError}
-use Rattle.rlp.specs.Format.Item.{Item, string}
+use Rattle.rlp.specs.Format.Encoding.{Item, string}
 use Rattle.rlp.specs.Values.Sums.{sum_item}
 use Rattle.rlp.specs.Views.View.{View, item_at, item_count, strict_view_of, view_string}
 use Rattle.rlp.specs.Form.{Answer, Fault, go_on, here, incorrect_list_len, map_answer, seen_fault}

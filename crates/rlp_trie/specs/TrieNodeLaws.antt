@@ -2,9 +2,7 @@
 use Rattle.std.proofs.Common.{◌≡◌, ◌≢◌, ◌<◌, ◌^◌, ◌==◌, inl, inr, ℕ, Bool, true, false, List, [], ◌∷◌, length, refl, sym, ap, ◌∙◌, Ok, Err, Result, unwrap_or}
 use Rattle.std.proofs.lemmas.Bool.{cond-true, cond-false}
 use Rattle.std.specs.Vec.{vec_items}
-use Rattle.rlp.specs.Format.Encoding.{IsSized, encoding}
-use Rattle.rlp.specs.Format.Item.{Item, list_of, string}
-use Rattle.rlp.specs.Format.WrittenHeader.{AreBytes}
+use Rattle.rlp.specs.Format.Encoding.{IsSized, encoding, Item, list_of, string, AreBytes}
 use Rattle.rlp_reading.proofs.Lemmas.StringsHeld.{held_only}
 use Rattle.rlp_reading.proofs.Lemmas.WholeLists.{strict_first, strict_item_count, strict_items, strict_list_told}
 use Rattle.rlp.specs.Views.View.{item_at, item_count, strict_view_of}

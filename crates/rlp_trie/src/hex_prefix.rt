@@ -1,7 +1,7 @@
 //! Hex-prefix encoding, which writes a path as bytes: appendix C of the yellow paper.
 
 ghost use Rattle.std.specs.Prelude.{◌≡◌, ◌↔◌, ◌++◌, Bool, Some, IfOk, IsTrue, OnOk};
-ghost use Rattle.rlp.specs.Format.WrittenHeader.{AreBytes};
+ghost use Rattle.rlp.specs.Format.Encoding.{AreBytes};
 ghost use Rattle.rlp_trie.specs.HexPrefix.{AreNibbles, IsHexPrefix, bytes_of, ends_in_leaf, hex_prefix, is_empty_extension, nibbles_of, path_nibbles};
 
 use std::alloc::{AllocError, Global};

@@ -1,7 +1,7 @@
 //! Nodes of the trie that are kept in their parents.
 
 ghost use Rattle.std.specs.Prelude.{◌≡◌, ◌<◌, IfErr, IfOk, length, true};
-ghost use Rattle.rlp.specs.Format.Split.{begins_as_list};
+ghost use Rattle.rlp.specs.Format.Framing.{begins_as_list};
 ghost use Rattle.rlp_trie.specs.Inline.{IsInlineFault};
 
 use rlp::{DecoderError, RawItem};

@@ -1,7 +1,7 @@
 //! What holds of the trie and of proofs from it.
 
 ghost use Rattle.std.specs.Prelude.{ℕ, ◌≡◌, List, Option};
-ghost use Rattle.rlp.specs.Format.Item.{Item};
+ghost use Rattle.rlp.specs.Format.Encoding.{Item};
 ghost use Rattle.rlp_trie.specs.HexPrefix.{AreNibbles};
 ghost use Rattle.rlp_trie.specs.Lookup.{HasValue};
 ghost use Rattle.rlp_trie.specs.ProofWalk.{IsKnown, TellApart};

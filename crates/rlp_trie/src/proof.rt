@@ -2,7 +2,7 @@
 
 ghost use Rattle.std.specs.Prelude.{ℕ, ◌≡◌, ◌⊎◌, IfErr, IfOk, IsErrAnd, List, Err, Ok, Option, map, option_map};
 ghost use Rattle.std.specs.Vec.{vec_items};
-ghost use Rattle.rlp.specs.Format.Item.{string};
+ghost use Rattle.rlp.specs.Format.Encoding.{string};
 ghost use Rattle.rlp_trie.specs.HexPrefix.{nibbles_of};
 ghost use Rattle.rlp_trie.specs.Lookup.{HasValue};
 ghost use Rattle.rlp_trie.specs.ProofWalk.{IsKnown, IsSameKind, ProofGives};

@@ -4,7 +4,7 @@ ghost use Rattle.std.specs.Prelude.{ℕ, ◌≡◌, ◌⊎◌, IfErr, IfOk, List
 ghost use Rattle.std.specs.Str.{bytes_eq};
 ghost use Rattle.std.specs.Vec.{vec_items};
 ghost use Rattle.keccak.specs.Keccak.{keccak256};
-ghost use Rattle.rlp.specs.Format.Item.{string};
+ghost use Rattle.rlp.specs.Format.Encoding.{string};
 ghost use Rattle.rlp_trie.specs.Child.{child_item};
 ghost use Rattle.rlp_trie.specs.HexPrefix.{AreNibbles};
 ghost use Rattle.rlp_trie.specs.Lookup.{Encodes};

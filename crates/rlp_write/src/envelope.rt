@@ -1,8 +1,7 @@
 //! Strings that hold a tag and the encoding of a payload.
 
 ghost use Rattle.std.specs.Prelude.{◌≡◌, ◌≤◌, ◌∷◌, OnOk, OnErr};
-ghost use Rattle.rlp_format.specs.Format.Encoding.{encoding};
-ghost use Rattle.rlp_format.specs.Format.Item.{string};
+ghost use Rattle.rlp_format.specs.Format.Encoding.{encoding, string};
 ghost use Rattle.rlp_write.specs.Streams.Stream.{IsAsBefore, put_item};
 ghost use Rattle.rlp_write.specs.Streams.Growth.{GrowsTo};
 

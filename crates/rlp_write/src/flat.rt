@@ -4,8 +4,7 @@
 ghost use Rattle.std.specs.Prelude.{◌≡◌, ◌≤◌, ◌<◌, ◌+◌, ◌*◌, ◌^◌, ◌++◌, ◌↔◌, ℕ, List, IsTrue, IsOk, OnOk, OnErr, false, length, min};
 ghost use Rattle.std.specs.Iterator.{IsFiniteIterable};
 ghost use Rattle.std.specs.Option.{SomeIff};
-ghost use Rattle.rlp_format.specs.Format.Item.{string};
-ghost use Rattle.rlp_format.specs.Format.Encoding.{encoding};
+ghost use Rattle.rlp_format.specs.Format.Encoding.{string, encoding};
 ghost use Rattle.rlp_write.specs.Streams.Stream.{AwaitsSome, awaited, is_counted_after, is_unbounded, unbounded_count, clear, effect, State, IsAsBefore, IsFinished, MovesWithin, closed_size, closed_size_with, count, initial_state, put, raw_text, with_awaiting, with_is_counted, with_list};
 ghost use Rattle.rlp_write.specs.Streams.Growth.{GrowsTo};
 ghost use Rattle.rlp_write.specs.Streams.Places.{place_of};

@@ -1,7 +1,7 @@
 //! Writing of headers.
 
 ghost use Rattle.std.specs.Prelude.{◌≡◌, ◌<◌, ◌≤◌, length};
-ghost use Rattle.rlp_format.specs.Format.WrittenHeader.{big_endian, written_header};
+ghost use Rattle.rlp_format.specs.Format.Encoding.{big_endian, written_header};
 
 use rlp_format::digits::leading_zero_bytes;
 use std::marker::Model;

@@ -1,15 +1,14 @@
 //! Laws over the state of a stream. `rlp::laws` re-exports them.
 
 ghost use Rattle.std.specs.Prelude.{◌≡◌, ◌<◌, ◌≤◌, ℕ, List, [], ◌∷◌, ◌++◌, ◌+◌, length, replicate, IsTrue, Ok, Option};
-ghost use Rattle.rlp_format.specs.Format.Item.{Item, string, list_of, is_list};
-ghost use Rattle.rlp_format.specs.Format.Encoding.{encoding};
+ghost use Rattle.rlp_format.specs.Format.Encoding.{Item, string, list_of, is_list, encoding};
 ghost use Rattle.rlp_write.specs.Streams.Stream.{State, IsFinished, put, shut, count, with_list, add, put_item, raw_text, closed_text, closed_size, closed_size_with, AllAwait, unbounded_count, Call, after_from, effect, finalize_unbounded_list, finalized, is_admitted};
 ghost use Rattle.rlp_write.specs.Streams.Growth.{GrowsTo};
 
 use crate::{EMPTY_LIST_RLP, NULL_RLP};
 
 /// The constants are the encodings of the empty string and of the list of no items.
-#[tactic(auto, unfolding(rlp_format::specs::Format::Encoding::encoding, rlp_format::specs::Format::WrittenHeader::written_header, rlp_format::specs::Format::WrittenHeader::big_endian))]
+#[tactic(auto, unfolding(rlp_format::specs::Format::Encoding::encoding, rlp_format::specs::Format::Encoding::written_header, rlp_format::specs::Format::Encoding::big_endian))]
 pub fn constants_are_encodings()
     ensures null { NULL_RLP ≡ encoding (string []) }
     ensures empty_list { EMPTY_LIST_RLP ≡ encoding (list_of []) }

@@ -1,7 +1,7 @@
 //! Structs that are written as the list of their fields.
 
 ghost use Rattle.std.specs.Prelude.{◌≡◌, ◌++◌, ◌∷◌, [], ◌^◌, ◌≤◌, List, OnOk, OnErr, length, MatchOption, ⊤};
-ghost use Rattle.rlp_format.specs.Format.Item.{Item, list_of};
+ghost use Rattle.rlp_format.specs.Format.Encoding.{Item, list_of};
 ghost use Rattle.rlp_write.specs.Streams.Stream.{MovedGrows, add_all, put_item};
 ghost use Rattle.rlp_write.specs.Streams.Growth.{GrowsTo};
 ghost use Rattle.rlp_write.specs.Streams.Fields.{AppendsSome};

@@ -1,8 +1,7 @@
 //! Values that are encoded alone, and lists of them.
 
 ghost use Rattle.std.specs.Prelude.{◌≡◌, ◌++◌, IfOk, OnOk, map, All};
-ghost use Rattle.rlp_format.specs.Format.Item.{list_of};
-ghost use Rattle.rlp_format.specs.Format.Encoding.{encoding, join};
+ghost use Rattle.rlp_format.specs.Format.Encoding.{list_of, encoding, join};
 ghost use Rattle.rlp_write.specs.Streams.Stream.{IsFinished};
 
 use crate::buffer::alone::list_alone;

@@ -3,9 +3,7 @@ use Rattle.std.proofs.Common.{◌≡◌, ◌<◌, ◌^◌, ℕ, suc, ◌+◌, ar
 use Rattle.std.proofs.Common.{refl, sym, ap, ◌∙◌, append-nil, Result, Ok, Err, IsTrue, not, All}
 use Rattle.std.proofs.lemmas.List.{append_cancel_left}
 use Rattle.std.proofs.lemmas.List.Concat.{flat_map-append}
-use Rattle.rlp_format.specs.Format.WrittenHeader.{big_endian, written_header}
-use Rattle.rlp_format.specs.Format.Item.{Item, string, list_of}
-use Rattle.rlp_format.specs.Format.Encoding.{encoding, join, IsSized}
+use Rattle.rlp_format.specs.Format.Encoding.{big_endian, written_header, Item, string, list_of, encoding, join, IsSized}
 use Rattle.rlp_write.specs.Streams.Stream.{OpenList, Stack, empty_stack, stack_put, stack_shut, shut_around, stack_count, count_around, is_last}
 use Rattle.rlp_write.specs.Streams.Stream.{State, initial_state, list_encoding, put, count}
 use Rattle.rlp_write.specs.Streams.Stream.{Call, effect, is_within_size, is_admitted, after, after_from}

@@ -6,7 +6,7 @@ ghost use Rattle.std.specs.Cmp.Lexicographic.{nat_list_eq_equiv, pointwise};
 ghost use Rattle.rlp_reading.specs.declared.error.DecoderError.TheVariants.{OutOfMemory};
 ghost use Rattle.rlp_reading.specs.Views.View.{strict_view_of};
 ghost use Rattle.rlp_format.specs.Format.Encoding.{encoding};
-ghost use Rattle.rlp_reading.specs.Format.Strict.{IsCanonicalWithin};
+ghost use Rattle.rlp_reading.specs.Format.Framing.{IsCanonicalWithin};
 ghost use Rattle.rlp_reading.specs.Values.RawItem.{IsRawItem, deepest_raw_item, raw_item_of};
 ghost use Rattle.rlp_codec.specs.Form.{fault_of, raw_of};
 ghost use Rattle.rlp_codec.proofs.RawLaws.{raw_only};

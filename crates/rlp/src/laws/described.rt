@@ -1,8 +1,7 @@
 //! Laws over the items that a stream's calls describe.
 
 ghost use Rattle.std.specs.Prelude.{◌≡◌, ℕ, Bool, List, [], All, IsTrue, Ok, ◌++◌, ◌↔◌};
-ghost use Rattle.rlp_format.specs.Format.Item.{Item};
-ghost use Rattle.rlp_format.specs.Format.Encoding.{join, IsSized};
+ghost use Rattle.rlp_format.specs.Format.Encoding.{Item, join, IsSized};
 ghost use Rattle.rlp_write.specs.Streams.Stream.{empty_stack, State, initial_state, Call, after};
 ghost use Rattle.rlp.specs.Streams.Described.{Step, AreDescribed, AreDescribedWhere, IsDescribed, IsDescribedWhere, items_after_all, joined_stack, FinishAs};
 

@@ -1,11 +1,9 @@
 //! What is read from the beginning of bytes: strings, numbers, byte strings and text.
 
 ghost use Rattle.std.specs.Prelude.{◌≡◌, ◌<◌, ◌≤◌, ◌^◌, ℕ, List, Ok, length};
-ghost use Rattle.rlp_format.specs.Format.Encoding.{encoding};
-ghost use Rattle.rlp_format.specs.Format.Item.{Item, item_depth, string};
-ghost use Rattle.rlp_format.specs.Format.WrittenHeader.{AreBytes};
+ghost use Rattle.rlp_format.specs.Format.Encoding.{encoding, Item, item_depth, string, AreBytes};
 ghost use Rattle.rlp_format.specs.Values.Value.{bit, number_item, option_item};
-ghost use Rattle.rlp_reading.specs.Format.StringReading.{IsString, ReadsString, read_string};
+ghost use Rattle.rlp_reading.specs.Format.Framing.{IsString, ReadsString, read_string};
 ghost use Rattle.rlp_reading.specs.Values.RawItem.{deepest_raw_item, raw_item_of};
 ghost use Rattle.rlp_reading.specs.Values.StructReading.{HoldsOrHasOneFault};
 ghost use Rattle.rlp_reading.specs.Values.ValueReading.{HasOneReading};

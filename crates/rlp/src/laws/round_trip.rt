@@ -2,11 +2,10 @@
 
 ghost use Rattle.std.specs.Prelude.{◌≡◌, ◌↔◌, ◌++◌, ◌∷◌, ℕ, List, All, IfErr, IfOk, IsOkAnd, IsTrue, length, map};
 ghost use Rattle.rlp_reading.specs.declared.error.DecoderError.TheVariants.{OutOfMemory};
-ghost use Rattle.rlp_format.specs.Format.Encoding.{BeginsWith, encoding};
-ghost use Rattle.rlp_format.specs.Format.Item.{list_of};
+ghost use Rattle.rlp_format.specs.Format.Encoding.{BeginsWith, encoding, list_of};
 ghost use Rattle.rlp_reading.specs.Values.RoundTrip.{ReadsBack};
 ghost use Rattle.rlp_reading.specs.Values.ValueReading.{GivesValue};
-ghost use Rattle.rlp_reading.specs.Format.Split.{items};
+ghost use Rattle.rlp_reading.specs.Format.Framing.{items};
 ghost use Rattle.rlp_format.specs.Values.Value.{AreAlike};
 ghost use Rattle.rlp_reading.specs.Views.View.{HoldsItem, view_of};
 ghost use Rattle.rlp_codec.specs.Form.{Faults, Gives, list_reading, reading_at};

@@ -2,14 +2,8 @@
 
 ghost use Rattle.std.specs.Prelude.{◌≡◌, ◌+◌, ◌<◌, ◌^◌, ◌↔◌, ◌⊎◌, ℕ, List, All, if◌then◌else◌, length, Ok, Err, Some, None, IfErr, IfOk, IsOkAnd, map};
 ghost use Rattle.rlp_reading.specs.declared.error.DecoderError.TheVariants.{OutOfMemory, RlpExpectedToBeList, RlpIsTooBig};
-ghost use Rattle.rlp_format.specs.Format.Encoding.{BeginsWith, encoding};
-ghost use Rattle.rlp_format.specs.Format.WrittenHeader.{AreBytes};
-ghost use Rattle.rlp_reading.specs.Format.Header.{HasHeader};
-ghost use Rattle.rlp_reading.specs.Format.Framing.{IsFramed, fault, framing, value};
-ghost use Rattle.rlp_reading.specs.Format.Split.{begins_as_list, items};
-ghost use Rattle.rlp_reading.specs.Format.StringReading.{read_string};
-ghost use Rattle.rlp_reading.specs.Format.Strict.{IsCanonical, strict_fault};
-ghost use Rattle.rlp_format.specs.Format.Item.{Item, list_of, string};
+ghost use Rattle.rlp_format.specs.Format.Encoding.{BeginsWith, encoding, AreBytes, Item, list_of, string};
+ghost use Rattle.rlp_reading.specs.Format.Framing.{HasHeader, IsFramed, fault, framing, value, begins_as_list, items, read_string, IsCanonical, strict_fault};
 ghost use Rattle.rlp_reading.specs.Values.RoundTrip.{ReadsStrictly};
 ghost use Rattle.rlp_reading.specs.Values.ValueReading.{HasOneReading};
 ghost use Rattle.rlp_codec.specs.Form.{Faults, Gives, byte_array, byte_string, number, option_reading, text, truth_value};

@@ -2,8 +2,7 @@
 
 ghost use Rattle.std.specs.Prelude.{◌≡◌, ◌≤◌, ◌+◌, ◌↔◌, ◌++◌, ◌∷◌, [], ℕ, List, None, Ok, Err, Some, IfOk, IsOkAnd, IsTrue, false, length, map, slice_get};
 ghost use Rattle.std.specs.Iterator.{Yields};
-ghost use Rattle.rlp_format.specs.Format.Item.{Item, list_of};
-ghost use Rattle.rlp_format.specs.Format.Encoding.{encoding, join};
+ghost use Rattle.rlp_format.specs.Format.Encoding.{Item, list_of, encoding, join};
 ghost use Rattle.rlp_reading.specs.declared.error.DecoderError.{DecoderError};
 ghost use Rattle.rlp_reading.specs.declared.error.DecoderError.TheVariants.{RlpIsTooShort};
 ghost use Rattle.rlp_reading.specs.Views.View.{HoldsItem, IsStep, Remaining, View, item_at, item_count, item_views, list_fault};

@@ -2,9 +2,7 @@
 
 ghost use Rattle.std.specs.Prelude.{◌≡◌, ◌≢◌, ◌≤◌, ◌∷◌, ◌⊎◌, ◌↔◌, [], ℕ, length, map, None, Ok, Err, Some, IfOk, IfErr, IsOkAnd, IsTrue, MatchOption, MatchResult, OnOk};
 ghost use Rattle.rlp_reading.specs.declared.error.DecoderError.TheVariants.{OutOfMemory, RlpIncorrectListLen};
-ghost use Rattle.rlp_reading.specs.Format.Framing.{fault};
-ghost use Rattle.rlp_reading.specs.Format.Split.{split};
-ghost use Rattle.rlp_reading.specs.Format.Strict.{after_items};
+ghost use Rattle.rlp_reading.specs.Format.Framing.{fault, split, after_items};
 ghost use Rattle.rlp_reading.specs.Views.View.{View, item_at, item_count, item_views, items_fault};
 ghost use Rattle.rlp_codec.specs.Form.{and_then, fault_of, items_of, list_of_views, list_reading, seen_fault};
 ghost use Rattle.rlp.specs.Left.{AreCounted, ItemsLeft, after_next, next_item};

@@ -3,8 +3,7 @@
 ghost use Rattle.std.specs.Prelude.{◌≡◌, ◌≤◌, ◌^◌, ◌<◌, [], length, true, false, IfSome, IsOk, Some, map};
 ghost use Rattle.std.specs.Iterator.{item_count, UpTo, at_most};
 ghost use Rattle.std.specs.Iterator.SizeHint.{IsWithinCount};
-ghost use Rattle.rlp_reading.specs.Format.Framing.{framing};
-ghost use Rattle.rlp_reading.specs.Format.Split.{begins_as_list, split};
+ghost use Rattle.rlp_reading.specs.Format.Framing.{framing, begins_as_list, split};
 ghost use Rattle.rlp_reading.specs.Views.View.{IsStep, item_views, Remaining};
 
 use crate::rlpin::rlp::Rlp;
@@ -80,7 +79,7 @@ impl<'a, 'view> ExactSizeIterator for RlpIterator<'a, 'view> {
 
 impl<'a, 'view> RlpIterator<'a, 'view> {
     /// The iterator over the items of a view. It is empty if the view isn't a framed list.
-    #[tactic(auto, unfolding(rlp_reading::specs::Format::Split::items), using(rlp_reading::proofs::Format::Splits::splits))]
+    #[tactic(auto, unfolding(rlp_reading::specs::Format::Framing::items), using(rlp_reading::proofs::Format::Splits::splits))]
     pub(crate) fn over(view: &'view Rlp<'a>) -> RlpIterator<'a, 'view>
         ensures items { result.left ≡ item_views view.now }
         ensures few { length result.left < 2 ^ 64 }

@@ -4,9 +4,7 @@ ghost use Rattle.std.specs.Vec.{vec_items};
 ghost use Rattle.std.specs.Prelude.{◌≡◌, ◌≤◌, ◌<◌, ◌^◌, ◌↔◌, ◌⊎◌, ℕ, List, [], length, true, false, IsTrue, IsOk, None, Some, Ok, Err, IfOk, IfErr, MatchResult};
 ghost use Rattle.rlp_reading.specs.declared.error.DecoderError.TheVariants.{OutOfMemory};
 ghost use Rattle.rlp_reading.specs.Format.Flat.{IsFlat};
-ghost use Rattle.rlp_reading.specs.Format.Split.{begins_as_list, items, split};
-ghost use Rattle.rlp_reading.specs.Format.Framing.{fault, framing, total_len};
-ghost use Rattle.rlp_reading.specs.Format.Strict.{IsCanonicalWithin, after_items, strict_list_fault};
+ghost use Rattle.rlp_reading.specs.Format.Framing.{begins_as_list, items, split, fault, framing, total_len, IsCanonicalWithin, after_items, strict_list_fault};
 ghost use Rattle.rlp_reading.specs.Format.TreeFaults.{IsFlatFault};
 ghost use Rattle.rlp_reading.specs.Views.Depth.{depth};
 ghost use Rattle.rlp_reading.specs.Views.View.{begins_as_data, begins_as_empty, begins_as_int, data_size, has_nonzero_at, item_at, item_count, item_views, item_with_place, items_fault, list_fault, prototype_of, strict_view_of, view_header, view_of, view_value, View};
@@ -92,7 +90,7 @@ impl<'a> Rlp<'a> {
     /// What the view begins with: no bytes, a string with its [`Rlp::size`], or a list with the
     /// number of its items. It never fails. Bytes that aren't framed are a string of size 0 or a
     /// list of no items, depending on their first byte.
-    #[tactic(auto, unfolding(rlp_reading::specs::Format::Split::items))]
+    #[tactic(auto, unfolding(rlp_reading::specs::Format::Framing::items))]
     pub fn prototype(&self) -> Result<Prototype, DecoderError>
         ensures { result ≡ Ok (prototype_of self.now.bytes) }
     {
@@ -138,7 +136,7 @@ impl<'a> Rlp<'a> {
     /// Fails with `RlpExpectedToBeList` if there is no byte, or the first byte begins a string. A
     /// list that isn't framed has no items. A strict view must be exactly one list. After the first
     /// fault come those of [`Rlp::payload_info`] and of bytes that follow the items in the list.
-    #[tactic(auto, unfolding(rlp_reading::specs::Views::View::item_count, rlp_reading::specs::Format::Split::items))]
+    #[tactic(auto, unfolding(rlp_reading::specs::Views::View::item_count, rlp_reading::specs::Format::Framing::items))]
     pub fn item_count(&self) -> Result<usize, DecoderError>
         ensures { result ≡ item_count self.now }
     {
@@ -479,7 +477,7 @@ impl<'a> Rlp<'a> {
     }
 
     /// The items of a list that is all of the bytes, and their number, by one walk over it.
-    #[tactic(auto, unfolding(rlp_reading::specs::Format::Split::items))]
+    #[tactic(auto, unfolding(rlp_reading::specs::Format::Framing::items))]
     fn strict_items(&self) -> Result<(&'a [u8], usize), DecoderError>
         ensures fault { MatchResult result (λ _. strict_list_fault self.now.bytes ≡ None)
             (λ e. strict_list_fault self.now.bytes ≡ Some e) }

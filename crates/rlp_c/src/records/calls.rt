@@ -2,7 +2,7 @@
 
 ghost use Rattle.std.specs.Prelude.{◌≡◌, ◌+◌, ◌<◌, ◌^◌, ◌↔◌, IsOk, IsTrue, length};
 ghost use Rattle.rlp_format.specs.Format.Encoding.{encoding};
-ghost use Rattle.rlp_reading.specs.Format.Split.{items};
+ghost use Rattle.rlp_reading.specs.Format.Framing.{items};
 ghost use Rattle.rlp_reading.specs.Views.View.{strict_view_of};
 ghost use Rattle.rlp_records.specs.Alone.{bytes_alone};
 ghost use Rattle.rlp_transactions.specs.Transaction.{transaction};
@@ -146,7 +146,7 @@ fn is_found(status: u32) -> bool
 
 /// The number of the field that has the fault of this status, if the number that the fault came with
 /// is `number`.
-#[tactic(auto, unfolding(rlp_reading::specs::Format::Split::items))]
+#[tactic(auto, unfolding(rlp_reading::specs::Format::Framing::items))]
 fn faulty_field(list: Record, bytes: &[u8], number: usize, status: u32) -> usize
     ensures { result ≡ faulty_field (most_fields list) (length (items bytes.now)) number status }
 {

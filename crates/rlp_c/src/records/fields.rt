@@ -2,7 +2,7 @@
 
 ghost use Rattle.std.specs.Prelude.{◌≡◌, Ok, Err, MatchResult, OnOk};
 ghost use Rattle.std.specs.Int.Digits.{number_from_digits};
-ghost use Rattle.rlp_format.specs.Format.WrittenHeader.{big_endian};
+ghost use Rattle.rlp_format.specs.Format.Encoding.{big_endian};
 ghost use Rattle.rlp_reading.specs.Views.View.{item_count, strict_view_of};
 ghost use Rattle.rlp_codec.specs.Form.{and_then, bit_of, fault_of, fixed_of, number_of, string_of};
 ghost use Rattle.rlp_codec.specs.Kinds.{read_kind};

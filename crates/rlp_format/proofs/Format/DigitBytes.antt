@@ -8,7 +8,7 @@ use Rattle.std.specs.Int.Digits.{number_from_digits, number_from_digits_after}
 use Rattle.std.proofs.lemmas.Int.Digits.{number_after_append}
 use Rattle.std.specs.Int.{byte_at, bytes_high_first}
 use Rattle.std.specs.Int.Count.{count_leading_zeros, leading_of_zero}
-use Rattle.rlp_format.specs.Format.WrittenHeader.{big_endian, AreBytes}
+use Rattle.rlp_format.specs.Format.Encoding.{big_endian, AreBytes}
 use Rattle.rlp_format.proofs.Lemmas.Digits.{big_endian_zero, big_endian_digit, big_endian_step, digits_fit, pow-bytes}
 
 -- ---- the number that digits write

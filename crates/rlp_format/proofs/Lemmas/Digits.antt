@@ -7,7 +7,7 @@ use Rattle.std.proofs.lemmas.Nat.{div-mul-add, mod-mul-add, pow-add}
 use Rattle.std.proofs.Math.Nat.{pow-suc, pow-le-pow_right}
 use Rattle.std.proofs.lemmas.List.Elements.{All-from_get_or, All-from_recursion, recursion_from_All}
 use Rattle.std.proofs.lemmas.Bool.{cond-false}
-use Rattle.rlp_format.specs.Format.WrittenHeader.{big_endian, big_endian_within, AreBytes}
+use Rattle.rlp_format.specs.Format.Encoding.{big_endian, big_endian_within, AreBytes}
 use Rattle.rlp_format.specs.Values.Value.{FitsBytes}
 
 -- digits by a number of turns, in the words of the standard library

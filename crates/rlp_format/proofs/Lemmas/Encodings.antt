@@ -3,8 +3,7 @@ use Rattle.std.proofs.Common.{◌≡◌, ℕ, ◌^◌, ◌<◌, ◌≤◌, ◌�
 use Rattle.std.proofs.Common.{All, length-append, append_assoc}
 use Rattle.std.proofs.lemmas.Bool.{cases_Bool, cond-true, cond-false}
 use Rattle.std.proofs.lemmas.List.{append_cancel_left}
-use Rattle.rlp_format.specs.Format.Item.{Item, string, list, Items, no_items, item_and, items_from, listed, list_of}
-use Rattle.rlp_format.specs.Format.WrittenHeader.{written_header, IsBase}
+use Rattle.rlp_format.specs.Format.Encoding.{Item, string, list, Items, no_items, item_and, items_from, listed, list_of, written_header, IsBase}
 use Rattle.rlp_format.specs.Format.Encoding.{encoding, join, join_items, string_encoding, is_low_byte, IsSized}
 use Rattle.std.specs.List.{AllByRecursion}
 use Rattle.std.proofs.lemmas.List.Elements.{recursion_from_All}

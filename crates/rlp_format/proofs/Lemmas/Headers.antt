@@ -1,7 +1,7 @@
 -- A written header begins no other one.
 use Rattle.std.proofs.Common.{◌≡◌, ℕ, ◌+◌, ◌^◌, ◌<◌, ◌≤◌, ◌⊎◌, inl, inr, ⊎_elim, List, [], ◌∷◌, ◌++◌, length, refl, sym, ap, ◌∙◌, arith, leb, le-leb}
 use Rattle.std.proofs.lemmas.Bool.{cases_lt, lt-leb, cond-true, cond-false}
-use Rattle.rlp_format.specs.Format.WrittenHeader.{big_endian, written_header, IsBase}
+use Rattle.rlp_format.specs.Format.Encoding.{big_endian, written_header, IsBase}
 use Rattle.rlp_format.proofs.Lemmas.Digits.{big_endian_same, big_endian_some, big_endian_length}
 use Rattle.rlp_format.proofs.Lemmas.Lists.{same_front, head_same, tail_same}
 

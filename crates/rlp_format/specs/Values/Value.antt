@@ -1,7 +1,6 @@
 -- Which item a value is.
 use Rattle.std.specs.Prelude.{ℕ, ◌≡◌, ◌*◌, ◌^◌, ◌<◌, Bool, true, false, Option, Some, None, List, [], ◌∷◌, ◌++◌}
-use Rattle.rlp_format.specs.Format.Item.{Item, string, list_of}
-use Rattle.rlp_format.specs.Format.WrittenHeader.{big_endian}
+use Rattle.rlp_format.specs.Format.Encoding.{Item, string, list_of, big_endian}
 
 -- a number is the string of its digits to the base 256, the greatest first
 abbrev pub number_item : ℕ → Item

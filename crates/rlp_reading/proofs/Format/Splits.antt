@@ -3,8 +3,7 @@ use Rattle.std.proofs.Common.{ℕ, zero, suc, ◌+◌, ◌-◌, ◌<◌, ◌≤�
 use Rattle.std.proofs.Common.{length-drop, add-one}
 use Rattle.std.proofs.lemmas.List.{drop_all, drop-map, length-map}
 use Rattle.rlp_reading.specs.declared.error.DecoderError.{DecoderError}
-use Rattle.rlp_reading.specs.Format.Framing.{frame}
-use Rattle.rlp_reading.specs.Format.Split.{split, split_within, frame_and_more, items, payload}
+use Rattle.rlp_reading.specs.Format.Framing.{frame, split, split_within, frame_and_more, items, payload}
 use Rattle.rlp_reading.specs.Views.View.{View, item_views}
 
 frame_and_more-shorter : (turns : ℕ) (p : List ℕ) (r : Result (List ℕ) DecoderError) → ((q : List ℕ) → length (split_within turns q) ≤ turns)

@@ -6,9 +6,8 @@ use Rattle.std.proofs.lemmas.Bool.Decides.{nat_tests}
 use Rattle.std.proofs.lemmas.Bool.{cond-true, cond-false}
 use Rattle.rlp_reading.specs.declared.error.DecoderError.{DecoderError}
 use Rattle.rlp_reading.specs.declared.error.DecoderError.TheVariants.{RlpExpectedToBeList}
-use Rattle.rlp_reading.specs.Format.Framing.{fault, value}
-use Rattle.rlp_reading.specs.Format.Split.{begins_as_list, items, payload, payload_in, rest, split}
-use Rattle.rlp_reading.specs.Format.Strict.{after_items, fault_of_some, first_fault, strict_fault, strict_list_fault}
+use Rattle.rlp_reading.specs.Format.Framing.{fault, value, begins_as_list, items, payload, payload_in, rest, split}
+use Rattle.rlp_reading.specs.Format.Framing.{after_items, fault_of_some, first_fault, strict_fault, strict_list_fault}
 use Rattle.rlp_reading.specs.Views.View.{View, item_count, items_fault, list_fault}
 use Rattle.rlp_reading.proofs.Lemmas.Numbered.{item_count-fault, item_count-told}
 

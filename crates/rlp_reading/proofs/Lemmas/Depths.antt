@@ -3,10 +3,9 @@ use Rattle.std.proofs.Common.{◌≡◌, ℕ, suc, max, ◌<◌, true, false, Li
 use Rattle.std.proofs.Common.{Ok, Err, Result, append-nil}
 use Rattle.std.proofs.lemmas.Bool.{lt-leb}
 use Rattle.rlp_reading.specs.declared.error.DecoderError.{DecoderError}
-use Rattle.rlp_format.specs.Format.Item.{Item, string, list, Items, no_items, item_and, items_from, listed, list_of, item_depth, items_depth}
+use Rattle.rlp_format.specs.Format.Encoding.{Item, string, list, Items, no_items, item_and, items_from, listed, list_of, item_depth, items_depth}
 use Rattle.rlp_format.specs.Format.Encoding.{encoding, IsSized, BeginsWith}
-use Rattle.rlp_reading.specs.Format.Framing.{value}
-use Rattle.rlp_reading.specs.Format.Split.{begins_as_list}
+use Rattle.rlp_reading.specs.Format.Framing.{value, begins_as_list}
 use Rattle.rlp_reading.specs.Views.Depth.{depth, framed_depth, greatest}
 use Rattle.rlp_format.proofs.Lemmas.Headers.{shape}
 use Rattle.rlp_format.proofs.Lemmas.Encodings.{AllSized, parts_sized, list_written, items_from-listed, string_cases}

@@ -10,13 +10,10 @@ use Rattle.std.proofs.Math.Seq.{take-append-add}
 use Rattle.rlp_reading.specs.declared.error.DecoderError.{DecoderError}
 use Rattle.rlp_reading.specs.declared.header.PayloadInfo.{PayloadInfo}
 use Rattle.rlp_reading.specs.declared.error.DecoderError.TheVariants.{RlpIsTooShort}
-use Rattle.rlp_format.specs.Format.Item.{Item}
-use Rattle.rlp_format.specs.Format.WrittenHeader.{written_header, AreBytes}
-use Rattle.rlp_format.specs.Format.Encoding.{encoding, join, IsSized, BeginsWith}
-use Rattle.rlp_reading.specs.Format.Header.{HasHeader, lone, written, header, ReadsHeader, payload_info}
+use Rattle.rlp_format.specs.Format.Encoding.{Item, written_header, AreBytes, encoding, join, IsSized, BeginsWith}
+use Rattle.rlp_reading.specs.Format.Framing.{HasHeader, lone, written, header, ReadsHeader, payload_info}
 use Rattle.rlp_reading.specs.Format.Framing.{IsFramed, IsFramedItem, IsFault, no_header, cut_short, fault, fault_in, framing, framing_in, frame, value}
-use Rattle.rlp_reading.specs.Format.Framing.{map_ok, total_len}
-use Rattle.rlp_reading.specs.Format.Split.{IsCut, IsSplit, split, split_within, frame_and_more}
+use Rattle.rlp_reading.specs.Format.Framing.{map_ok, total_len, IsCut, IsSplit, split, split_within, frame_and_more}
 use Rattle.rlp_reading.proofs.Lemmas.Reading.{read, header_unique, header_reads, short_has}
 use Rattle.rlp_format.proofs.Lemmas.Encodings.{IsForm, form, first_of_header}
 use Rattle.rlp_format.proofs.Lemmas.Lists.{same_front}

@@ -4,8 +4,7 @@ use Rattle.std.proofs.lemmas.List.{length-drop}
 use Rattle.std.proofs.lemmas.Bool.{cond-true}
 use Rattle.rlp_reading.specs.declared.error.DecoderError.{DecoderError}
 use Rattle.rlp_reading.specs.declared.header.PayloadInfo.{PayloadInfo}
-use Rattle.rlp_reading.specs.Format.Framing.{framing, map_ok, total_len, value}
-use Rattle.rlp_reading.specs.Format.Strict.{unless}
+use Rattle.rlp_reading.specs.Format.Framing.{framing, map_ok, total_len, value, unless}
 use Rattle.rlp_reading.specs.Views.View.{View, begins_as_data, data_size, frame_fault, value_length, view_header, view_value}
 
 -- the value follows the header

@@ -4,8 +4,7 @@ use Rattle.std.proofs.Common.{Ok, IsOkAnd, MatchResult, map, length-append}
 use Rattle.std.proofs.lemmas.List.{length-map}
 use Rattle.std.proofs.lemmas.List.{map-append}
 use Rattle.rlp_reading.specs.declared.error.DecoderError.{DecoderError}
-use Rattle.rlp_format.specs.Format.Item.{Item, list_of}
-use Rattle.rlp_format.specs.Format.Encoding.{BeginsWith, encoding, join, IsSized}
+use Rattle.rlp_format.specs.Format.Encoding.{Item, list_of, BeginsWith, encoding, join, IsSized}
 use Rattle.rlp_reading.specs.Views.View.{View, view_of, item_at}
 use Rattle.rlp_reading.specs.Values.ListReading.{GivesAt, FaultsAt}
 use Rattle.rlp_reading.specs.Values.RoundTrip.{AlwaysReadsBack, ReadsBack}

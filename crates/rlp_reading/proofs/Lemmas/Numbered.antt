@@ -9,12 +9,10 @@ use Rattle.std.proofs.lemmas.Simd.{map-map}
 use Rattle.rlp_reading.specs.declared.error.DecoderError.{DecoderError}
 use Rattle.rlp_reading.specs.declared.error.DecoderError.TheVariants.{RlpExpectedToBeList}
 use Rattle.rlp_reading.specs.declared.header.PayloadInfo.{PayloadInfo}
-use Rattle.rlp_format.specs.Format.Item.{Item, list_of}
-use Rattle.rlp_format.specs.Format.Encoding.{BeginsWith, encoding, IsSized}
-use Rattle.rlp_reading.specs.Format.Framing.{fault, framing, map_ok, value}
-use Rattle.rlp_reading.specs.Format.Split.{begins_as_list, items, payload, payload_in, rest, split}
+use Rattle.rlp_format.specs.Format.Encoding.{Item, list_of, BeginsWith, encoding, IsSized}
+use Rattle.rlp_reading.specs.Format.Framing.{fault, framing, map_ok, value, begins_as_list, items, payload, payload_in, rest, split}
 use Rattle.rlp_reading.specs.Views.View.{View, view_of, item_views, item_count, item_with_place, item_by, item_at, list_fault, items_fault}
-use Rattle.rlp_reading.specs.Format.Strict.{fault_of_some, first_fault, strict_fault, strict_list_fault, unless}
+use Rattle.rlp_reading.specs.Format.Framing.{fault_of_some, first_fault, strict_fault, strict_list_fault, unless}
 use Rattle.rlp_reading.proofs.Lemmas.Views.{items_of_list, list_shape}
 
 -- ---- a view whose items are asked for by number is a framed list

@@ -3,7 +3,7 @@ use Rattle.std.proofs.Common.{◌≡◌, ◌≢◌, pos_of_ne-zero, get_or, ℕ,
 use Rattle.std.proofs.Common.{ap, subst, ◌^◌, arith, IsTrue, ◌<◌, ◌+◌}
 use Rattle.std.proofs.lemmas.List.Elements.{All-from_recursion}
 use Rattle.std.specs.Int.Digits.{number_from_digits}
-use Rattle.rlp_format.specs.Format.WrittenHeader.{big_endian, AreBytes}
+use Rattle.rlp_format.specs.Format.Encoding.{big_endian, AreBytes}
 use Rattle.rlp_format.specs.Values.Value.{FitsBytes}
 use Rattle.rlp_reading.specs.declared.error.DecoderError.TheVariants.{RlpInvalidIndirection}
 use Rattle.rlp_reading.specs.Values.ValueReading.{IsDigitsFault, too_long, leading_zero, GivesNumber}

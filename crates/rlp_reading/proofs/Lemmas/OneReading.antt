@@ -2,7 +2,7 @@
 use Rattle.std.proofs.Common.{ℕ, ◌^◌, ◌<◌, ◌≤◌, List, [], ◌∷◌, ◌++◌, length}
 use Rattle.std.proofs.Common.{arith}
 use Rattle.std.proofs.lemmas.Int.Digits.{length-digits_of-le}
-use Rattle.rlp_format.specs.Format.WrittenHeader.{big_endian}
+use Rattle.rlp_format.specs.Format.Encoding.{big_endian}
 use Rattle.rlp_format.specs.Values.Value.{FitsBytes}
 use Rattle.rlp_format.proofs.Lemmas.Digits.{big_endian_is, pow-bytes}
 use Rattle.rlp_reading.proofs.Lemmas.Reading.{Bytes}

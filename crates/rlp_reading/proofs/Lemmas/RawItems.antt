@@ -3,12 +3,9 @@ use Rattle.std.proofs.Common.{◌≡◌, ◌≤◌, ◌<◌, ◌^◌, ℕ, zero,
 use Rattle.std.proofs.Common.{append-nil, Result, Ok, Err, leb-true}
 use Rattle.rlp_reading.specs.declared.error.DecoderError.{DecoderError}
 use Rattle.rlp_reading.specs.declared.error.DecoderError.TheVariants.{RlpExpectedToBeData}
-use Rattle.rlp_format.specs.Format.Item.{Item, Items, is_list, string, list, no_items, item_and, items_from, listed, list_of, item_depth, items_depth}
+use Rattle.rlp_format.specs.Format.Encoding.{Item, Items, is_list, string, list, no_items, item_and, items_from, listed, list_of, item_depth, items_depth}
 use Rattle.rlp_format.specs.Format.Encoding.{BeginsWith, encoding, IsSized}
-use Rattle.rlp_reading.specs.Format.Framing.{frame}
-use Rattle.rlp_reading.specs.Format.Split.{begins_as_list, items}
-use Rattle.rlp_reading.specs.Format.Strict.{IsCanonicalWithin, unless}
-use Rattle.rlp_reading.specs.Format.StringReading.{read_string}
+use Rattle.rlp_reading.specs.Format.Framing.{frame, begins_as_list, items, IsCanonicalWithin, unless, read_string}
 use Rattle.rlp_reading.specs.Views.View.{View, Holds, HoldsItem, strict_view_of, view_string}
 use Rattle.rlp_reading.specs.Values.RawItem.{IsRawItem, deepest_raw_item, item_by, item_within}
 use Rattle.rlp_reading.specs.Values.RawItem.{raw_item_of, string_or_none, view_frame}

@@ -14,8 +14,8 @@ pub use Rattle.rlp_format.proofs.Lemmas.Digits.{bytes_held}
 use Rattle.rlp_reading.specs.declared.error.DecoderError.{DecoderError}
 use Rattle.rlp_reading.specs.declared.header.PayloadInfo.{PayloadInfo}
 use Rattle.rlp_reading.specs.declared.error.DecoderError.TheVariants.{RlpIsTooShort, RlpDataLenWithZeroPrefix, RlpListLenWithZeroPrefix, RlpInvalidIndirection}
-use Rattle.rlp_format.specs.Format.WrittenHeader.{big_endian, written_header, IsBase, AreBytes}
-use Rattle.rlp_reading.specs.Format.Header.{HasHeader, lone, written, header, long_header, header_fault, HasNoHeader, announced, ReadsHeader, payload_info}
+use Rattle.rlp_format.specs.Format.Encoding.{big_endian, written_header, IsBase, AreBytes}
+use Rattle.rlp_reading.specs.Format.Framing.{HasHeader, lone, written, header, long_header, header_fault, HasNoHeader, announced, ReadsHeader, payload_info}
 use Rattle.rlp_format.proofs.Lemmas.Digits.{big_endian_value, big_endian_first, big_endian_again}
 use Rattle.rlp_format.proofs.Lemmas.Headers.{shape, Parts, written_header_short, written_header_long}
 

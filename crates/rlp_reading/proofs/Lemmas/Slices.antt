@@ -3,8 +3,7 @@ use Rattle.std.proofs.Common.{ℕ, ◌≤◌, List, length, arith}
 use Rattle.std.proofs.Common.{Ok, Err, Result}
 use Rattle.rlp_reading.specs.declared.error.DecoderError.{DecoderError}
 use Rattle.rlp_reading.specs.declared.header.PayloadInfo.{PayloadInfo}
-use Rattle.rlp_reading.specs.Format.Split.{payload, begins_as_list, payload_in}
-use Rattle.rlp_reading.specs.Format.Framing.{value, framing, map_ok}
+use Rattle.rlp_reading.specs.Format.Framing.{payload, begins_as_list, payload_in, value, framing, map_ok}
 use Rattle.std.proofs.Common.{Bool, true, false, take, drop, length-drop}
 use Rattle.std.proofs.lemmas.List.{length-take}
 

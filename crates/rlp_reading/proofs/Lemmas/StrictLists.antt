@@ -2,8 +2,8 @@
 use Rattle.std.proofs.Common.{◌≡◌, ℕ, ◌^◌, ◌<◌, List, [], ◌∷◌, ◌++◌, length, subst, ap, arith, append_assoc, length-append}
 use Rattle.std.specs.List.{AllByRecursion, concat}
 use Rattle.std.proofs.lemmas.List.Elements.{All-from_recursion, recursion_from_All}
-use Rattle.rlp_format.specs.Format.WrittenHeader.{AreBytes}
-use Rattle.rlp_reading.specs.Format.Split.{items, payload, rest}
+use Rattle.rlp_format.specs.Format.Encoding.{AreBytes}
+use Rattle.rlp_reading.specs.Format.Framing.{items, payload, rest}
 use Rattle.rlp_reading.proofs.Lemmas.OneReading.{front_bytes, back_bytes}
 use Rattle.rlp_reading.proofs.Lemmas.Reading.{Bytes}
 use Rattle.rlp_reading.proofs.Lemmas.Slices.{payload_short}

@@ -11,11 +11,9 @@ use Rattle.std.proofs.lemmas.List.Elements.{recursion_from_All}
 use Rattle.rlp_reading.specs.declared.error.DecoderError.{DecoderError}
 use Rattle.rlp_reading.specs.declared.error.DecoderError.TheVariants.{RlpIsTooShort, RlpExpectedToBeData, RlpInvalidIndirection}
 use Rattle.rlp_reading.specs.declared.error.DecoderError.TheVariants.{RlpInconsistentLengthAndData, RlpInvalidLength}
-use Rattle.rlp_format.specs.Format.Item.{string}
-use Rattle.rlp_format.specs.Format.WrittenHeader.{written_header, AreBytes}
-use Rattle.rlp_format.specs.Format.Encoding.{encoding, string_encoding, is_low_byte}
-use Rattle.rlp_reading.specs.Format.StringReading.{IsString, ReadsString, short_string, long_value, long_string, read_string, short_string_fault}
-use Rattle.rlp_reading.specs.Format.StringReading.{long_value_fault, long_string_fault, string_fault}
+use Rattle.rlp_format.specs.Format.Encoding.{string, written_header, AreBytes, encoding, string_encoding, is_low_byte}
+use Rattle.rlp_reading.specs.Format.Framing.{IsString, ReadsString, short_string, long_value, long_string, read_string, short_string_fault}
+use Rattle.rlp_reading.specs.Format.Framing.{long_value_fault, long_string_fault, string_fault}
 use Rattle.rlp_format.proofs.Lemmas.Digits.{big_endian_first, big_endian_value}
 use Rattle.rlp_format.proofs.Lemmas.Headers.{Parts, shape, written_header_short}
 use Rattle.rlp_format.proofs.Lemmas.Encodings.{low_byte, small_payload, front_sized}

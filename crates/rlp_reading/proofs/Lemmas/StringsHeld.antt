@@ -4,12 +4,8 @@ use Rattle.std.proofs.Common.{arith, append-nil, length-append, length-take-le, 
 use Rattle.std.proofs.lemmas.Bool.{cases_lt, cond-true, cond-false}
 use Rattle.rlp_reading.specs.declared.error.DecoderError.{DecoderError}
 use Rattle.rlp_reading.specs.declared.error.DecoderError.TheVariants.{RlpIsTooBig}
-use Rattle.rlp_format.specs.Format.Item.{Item, string}
-use Rattle.rlp_reading.specs.Format.Header.{HasHeader}
-use Rattle.rlp_format.specs.Format.WrittenHeader.{AreBytes, written_header}
-use Rattle.rlp_format.specs.Format.Encoding.{encoding, is_low_byte, BeginsWith, IsSized}
-use Rattle.rlp_reading.specs.Format.StringReading.{IsString, ReadsString, read_string}
-use Rattle.rlp_reading.specs.Format.Strict.{is_followed, is_longer, whole_string}
+use Rattle.rlp_format.specs.Format.Encoding.{Item, string, AreBytes, written_header, encoding, is_low_byte, BeginsWith, IsSized}
+use Rattle.rlp_reading.specs.Format.Framing.{HasHeader, IsString, ReadsString, read_string, is_followed, is_longer, whole_string}
 use Rattle.rlp_reading.specs.Views.View.{View, Holds, HoldsItem, HoldsNoString, HoldsString, view_string}
 use Rattle.rlp_format.proofs.Lemmas.Encodings.{front_sized}
 use Rattle.rlp_format.proofs.Lemmas.Headers.{written_header_short}

@@ -1,11 +1,9 @@
 -- Values of several types that are read back and read strictly.
 use Rattle.std.proofs.Common.{◌≡◌, ℕ, ◌^◌, ◌<◌, true, List, length, sym, ap, subst}
-use Rattle.rlp_format.specs.Format.Item.{Item, list, list_of, listed, string}
-use Rattle.rlp_format.specs.Format.Encoding.{BeginsWith, encoding}
-use Rattle.rlp_reading.specs.Format.Split.{begins_as_list}
+use Rattle.rlp_format.specs.Format.Encoding.{Item, list, list_of, listed, string, BeginsWith, encoding, is_list}
+use Rattle.rlp_reading.specs.Format.Framing.{begins_as_list}
 use Rattle.rlp_format.proofs.Lemmas.Encodings.{front_sized, items_from-listed}
 use Rattle.rlp_reading.proofs.Lemmas.Views.{list_shape}
-use Rattle.rlp_format.specs.Format.Item.{is_list}
 
 -- ---- the values on one side of a sum
 

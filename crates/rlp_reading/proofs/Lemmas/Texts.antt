@@ -8,9 +8,8 @@ use Rattle.std.specs.Int.Digits.{number_from_digits}
 use Rattle.std.proofs.lemmas.Bool.{cond_both}
 use Rattle.rlp_reading.specs.declared.error.DecoderError.{DecoderError}
 use Rattle.rlp_reading.specs.declared.header.PayloadInfo.{PayloadInfo}
-use Rattle.rlp_reading.specs.Format.Header.{header, long_header, payload_info}
-use Rattle.rlp_reading.specs.Format.Framing.{framing, framing_in, frame, value, map_ok, total_len}
-use Rattle.rlp_reading.specs.Format.Split.{split, split_within, frame_and_more, begins_as_list, payload, payload_in, items}
+use Rattle.rlp_reading.specs.Format.Framing.{header, long_header, payload_info, framing, framing_in, frame, value, map_ok, total_len}
+use Rattle.rlp_reading.specs.Format.Framing.{split, split_within, frame_and_more, begins_as_list, payload, payload_in, items}
 use Rattle.rlp_reading.specs.Views.ByItems.{by_items_within, by_items}
 use Rattle.rlp_reading.specs.Views.Text.{text, text_by, framed_text, separated}
 use Rattle.rlp_reading.specs.Views.Depth.{depth, depth_by, framed_depth, greatest}

@@ -3,12 +3,8 @@ use Rattle.std.proofs.Common.{◌≡◌, ℕ, zero, suc, ◌+◌, ◌^◌, ◌<�
 use Rattle.std.proofs.Common.{◌∙◌, subst, arith, Ok, Err, Result, le-leb, length-append, append_assoc, take_at, drop_at, inr, get_or, le_refl}
 use Rattle.std.proofs.lemmas.List.{drop_all}
 use Rattle.std.specs.List.{concat}
-use Rattle.rlp_format.specs.Format.Item.{Item, list_of}
-use Rattle.rlp_format.specs.Format.WrittenHeader.{written_header, AreBytes}
-use Rattle.rlp_format.specs.Format.Encoding.{encoding, join, IsSized, BeginsWith}
-use Rattle.rlp_reading.specs.Format.Header.{written}
-use Rattle.rlp_reading.specs.Format.Framing.{IsFramed, framing, map_ok, value}
-use Rattle.rlp_reading.specs.Format.Split.{split, split_within, begins_as_list, payload, payload_in, items, rest}
+use Rattle.rlp_format.specs.Format.Encoding.{Item, list_of, written_header, AreBytes, encoding, join, IsSized, BeginsWith}
+use Rattle.rlp_reading.specs.Format.Framing.{written, IsFramed, framing, map_ok, value, split, split_within, begins_as_list, payload, payload_in, items, rest}
 use Rattle.rlp_reading.specs.declared.error.DecoderError.{DecoderError}
 use Rattle.rlp_reading.specs.declared.header.PayloadInfo.{PayloadInfo}
 use Rattle.std.proofs.lemmas.List.Elements.{All-nil, All-take, All-drop}

@@ -2,13 +2,8 @@
 use Rattle.std.proofs.Common.{◌≡◌, ℕ, ◌+◌, ◌<◌, ◌≤◌, inl, inr, true, false, List, [], ◌++◌, length, take, drop, sym, ap}
 use Rattle.std.proofs.Common.{◌∙◌, subst, arith, ltb, leb-true, le-ltb, append-nil, length-append, take_at, drop_at, None}
 use Rattle.std.proofs.lemmas.Bool.{cond-false, lt-leb}
-use Rattle.rlp_format.specs.Format.Item.{Item, list_of}
-use Rattle.rlp_format.specs.Format.WrittenHeader.{written_header}
-use Rattle.rlp_format.specs.Format.Encoding.{encoding, join, IsSized}
-use Rattle.rlp_reading.specs.Format.Header.{HasHeader, lone, written}
-use Rattle.rlp_reading.specs.Format.Framing.{value}
-use Rattle.rlp_reading.specs.Format.Split.{begins_as_list, payload, payload_in}
-use Rattle.rlp_reading.specs.Format.Strict.{strict_fault, strict_fault_in}
+use Rattle.rlp_format.specs.Format.Encoding.{Item, list_of, written_header, encoding, join, IsSized}
+use Rattle.rlp_reading.specs.Format.Framing.{HasHeader, lone, written, value, begins_as_list, payload, payload_in, strict_fault, strict_fault_in}
 use Rattle.rlp_format.proofs.Lemmas.Headers.{shape}
 use Rattle.rlp_format.proofs.Lemmas.Encodings.{encoding_list}
 use Rattle.rlp_reading.proofs.Lemmas.Frames.{encoding_item, framing_is, value_is}

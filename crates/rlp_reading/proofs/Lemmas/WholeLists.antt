@@ -8,12 +8,9 @@ use Rattle.std.proofs.lemmas.List.{length-map}
 use Rattle.rlp_reading.specs.declared.error.DecoderError.{DecoderError}
 use Rattle.rlp_reading.specs.declared.error.DecoderError.TheVariants.{RlpExpectedToBeList, RlpIsTooBig}
 use Rattle.rlp_reading.specs.declared.header.PayloadInfo.{PayloadInfo}
-use Rattle.rlp_format.specs.Format.Item.{Item, list_of}
-use Rattle.rlp_format.specs.Format.WrittenHeader.{AreBytes}
-use Rattle.rlp_format.specs.Format.Encoding.{encoding, join, IsSized}
-use Rattle.rlp_reading.specs.Format.Framing.{framing, total_len}
-use Rattle.rlp_reading.specs.Format.Split.{begins_as_list, items, payload, rest, split, split_within}
-use Rattle.rlp_reading.specs.Format.Strict.{fault_of_some, first_fault, strict_fault, strict_fault_in, strict_list_fault}
+use Rattle.rlp_format.specs.Format.Encoding.{Item, list_of, AreBytes, encoding, join, IsSized}
+use Rattle.rlp_reading.specs.Format.Framing.{framing, total_len, begins_as_list, items, payload, rest, split, split_within}
+use Rattle.rlp_reading.specs.Format.Framing.{fault_of_some, first_fault, strict_fault, strict_fault_in, strict_list_fault}
 use Rattle.rlp_reading.specs.Views.View.{item_at, item_count, items_fault, strict_view_of}
 use Rattle.rlp_format.proofs.Lemmas.Encodings.{front_sized}
 use Rattle.rlp_reading.proofs.Lemmas.Frames.{Frames, framing_reads, join_is, walk}

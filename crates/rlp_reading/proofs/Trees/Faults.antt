@@ -3,9 +3,7 @@ use Rattle.std.proofs.Common.{◌≡◌, ◌≢◌, ℕ, zero, suc, ◌-◌, ◌
 use Rattle.std.proofs.lemmas.Bool.{cond-true, cond-false}
 use Rattle.rlp_reading.specs.declared.error.DecoderError.{DecoderError}
 use Rattle.rlp_reading.specs.declared.error.DecoderError.TheVariants.{RlpInvalidIndirection}
-use Rattle.rlp_reading.specs.Format.Framing.{fault}
-use Rattle.rlp_reading.specs.Format.Split.{begins_as_list, payload, split}
-use Rattle.rlp_reading.specs.Format.Strict.{after_items, fault_of_some, strict_fault}
+use Rattle.rlp_reading.specs.Format.Framing.{fault, begins_as_list, payload, split, after_items, fault_of_some, strict_fault}
 use Rattle.rlp_reading.proofs.Format.Splits.{split-nil}
 use Rattle.rlp_reading.proofs.Format.StrictLists.{after_items-next, after_items-nil, after_items-none, fault_of_some-some}
 use Rattle.rlp_reading.specs.declared.flat.TreeFault.{TreeFault}

@@ -3,7 +3,7 @@ use Rattle.std.proofs.Common.{◌≡◌, ℕ, ◌+◌, ◌^◌, ◌<◌, List, [
 use Rattle.rlp_reading.specs.declared.flat.FlatItem.{FlatItem}
 use Rattle.rlp_reading.specs.declared.flat.TreeFault.{TreeFault}
 use Rattle.rlp_reading.specs.Format.Flat.{IsFlat, flat}
-use Rattle.rlp_reading.specs.Format.Strict.{strict_fault}
+use Rattle.rlp_reading.specs.Format.Framing.{strict_fault}
 use Rattle.rlp_reading.specs.Format.TreeFaults.{tree_fault, walk_fault}
 use Rattle.rlp_reading.specs.Format.Walk.{IsWalked}
 use Rattle.rlp_format.proofs.Lemmas.Encodings.{encoding_same}

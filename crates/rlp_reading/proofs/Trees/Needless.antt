@@ -5,13 +5,8 @@ use Rattle.std.proofs.lemmas.Bool.{and_parts, cases_Bool, cond-false, cond-true,
 use Rattle.std.proofs.lemmas.List.{nil_from_length}
 use Rattle.rlp_reading.specs.declared.error.DecoderError.{DecoderError}
 use Rattle.rlp_reading.specs.declared.header.PayloadInfo.{PayloadInfo}
-use Rattle.rlp_format.specs.Format.Item.{string}
-use Rattle.rlp_format.specs.Format.WrittenHeader.{written_header}
-use Rattle.rlp_format.specs.Format.Encoding.{encoding, is_low_byte}
-use Rattle.rlp_reading.specs.Format.Header.{HasHeader, header, lone, written, payload_info}
-use Rattle.rlp_reading.specs.Format.Framing.{IsFramedItem, framing, value}
-use Rattle.rlp_reading.specs.Format.Split.{begins_as_list}
-use Rattle.rlp_reading.specs.Format.Strict.{IsCanonicalWithin}
+use Rattle.rlp_format.specs.Format.Encoding.{string, written_header, encoding, is_low_byte}
+use Rattle.rlp_reading.specs.Format.Framing.{HasHeader, header, lone, written, payload_info, IsFramedItem, framing, value, begins_as_list, IsCanonicalWithin}
 use Rattle.rlp_format.proofs.Lemmas.Encodings.{low_byte}
 use Rattle.rlp_format.proofs.Lemmas.Headers.{Parts, shape, written_header_short}
 use Rattle.rlp_reading.proofs.Lemmas.Frames.{framing_is, value_is}

@@ -2,11 +2,8 @@
 use Rattle.std.proofs.Common.{◌≡◌, ℕ, ◌+◌, ◌^◌, ◌<◌, ◌≤◌, List, ◌++◌, length, take, drop, refl, sym, ap, ◌∙◌, ⊎_elim, Ok, Result, append_assoc, take_at, drop_at, length-append, arith}
 use Rattle.rlp_reading.specs.declared.error.DecoderError.{DecoderError}
 use Rattle.rlp_reading.specs.declared.header.PayloadInfo.{PayloadInfo}
-use Rattle.rlp_format.specs.Format.Item.{string}
-use Rattle.rlp_format.specs.Format.Encoding.{encoding}
-use Rattle.rlp_reading.specs.Format.Header.{lone, written, header, payload_info}
-use Rattle.rlp_reading.specs.Format.StringReading.{IsString}
-use Rattle.rlp_format.specs.Format.WrittenHeader.{written_header}
+use Rattle.rlp_format.specs.Format.Encoding.{string, encoding, written_header}
+use Rattle.rlp_reading.specs.Format.Framing.{lone, written, header, payload_info, IsString}
 use Rattle.rlp_format.proofs.Lemmas.Encodings.{IsLone, IsWritten, front_sized, string_cases}
 use Rattle.rlp_reading.proofs.Lemmas.Reading.{read}
 

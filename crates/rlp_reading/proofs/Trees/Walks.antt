@@ -3,11 +3,8 @@ use Rattle.std.proofs.Common.{◌≡◌, ◌≢◌, ℕ, ◌+◌, ◌-◌, ◌<�
 use Rattle.std.proofs.Common.{subst, arith, Result, Ok, Err, Some, None, MatchResult, append-nil, append_assoc, length-append, length-take-le, length-drop, pos_of_ne-zero}
 use Rattle.rlp_reading.specs.declared.error.DecoderError.{DecoderError}
 use Rattle.rlp_reading.specs.declared.header.PayloadInfo.{PayloadInfo}
-use Rattle.rlp_format.specs.Format.Item.{Item, string, items_from, list_of, item_depth, items_depth}
-use Rattle.rlp_format.specs.Format.Encoding.{encoding, join, join_items}
-use Rattle.rlp_reading.specs.Format.Framing.{fault, value}
-use Rattle.rlp_reading.specs.Format.Split.{begins_as_list, items, payload, split}
-use Rattle.rlp_reading.specs.Format.Strict.{IsCanonicalWithin}
+use Rattle.rlp_format.specs.Format.Encoding.{Item, string, items_from, list_of, item_depth, items_depth, encoding, join, join_items}
+use Rattle.rlp_reading.specs.Format.Framing.{fault, value, begins_as_list, items, payload, split, IsCanonicalWithin}
 use Rattle.rlp_format.proofs.Lemmas.Encodings.{join_items_is}
 use Rattle.rlp_reading.proofs.Format.StrictLists.{value-payload}
 use Rattle.rlp_reading.proofs.Lemmas.WholeItems.{whole_by}

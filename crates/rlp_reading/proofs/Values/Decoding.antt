@@ -1,9 +1,8 @@
 -- What decoding returns for the encoding of a value.
 use Rattle.std.proofs.Common.{◌≡◌, ℕ, ◌^◌, ◌<◌, List, length, map, ◌∙◌}
 use Rattle.std.proofs.lemmas.Simd.{map-map}
-use Rattle.rlp_format.specs.Format.Item.{Item, list_of}
-use Rattle.rlp_format.specs.Format.Encoding.{BeginsWith, encoding}
-use Rattle.rlp_reading.specs.Format.Split.{items}
+use Rattle.rlp_format.specs.Format.Encoding.{Item, list_of, BeginsWith, encoding}
+use Rattle.rlp_reading.specs.Format.Framing.{items}
 use Rattle.rlp_format.proofs.Lemmas.Encodings.{front_sized}
 use Rattle.rlp_reading.proofs.Lemmas.Views.{items_of_list}
 

@@ -6,11 +6,10 @@ use Rattle.std.proofs.lemmas.Bool.Decides.{nat_tests}
 use Rattle.std.proofs.lemmas.List.{take_rest, drop-take}
 use Rattle.rlp_reading.specs.declared.error.DecoderError.{DecoderError}
 use Rattle.rlp_reading.specs.declared.header.PayloadInfo.{PayloadInfo}
-use Rattle.rlp_reading.specs.Format.Header.{HasHeader}
-use Rattle.rlp_format.specs.Format.WrittenHeader.{AreBytes}
-use Rattle.rlp_reading.specs.Format.Framing.{IsFramedItem, frame, framing, map_ok, total_len, value}
+use Rattle.rlp_reading.specs.Format.Framing.{HasHeader, IsFramedItem, frame, framing, map_ok, total_len, value}
+use Rattle.rlp_format.specs.Format.Encoding.{AreBytes}
 use Rattle.rlp_reading.specs.declared.error.DecoderError.TheVariants.{RlpIsTooBig}
-use Rattle.rlp_reading.specs.Format.Strict.{is_followed, is_longer, strict_fault, strict_fault_in}
+use Rattle.rlp_reading.specs.Format.Framing.{is_followed, is_longer, strict_fault, strict_fault_in}
 use Rattle.rlp_reading.proofs.Lemmas.Frames.{frame_item}
 use Rattle.rlp_reading.proofs.Format.Following.{value-front}
 use Rattle.rlp_reading.proofs.Format.StrictLists.{no_bytes, some_bytes}

@@ -2,9 +2,7 @@
 use Rattle.std.proofs.Common.{◌≡◌, ℕ, true, List, [], Ok, Err, None, sym, ap, ◌∙◌, arith}
 use Rattle.rlp_reading.specs.declared.error.DecoderError.{DecoderError}
 use Rattle.rlp_reading.specs.declared.header.PayloadInfo.{PayloadInfo}
-use Rattle.rlp_reading.specs.Format.Framing.{fault, framing, value}
-use Rattle.rlp_reading.specs.Format.Split.{items, payload, rest, split}
-use Rattle.rlp_reading.specs.Format.Strict.{after_items}
+use Rattle.rlp_reading.specs.Format.Framing.{fault, framing, value, items, payload, rest, split, after_items}
 use Rattle.rlp_reading.specs.Views.View.{View, item_count, items_fault}
 use Rattle.rlp_reading.specs.Values.FieldPlace.{IsAtPlace}
 use Rattle.rlp_reading.proofs.Lemmas.Numbered.{Numbered, item_at-past, item_at-unframed, item_count-fault, item_there, no_item}

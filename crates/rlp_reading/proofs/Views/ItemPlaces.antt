@@ -6,8 +6,7 @@ use Rattle.std.proofs.lemmas.Bool.{cond-true, cond-false}
 use Rattle.std.specs.List.{concat}
 use Rattle.rlp_reading.specs.declared.error.DecoderError.{DecoderError}
 use Rattle.rlp_reading.specs.declared.header.PayloadInfo.{PayloadInfo}
-use Rattle.rlp_reading.specs.Format.Framing.{fault, fault_in, framing}
-use Rattle.rlp_reading.specs.Format.Split.{items, payload, rest, split}
+use Rattle.rlp_reading.specs.Format.Framing.{fault, fault_in, framing, items, payload, rest, split}
 use Rattle.rlp_reading.specs.Views.View.{View, item_with_place, items_fault}
 use Rattle.rlp_reading.proofs.Lemmas.Numbered.{item_with_place-fault, item_with_place-told}
 use Rattle.rlp_reading.proofs.Format.Splits.{drop-next, drop-inside}

@@ -7,12 +7,8 @@ use Rattle.std.proofs.lemmas.Simd.{map-map}
 use Rattle.rlp_reading.specs.declared.error.DecoderError.{DecoderError}
 use Rattle.rlp_reading.specs.declared.error.DecoderError.TheVariants.{RlpExpectedToBeList, RlpIsTooShort}
 use Rattle.rlp_reading.specs.declared.header.PayloadInfo.{PayloadInfo}
-use Rattle.rlp_format.specs.Format.Item.{Item, list_of}
-use Rattle.rlp_format.specs.Format.Encoding.{BeginsWith, IsSized, encoding}
-use Rattle.rlp_reading.specs.Format.Header.{HasHeader, header, payload_info}
-use Rattle.rlp_reading.specs.Format.Framing.{fault, framing}
-use Rattle.rlp_reading.specs.Format.Split.{begins_as_list}
-use Rattle.rlp_reading.specs.Format.Strict.{strict_fault, strict_fault_in}
+use Rattle.rlp_format.specs.Format.Encoding.{Item, list_of, BeginsWith, IsSized, encoding}
+use Rattle.rlp_reading.specs.Format.Framing.{HasHeader, header, payload_info, fault, framing, begins_as_list, strict_fault, strict_fault_in}
 use Rattle.rlp_reading.specs.Views.View.{Holds, HoldsItem, View, item_at, item_count, item_views, items_fault, list_fault}
 use Rattle.rlp_format.proofs.Lemmas.Encodings.{front_sized}
 use Rattle.rlp_reading.proofs.Lemmas.Frames.{encoding_item, framing_is, longer}

@@ -4,9 +4,7 @@ use Rattle.std.proofs.Common.{arith, Ok, Err, Result, append_assoc, append-nil, 
 use Rattle.std.proofs.lemmas.Bool.{false≢true}
 use Rattle.std.proofs.lemmas.List.{map-append}
 use Rattle.rlp_reading.specs.declared.error.DecoderError.{DecoderError}
-use Rattle.rlp_reading.specs.Format.Framing.{framing, value}
-use Rattle.rlp_reading.specs.Format.Header.{header}
-use Rattle.rlp_reading.specs.Format.Split.{begins_as_list, items, payload, payload_in, split}
+use Rattle.rlp_reading.specs.Format.Framing.{framing, value, header, begins_as_list, items, payload, payload_in, split}
 use Rattle.rlp_reading.specs.Views.Text.{error_name, hex, separated, framed_text, text}
 use Rattle.rlp_reading.specs.Views.Depth.{greatest, framed_depth, depth}
 use Rattle.rlp_reading.proofs.Lemmas.Texts.{AllWithinLength, items_short, items_nil, text_is, depth_is}

@@ -2,8 +2,7 @@
 use Rattle.std.proofs.Common.{◌≡◌, ◌^◌, ◌<◌, List, [], ◌∷◌, ◌++◌, length, drop, drop_at, Result, Ok, Err, IfOk, IfErr, IsOkAnd, refl, sym, ap, ◌∙◌, ℕ}
 use Rattle.rlp_reading.specs.declared.error.DecoderError.{DecoderError}
 use Rattle.rlp_reading.specs.declared.error.DecoderError.TheVariants.{RlpIsTooShort}
-use Rattle.rlp_format.specs.Format.Item.{Item}
-use Rattle.rlp_format.specs.Format.Encoding.{encoding, join}
+use Rattle.rlp_format.specs.Format.Encoding.{Item, encoding, join}
 use Rattle.rlp_reading.specs.Format.Framing.{frame}
 use Rattle.rlp_reading.specs.Views.View.{View, view_header, view_of}
 use Rattle.rlp_reading.specs.Values.RawItem.{view_frame}

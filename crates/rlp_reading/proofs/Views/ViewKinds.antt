@@ -5,12 +5,8 @@ use Rattle.std.proofs.lemmas.Bool.{cases_Bool, cond-true, cond-false}
 use Rattle.rlp_reading.specs.declared.error.DecoderError.{DecoderError}
 use Rattle.rlp_reading.specs.declared.error.DecoderError.TheVariants.{RlpExpectedToBeList, RlpIsTooBig}
 use Rattle.rlp_reading.specs.declared.header.PayloadInfo.{PayloadInfo}
-use Rattle.rlp_format.specs.Format.WrittenHeader.{AreBytes}
-use Rattle.rlp_format.specs.Format.Encoding.{encoding}
-use Rattle.rlp_reading.specs.Format.Header.{HasHeader}
-use Rattle.rlp_reading.specs.Format.Framing.{IsFramed, fault, fault_in, framing}
-use Rattle.rlp_reading.specs.Format.Split.{begins_as_list, items}
-use Rattle.rlp_reading.specs.Format.Strict.{IsCanonical, strict_fault, strict_fault_in}
+use Rattle.rlp_format.specs.Format.Encoding.{AreBytes, encoding}
+use Rattle.rlp_reading.specs.Format.Framing.{HasHeader, IsFramed, fault, fault_in, framing, begins_as_list, items, IsCanonical, strict_fault, strict_fault_in}
 use Rattle.rlp_reading.specs.Views.View.{item_by, item_count, item_with_place, items_fault, view_of}
 use Rattle.rlp_format.proofs.Lemmas.Encodings.{front_sized}
 use Rattle.rlp_reading.proofs.Lemmas.Frames.{Frames, framing_is, framing_reads}

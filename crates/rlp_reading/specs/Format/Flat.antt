@@ -1,8 +1,7 @@
 -- A tree in flat form: one entry for each item, in the order in which the items begin.
 use Rattle.std.specs.Prelude.{ℕ, ◌≡◌, ◌+◌, ◌-◌, ◌≤◌, Bool, true, false, List, [], ◌∷◌, ◌++◌, length}
 use Rattle.rlp_reading.specs.declared.flat.FlatItem.{FlatItem}
-use Rattle.rlp_format.specs.Format.Item.{Item, Items, string, list, no_items, item_and, item_depth}
-use Rattle.rlp_format.specs.Format.Encoding.{encoding, join_items}
+use Rattle.rlp_format.specs.Format.Encoding.{Item, Items, string, list, no_items, item_and, item_depth, encoding, join_items}
 
 -- an item at this place, inside `depth` lists, with a header and a payload of these lengths
 abbrev pub flat_item : ℕ → ℕ → Bool → ℕ → ℕ → FlatItem

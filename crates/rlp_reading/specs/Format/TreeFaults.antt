@@ -2,8 +2,7 @@
 use Rattle.std.specs.Prelude.{ℕ, ◌≡◌, zero, suc, Bool, false, ◌&&◌, if◌then◌else◌, ◌==◌, nat_lt, List, [], ◌∷◌, map, Option, Some, None}
 use Rattle.rlp_reading.specs.declared.error.DecoderError.{DecoderError}
 use Rattle.rlp_reading.specs.declared.error.DecoderError.TheVariants.{OutOfMemory, RlpInvalidIndirection}
-use Rattle.rlp_reading.specs.Format.Split.{begins_as_list, payload, split}
-use Rattle.rlp_reading.specs.Format.Strict.{IsCanonicalWithin, after_items, fault_of_some, strict_fault}
+use Rattle.rlp_reading.specs.Format.Framing.{begins_as_list, payload, split, IsCanonicalWithin, after_items, fault_of_some, strict_fault}
 use Rattle.rlp_reading.specs.declared.flat.TreeFault.{TreeFault}
 use Rattle.rlp_reading.specs.declared.flat.TreeFault.TheVariants.{Decoding, TooDeep}
 

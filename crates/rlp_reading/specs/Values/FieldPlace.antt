@@ -1,8 +1,6 @@
 -- The place of a reader of fields.
 use Rattle.std.specs.Prelude.{ℕ, ◌≡◌, ◌≤◌, List, None, Err, length, drop}
-use Rattle.rlp_reading.specs.Format.Framing.{fault}
-use Rattle.rlp_reading.specs.Format.Split.{items, split}
-use Rattle.rlp_reading.specs.Format.Strict.{after_items}
+use Rattle.rlp_reading.specs.Format.Framing.{fault, items, split, after_items}
 use Rattle.rlp_reading.specs.Views.View.{View, item_at, items_fault}
 
 -- These bytes are left after the first `place` items of a view. Past the last item each number has the fault of what follows the items.

@@ -1,11 +1,8 @@
 -- Items that are kept as the bytes of their encodings.
 use Rattle.std.specs.Prelude.{ℕ, zero, suc, List, [], map, Result, Ok, Err}
 use Rattle.rlp_reading.specs.declared.error.DecoderError.{DecoderError}
-use Rattle.rlp_format.specs.Format.Item.{Item, string, list_of}
-use Rattle.rlp_reading.specs.Format.Framing.{frame}
-use Rattle.rlp_reading.specs.Format.Split.{items}
-use Rattle.rlp_reading.specs.Format.Strict.{IsCanonicalWithin, unless}
-use Rattle.rlp_reading.specs.Format.StringReading.{read_string}
+use Rattle.rlp_format.specs.Format.Encoding.{Item, string, list_of}
+use Rattle.rlp_reading.specs.Format.Framing.{frame, items, IsCanonicalWithin, unless, read_string}
 use Rattle.rlp_reading.specs.Views.View.{View, frame_fault}
 
 -- the string that was read, or no bytes for a fault

@@ -1,10 +1,8 @@
 -- What types promise about reading the encodings of their values.
 use Rattle.std.specs.Prelude.{◌≡◌, ◌↔◌, ◌<◌, ◌^◌, ℕ, List, length}
 use Rattle.rlp_reading.specs.declared.error.DecoderError.{DecoderError}
-use Rattle.rlp_format.specs.Format.Item.{Item}
+use Rattle.rlp_format.specs.Format.Encoding.{Item, AreBytes, BeginsWith, encoding}
 use Rattle.rlp_format.specs.Values.Value.{AreAlike}
-use Rattle.rlp_format.specs.Format.WrittenHeader.{AreBytes}
-use Rattle.rlp_format.specs.Format.Encoding.{BeginsWith, encoding}
 use Rattle.rlp_reading.specs.Views.View.{View, strict_view_of, view_of}
 
 -- A view reads a value back: it gives exactly the values that fit and are alike to it, and has no fault.

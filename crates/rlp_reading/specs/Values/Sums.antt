@@ -1,7 +1,7 @@
 -- Values of several types: told apart by a list or a string, or by a tag, which is a number in front of a payload.
 use Rattle.std.specs.Prelude.{ℕ, ◌⊎◌}
 use Rattle.std.proofs.Common.{inl, inr}
-use Rattle.rlp_format.specs.Format.Item.{Item}
+use Rattle.rlp_format.specs.Format.Encoding.{Item}
 
 -- P of a value on the left, and Q of one on the right
 abbrev pub OnSum : {A B : Type 0} → (A → Type 0) → (B → Type 0) → A ⊎ B → Type 0

@@ -2,7 +2,7 @@
 use Rattle.std.specs.Prelude.{ℕ, ◌≡◌, ◌≤◌, ◌<◌, ◌⊎◌, List, ◌∷◌, length}
 use Rattle.rlp_reading.specs.declared.error.DecoderError.{DecoderError}
 use Rattle.rlp_reading.specs.declared.error.DecoderError.TheVariants.{RlpIsTooBig, RlpInvalidIndirection}
-use Rattle.rlp_format.specs.Format.Item.{Item}
+use Rattle.rlp_format.specs.Format.Encoding.{Item}
 use Rattle.rlp_format.specs.Values.Value.{number_item, FitsBytes, AreAlike}
 use Rattle.rlp_reading.specs.Views.Text.{error_name}
 use Rattle.rlp_reading.specs.Views.View.{View, HoldsItem}

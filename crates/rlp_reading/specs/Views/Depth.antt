@@ -1,8 +1,7 @@
 -- How deep the lists in bytes nest.
 use Rattle.std.specs.Prelude.{ℕ, suc, max, Bool, true, false, List, map, fold, Result, Ok, Err}
 use Rattle.rlp_reading.specs.declared.error.DecoderError.{DecoderError}
-use Rattle.rlp_reading.specs.Format.Framing.{value}
-use Rattle.rlp_reading.specs.Format.Split.{begins_as_list, items}
+use Rattle.rlp_reading.specs.Format.Framing.{value, begins_as_list, items}
 use Rattle.rlp_reading.specs.Views.ByItems.{by_items}
 
 -- the greatest of the numbers, or 0

@@ -5,8 +5,7 @@ use Rattle.rlp_reading.specs.declared.error.DecoderError.TheVariants.{RlpIsTooBi
 use Rattle.rlp_reading.specs.declared.error.DecoderError.TheVariants.{RlpIncorrectListLen, RlpDataLenWithZeroPrefix, RlpListLenWithZeroPrefix}
 use Rattle.rlp_reading.specs.declared.error.DecoderError.TheVariants.{RlpInvalidIndirection, RlpInconsistentLengthAndData, RlpInvalidLength, Custom}
 use Rattle.rlp_reading.specs.declared.error.DecoderError.TheVariants.{OutOfMemory}
-use Rattle.rlp_reading.specs.Format.Framing.{value}
-use Rattle.rlp_reading.specs.Format.Split.{begins_as_list, items}
+use Rattle.rlp_reading.specs.Format.Framing.{value, begins_as_list, items}
 use Rattle.rlp_reading.specs.Views.ByItems.{by_items}
 
 -- what an error prints: its name, and for `Custom` also the text

@@ -8,12 +8,9 @@ use Rattle.rlp_reading.specs.declared.error.DecoderError.TheVariants.{RlpExpecte
 use Rattle.rlp_reading.specs.declared.header.PayloadInfo.{PayloadInfo}
 use Rattle.rlp_reading.specs.declared.prototype.Prototype.{Prototype}
 use Rattle.rlp_reading.specs.declared.prototype.Prototype.TheVariants as prototype
-use Rattle.rlp_format.specs.Format.Item.{Item, string}
-use Rattle.rlp_format.specs.Format.Encoding.{BeginsWith, encoding}
-use Rattle.rlp_reading.specs.Format.Framing.{fault, framing, map_ok, value}
-use Rattle.rlp_reading.specs.Format.Split.{begins_as_list, items, rest}
-use Rattle.rlp_reading.specs.Format.StringReading.{read_string}
-use Rattle.rlp_reading.specs.Format.Strict.{strict_fault, strict_list_fault, unless, whole_string}
+use Rattle.rlp_format.specs.Format.Encoding.{Item, string, BeginsWith, encoding}
+use Rattle.rlp_reading.specs.Format.Framing.{fault, framing, map_ok, value, begins_as_list, items, rest, read_string}
+use Rattle.rlp_reading.specs.Format.Framing.{strict_fault, strict_list_fault, unless, whole_string}
 
 -- A view has these bytes, and is lenient or strict.
 pub record View : Type 0 where

@@ -1,7 +1,7 @@
 -- The encoding of a list, alone in a buffer.
 use Rattle.std.proofs.Common.{◌≡◌, ℕ, ◌+◌, ◌-◌, List, [], ◌∷◌, ◌++◌, length, take, drop, length-drop, append-nil, sym, ap, ◌∙◌, arith}
 use Rattle.std.proofs.lemmas.List.{drop_all, drop-take}
-use Rattle.rlp_format.specs.Format.WrittenHeader.{written_header}
+use Rattle.rlp_format.specs.Format.Encoding.{written_header}
 use Rattle.rlp_write.specs.Streams.Stream.{list_encoding}
 use Rattle.rlp_write.proofs.Streams.MovedBytes.{Follows, follows}
 

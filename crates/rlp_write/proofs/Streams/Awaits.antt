@@ -3,7 +3,7 @@ use Rattle.std.proofs.Common.{ℕ, zero, suc, ◌<◌, ◌≡◌, false, List, [
 use Rattle.std.specs.List.{AllByRecursion}
 use Rattle.std.proofs.lemmas.Bool.{cond_both, leb-false}
 use Rattle.std.proofs.lemmas.List.Elements.{All-from_recursion, recursion_from_All}
-use Rattle.rlp_format.specs.Format.Item.{string, list}
+use Rattle.rlp_format.specs.Format.Encoding.{string, list}
 use Rattle.rlp_write.specs.Streams.Stream.{OpenList, Stack, AwaitsSome, AllAwait, is_last, awaits_after, count_around, shut_around, State, list_encoding}
 use Rattle.rlp_write.specs.Streams.Stream.{Call, append, append_empty_data, append_raw, append_raw_checked, begin_list, begin_unbounded_list}
 use Rattle.rlp_write.specs.Streams.Stream.{finalize_unbounded_list, append_internal, encode_value, clear, effect, is_within_size}

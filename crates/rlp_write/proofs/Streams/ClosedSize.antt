@@ -5,7 +5,7 @@ use Rattle.std.specs.Option.{SomeIff}
 use Rattle.std.proofs.lemmas.Bool.{cases_lt}
 use Rattle.std.proofs.lemmas.List.{length-take-le, length-replicate}
 use Rattle.rlp_write.specs.declared.open_lists.Placeholder.{Placeholder}
-use Rattle.rlp_format.specs.Format.WrittenHeader.{big_endian, written_header}
+use Rattle.rlp_format.specs.Format.Encoding.{big_endian, written_header}
 use Rattle.rlp_write.specs.Streams.Stream.{closed_payload_around, State, list_encoding, closed_size, closed_size_with}
 use Rattle.rlp_write.specs.Streams.Placeholders.{begin_of, lists_of, IsLaid, Descends}
 use Rattle.rlp_write.specs.Streams.Closing.{header_len, closed_len, left_of}

@@ -5,7 +5,7 @@ use Rattle.std.proofs.lemmas.Bool.{cases_lt, cond-true}
 use Rattle.std.proofs.lemmas.List.{take-take, drop_at, drop-drop, drop-take, length-take-le, set_at}
 use Rattle.std.proofs.lemmas.List.{take-append-drop, reverse-append, length-reverse, get_or-reverse, set-append_left}
 use Rattle.rlp_write.specs.declared.open_lists.Placeholder.{Placeholder}
-use Rattle.rlp_format.specs.Format.WrittenHeader.{big_endian, written_header}
+use Rattle.rlp_format.specs.Format.Encoding.{big_endian, written_header}
 use Rattle.rlp_write.specs.Streams.Stream.{is_last, awaits_after, list_encoding}
 use Rattle.rlp_write.specs.Streams.Placeholders.{Descends, closes, with_innermost, with_awaits, unbounded_innermost}
 use Rattle.rlp_write.specs.Streams.Closing.{filled, counted, closed_bytes, header_len, growth}

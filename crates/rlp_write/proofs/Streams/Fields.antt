@@ -5,7 +5,7 @@ use Rattle.std.proofs.lemmas.List.{length-map, take_more, take-append-drop}
 use Rattle.std.proofs.lemmas.List.Concat.{flat_map-append, flat_map_single}
 use Rattle.std.specs.List.{All}
 use Rattle.std.specs.Prelude.{MatchOption, SomeIff}
-use Rattle.rlp_format.specs.Format.Item.{Item, list_of}
+use Rattle.rlp_format.specs.Format.Encoding.{Item, list_of}
 use Rattle.rlp_write.specs.Streams.Stream.{State, Seen, add, add_all, put_item, with_list_of}
 use Rattle.rlp_write.specs.Streams.Growth.{GrowsTo}
 use Rattle.rlp_write.specs.Streams.Fields.{AppendsSome}

@@ -3,9 +3,7 @@ use Rattle.std.proofs.Common.{◌≡◌, ℕ, zero, suc, ◌+◌, ◌-◌, ◌<�
 use Rattle.std.proofs.Common.{refl, sym, ◌∙◌, ap, subst, arith, append_assoc, append-nil}
 use Rattle.std.specs.List.{All}
 use Rattle.std.proofs.lemmas.List.Elements.{All-more}
-use Rattle.rlp_format.specs.Format.WrittenHeader.{written_header}
-use Rattle.rlp_format.specs.Format.Item.{Item, list, Items, no_items, item_and, list_of, is_list}
-use Rattle.rlp_format.specs.Format.Encoding.{encoding, join_items}
+use Rattle.rlp_format.specs.Format.Encoding.{written_header, Item, list, Items, no_items, item_and, list_of, is_list, encoding, join_items}
 use Rattle.rlp_write.specs.Streams.Stream.{State, add, put_item, add_all, with_list_of}
 use Rattle.rlp_write.specs.Streams.Growth.{GrowsTo}
 use Rattle.rlp_write.proofs.Streams.Listed.{in_list, list_filled, add_more, or_true}

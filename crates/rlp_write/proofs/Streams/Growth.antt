@@ -1,7 +1,6 @@
 -- Which states a state grows to. Authors of an `Encodable` need the ruleset `growth`.
 use Rattle.std.proofs.Common.{◌≡◌, ℕ, true, false, List, [], ◌∷◌, ◌++◌, Option, refl, sym, ap, ◌∙◌, subst, append-nil, append_assoc}
-use Rattle.rlp_format.specs.Format.Item.{Item, string, list}
-use Rattle.rlp_format.specs.Format.Encoding.{encoding}
+use Rattle.rlp_format.specs.Format.Encoding.{Item, string, list, encoding}
 use Rattle.rlp_write.specs.Streams.Stream.{OpenList, State, put, with_list, put_item, count, add, with_is_counted}
 use Rattle.rlp_write.specs.Streams.Growth.{AreSameAround, Stands, GrowsTo}
 use Rattle.rlp_write.specs.Streams.Growth.Stands.{here, within}

@@ -1,8 +1,7 @@
 -- Values whose encodings are put one after another with no list open.
 use Rattle.std.proofs.Common.{◌≡◌, ℕ, ◌+◌, ◌<◌, List, [], ◌∷◌, ◌++◌, length, take, drop, map, get_or, refl, sym, ap, ◌∙◌}
 use Rattle.std.proofs.lemmas.List.{map_more, flat_map_more}
-use Rattle.rlp_format.specs.Format.Item.{Item, string, list, list_of}
-use Rattle.rlp_format.specs.Format.Encoding.{encoding, join}
+use Rattle.rlp_format.specs.Format.Encoding.{Item, string, list, list_of, encoding, join}
 use Rattle.rlp_format.proofs.Lemmas.Encodings.{encoding_list}
 use Rattle.rlp_write.specs.Streams.Stream.{Stack, State, IsFinished, list_encoding, put_item}
 use Rattle.rlp_write.proofs.Streams.States.{put_item-finished}

@@ -2,8 +2,7 @@
 use Rattle.std.proofs.Common.{◌≡◌, ℕ, suc, ◌-◌, ◌||◌, nat_le, Bool, true, false, List, [], ◌∷◌, ◌++◌, length, Some, refl, sym, ◌∙◌, ap, arith}
 use Rattle.std.proofs.Common.{append_assoc, append-nil}
 use Rattle.std.proofs.lemmas.Bool.Decides.{nat_tests}
-use Rattle.rlp_format.specs.Format.Item.{Item, list_of, is_list}
-use Rattle.rlp_format.specs.Format.Encoding.{encoding, join}
+use Rattle.rlp_format.specs.Format.Encoding.{Item, list_of, is_list, encoding, join}
 use Rattle.rlp_write.specs.Streams.Stream.{State, list_encoding, add, put, put_item, count, with_is_counted, with_list, add_all}
 use Rattle.rlp_format.proofs.Lemmas.Encodings.{encoding_list}
 

@@ -1,8 +1,6 @@
 -- A list that is opened, or is written at once: from its encoding, or since it has no items.
 use Rattle.std.proofs.Common.{◌≡◌, ℕ, true, IsTrue, List, [], ◌∷◌, refl, sym, ◌∙◌, ap}
-use Rattle.rlp_format.specs.Format.WrittenHeader.{big_endian, written_header}
-use Rattle.rlp_format.specs.Format.Item.{Item, string, list, list_of, is_list}
-use Rattle.rlp_format.specs.Format.Encoding.{encoding, join_items}
+use Rattle.rlp_format.specs.Format.Encoding.{big_endian, written_header, Item, string, list, list_of, is_list, encoding, join_items}
 use Rattle.rlp_write.specs.Streams.Stream.{State, put, put_item, count, with_is_counted, with_list_of}
 
 -- the encoding of the list of no items

@@ -5,9 +5,7 @@ use Rattle.std.proofs.lemmas.Bool.{cond_both}
 use Rattle.std.proofs.lemmas.Bool.Decides.{nat_tests}
 use Rattle.std.proofs.lemmas.List.{length-replicate}
 use Rattle.std.proofs.lemmas.List.Concat.{flat_map-append}
-use Rattle.rlp_format.specs.Format.Item.{Item, string, list, is_list}
-use Rattle.rlp_format.specs.Format.WrittenHeader.{written_header}
-use Rattle.rlp_format.specs.Format.Encoding.{encoding}
+use Rattle.rlp_format.specs.Format.Encoding.{Item, string, list, is_list, written_header, encoding}
 use Rattle.rlp_write.specs.Streams.Stream.{OpenList, Level, Stack, top_around, levels_around, closed_payload_around, count_around, is_last}
 use Rattle.rlp_write.specs.Streams.Stream.{effect, finalize_unbounded_list, finalized, is_within_size}
 use Rattle.rlp_write.specs.Streams.Stream.{State, IsFinished, list_encoding, put, shut, count, with_list, add, put_item, raw_text}

@@ -5,9 +5,7 @@ use Rattle.std.proofs.lemmas.Bool.Decides.{nat_tests}
 use Rattle.std.proofs.lemmas.Bool.{cond-true, cond-false}
 use Rattle.std.proofs.lemmas.List.{drop-set, take_at, drop_at, drop_all, take-append-drop, take_all}
 use Rattle.std.specs.Prelude.{slice_set}
-use Rattle.rlp_format.specs.Format.Item.{string}
-use Rattle.rlp_format.specs.Format.WrittenHeader.{big_endian, written_header}
-use Rattle.rlp_format.specs.Format.Encoding.{encoding, is_low_byte, BeginsWith}
+use Rattle.rlp_format.specs.Format.Encoding.{string, big_endian, written_header, encoding, is_low_byte, BeginsWith}
 use Rattle.rlp_format.specs.Values.Value.{number_item}
 use Rattle.rlp_write.proofs.Streams.MovedBytes.{follows}
 use Rattle.rlp_format.proofs.Lemmas.Digits.{big_endian_step}

@@ -1,6 +1,6 @@
 -- Values that are appended one after another, as the fields of a struct are.
 use Rattle.std.specs.Prelude.{◌≡◌, ◌++◌, ◌∷◌, List}
-use Rattle.rlp_format.specs.Format.Item.{Item}
+use Rattle.rlp_format.specs.Format.Encoding.{Item}
 use Rattle.rlp_write.specs.Streams.Stream.{State, add_all}
 
 -- some of the items were appended, and not the last

@@ -1,9 +1,7 @@
 -- A stream: its open lists, its state, its calls, and the effect of each call on the state.
 use Rattle.std.specs.Prelude.{ℕ, zero, suc, ◌-◌, ◌<◌, Bool, true, false, if◌then◌else◌, nat_le, List, [], ◌∷◌, ◌++◌}
 use Rattle.std.specs.Prelude.{Option, Some, None, is_none, All, ◌≡◌, ◌+◌, ◌≤◌, ◌||◌, length, flat_map, replicate, Result, Ok, Err}
-use Rattle.rlp_format.specs.Format.WrittenHeader.{written_header}
-use Rattle.rlp_format.specs.Format.Item.{Item, is_list, string, list_of}
-use Rattle.rlp_format.specs.Format.Encoding.{encoding}
+use Rattle.rlp_format.specs.Format.Encoding.{written_header, Item, is_list, string, list_of, encoding}
 
 -- ==== Open lists, one inside the other, and the payload of each. In a stream payloads are bytes. Over items the same moves say what the bytes mean.
 

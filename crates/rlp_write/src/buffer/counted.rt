@@ -2,7 +2,7 @@
 
 ghost use Rattle.std.specs.Prelude.{◌≡◌, ◌<◌, ◌≤◌, ◌+◌, ◌-◌, ◌^◌, ◌++◌, length, take, drop, OnOk, OnErr};
 ghost use Rattle.bytes.specs.Filled.{MakesSpare};
-ghost use Rattle.rlp_format.specs.Format.WrittenHeader.{written_header};
+ghost use Rattle.rlp_format.specs.Format.Encoding.{written_header};
 ghost use Rattle.rlp_write.specs.Streams.Closing.{header_len};
 
 use super::moving::{bring, insert, write_at};

@@ -2,8 +2,7 @@
 
 ghost use Rattle.std.specs.Prelude.{◌≡◌, ◌≤◌, ◌<◌, ◌+◌, ◌-◌, ◌++◌, ℕ, List, OnOk, OnErr, IfOk, length, take, drop, false};
 ghost use Rattle.std.specs.Iterator.{IsFiniteIterable};
-ghost use Rattle.rlp_format.specs.Format.Item.{string};
-ghost use Rattle.rlp_format.specs.Format.Encoding.{encoding, is_low_byte, BeginsWith};
+ghost use Rattle.rlp_format.specs.Format.Encoding.{string, encoding, is_low_byte, BeginsWith};
 ghost use Rattle.rlp_format.specs.Values.Value.{number_item};
 ghost use Rattle.rlp_write.specs.Streams.Iterated.{GivesAll};
 

@@ -1,7 +1,7 @@
 //! Byte arrays: written as the string of the bytes.
 
 ghost use Rattle.std.specs.Prelude.{⊤, ◌≡◌, length};
-ghost use Rattle.rlp_format.specs.Format.Item.{string};
+ghost use Rattle.rlp_format.specs.Format.Encoding.{string};
 
 use crate::buffer::strings::encoded_string;
 use crate::stream::RlpStream;

@@ -1,7 +1,7 @@
 //! Buffers that are shared without a copy: written as the string of the bytes.
 
 ghost use Rattle.std.specs.Prelude.{⊤};
-ghost use Rattle.rlp_format.specs.Format.Item.{string};
+ghost use Rattle.rlp_format.specs.Format.Encoding.{string};
 
 use crate::buffer::strings::encoded_string;
 use crate::stream::RlpStream;

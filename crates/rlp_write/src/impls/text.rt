@@ -2,7 +2,7 @@
 
 ghost use Rattle.std.specs.Prelude.{⊤, IsUtf8};
 ghost use Rattle.std.specs.String.{string_bytes};
-ghost use Rattle.rlp_format.specs.Format.Item.{string};
+ghost use Rattle.rlp_format.specs.Format.Encoding.{string};
 
 use crate::buffer::strings::encoded_string;
 use crate::stream::RlpStream;

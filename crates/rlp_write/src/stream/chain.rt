@@ -3,8 +3,7 @@
 ghost use Rattle.std.specs.Prelude.{◌≡◌, ◌≤◌, ℕ, List, IsTrue, IsOk, IfOk, OnOk, length, map, All};
 ghost use Rattle.std.specs.Borrow.{sem};
 ghost use Rattle.std.specs.Iterator.{IsFiniteIterable};
-ghost use Rattle.rlp_format.specs.Format.Item.{string, list_of};
-ghost use Rattle.rlp_format.specs.Format.Encoding.{encoding};
+ghost use Rattle.rlp_format.specs.Format.Encoding.{string, list_of, encoding};
 ghost use Rattle.rlp_write.specs.Streams.Stream.{append, append_empty_data, append_raw, append_internal, begin_list, begin_unbounded_list, effect, is_admitted, IsFinished, MovedGrows, MovesWithin};
 ghost use Rattle.rlp_write.specs.Streams.Iterated.{GivesAll};
 ghost use Rattle.rlp_write.specs.Streams.Chain.{stays_if_refused, rests_if_refused, HoldsStream};

@@ -1,8 +1,7 @@
 //! Lists that are written from their encodings.
 
 ghost use Rattle.std.specs.Prelude.{◌≡◌, ◌≤◌, IsTrue, OnOk, OnErr};
-ghost use Rattle.rlp_format.specs.Format.Item.{Item, is_list};
-ghost use Rattle.rlp_format.specs.Format.Encoding.{encoding};
+ghost use Rattle.rlp_format.specs.Format.Encoding.{Item, is_list, encoding};
 ghost use Rattle.rlp_write.specs.Streams.Stream.{IsAsBefore, MovedGrows, put_item};
 
 use crate::stream::RlpStream;

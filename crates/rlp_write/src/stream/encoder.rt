@@ -2,8 +2,7 @@
 
 ghost use Rattle.std.specs.Prelude.{◌≡◌, ◌≤◌, ℕ, List, IsOk, OnOk, OnErr, length};
 ghost use Rattle.std.specs.Iterator.{IsFiniteIterable};
-ghost use Rattle.rlp_format.specs.Format.Item.{string};
-ghost use Rattle.rlp_format.specs.Format.Encoding.{encoding};
+ghost use Rattle.rlp_format.specs.Format.Encoding.{string, encoding};
 ghost use Rattle.rlp_write.specs.Streams.Stream.{effect, encode_value, IsAsBefore};
 ghost use Rattle.rlp_write.specs.Streams.Iterated.{GivesAll};
 

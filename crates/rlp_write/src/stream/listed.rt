@@ -1,7 +1,7 @@
 //! Values that are written as one list.
 
 ghost use Rattle.std.specs.Prelude.{map, All};
-ghost use Rattle.rlp_format.specs.Format.Item.{list_of};
+ghost use Rattle.rlp_format.specs.Format.Encoding.{list_of};
 
 use crate::stream::RlpStream;
 use crate::structs::{Each, write_struct};

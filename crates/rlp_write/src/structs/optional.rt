@@ -3,7 +3,7 @@
 ghost use Rattle.std.specs.Prelude.{◌∷◌, [], All, IfSome, map};
 ghost use Rattle.std.specs.Vec.{vec_items};
 ghost use Rattle.std.specs.declared.alloc.Global.{Global};
-ghost use Rattle.rlp_format.specs.Format.Item.{list_of};
+ghost use Rattle.rlp_format.specs.Format.Encoding.{list_of};
 ghost use Rattle.rlp_format.specs.Values.Value.{items_if};
 
 use crate::stream::{Listed, RlpStream};

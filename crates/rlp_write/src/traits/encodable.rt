@@ -1,8 +1,7 @@
 //! Types whose values are written.
 
 ghost use Rattle.std.specs.Prelude.{◌≡◌, ◌≤◌, IsOk, OnOk, OnErr, IfOk, length};
-ghost use Rattle.rlp_format.specs.Format.Item.{Item};
-ghost use Rattle.rlp_format.specs.Format.Encoding.{encoding};
+ghost use Rattle.rlp_format.specs.Format.Encoding.{Item, encoding};
 ghost use Rattle.rlp_write.specs.Streams.Stream.{IsFinished, MovedGrows, put_item};
 ghost use Rattle.rlp_write.specs.Streams.Growth.{GrowsTo};
 

@@ -1,6 +1,5 @@
 use Rattle.std.proofs.Common.{◌≡◌, ◌++◌, [], sym, ap, ◌∙◌, subst, append-nil}
-use Rattle.rlp_format.specs.Format.Item.{string}
-use Rattle.rlp_format.specs.Format.Encoding.{encoding}
+use Rattle.rlp_format.specs.Format.Encoding.{string, encoding}
 use Rattle.rlp_c.specs.Written.{IsWritten}
 use Rattle.rlp_reading.proofs.Trees.Needless.{high_written, low_again}
 use Rattle.rlp_c.proofs.encode.write_string.Goals as goal

@@ -1,5 +1,5 @@
 use Rattle.std.proofs.Common.{◌≡◌, Some, refl, arith, subst, min}
-use Rattle.rlp_reading.specs.Format.Strict.{IsCanonicalWithin}
+use Rattle.rlp_reading.specs.Format.Framing.{IsCanonicalWithin}
 use Rattle.rlp_reading.specs.Format.TreeFaults.{tree_fault}
 use Rattle.rlp_reading.specs.Format.Walk.{IsWalked}
 use Rattle.rlp_c.specs.Flat.{refused, row_of}

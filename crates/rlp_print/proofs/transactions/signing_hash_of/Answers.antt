@@ -1,6 +1,6 @@
 use Rattle.std.proofs.Common.{◌≡◌, IfOk, sym, subst, ◌∷◌}
 use Rattle.keccak.specs.Keccak.{keccak256}
-use Rattle.rlp.specs.{Format.Encoding.encoding, Format.Item.list_of}
+use Rattle.rlp.specs.{Format.Encoding.encoding, Format.Encoding.list_of}
 use Rattle.rlp_records.specs.declared.hash.Hash.{Hash}
 use Rattle.rlp_print.specs.Transactions.{signing_hash}
 use Rattle.rlp_print.proofs.transactions.signing_hash_of.Goals as goal

@@ -1,5 +1,5 @@
 use Rattle.std.proofs.Common.{◌≡◌, ◌≤◌, ◌+◌, length}
-use Rattle.rlp_reading.specs.Format.Split.{split}
+use Rattle.rlp_reading.specs.Format.Framing.{split}
 use Rattle.rlp_reading.proofs.items.count_items.Given as goal
 
 -- the number of counted items and the number of items of the rest add up to that of the payload; no more items were counted than bytes taken

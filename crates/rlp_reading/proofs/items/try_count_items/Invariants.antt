@@ -1,6 +1,5 @@
 use Rattle.std.proofs.Common.{◌≡◌, ◌≤◌, ◌+◌, length}
-use Rattle.rlp_reading.specs.Format.Split.{split}
-use Rattle.rlp_reading.specs.Format.Strict.{after_items}
+use Rattle.rlp_reading.specs.Format.Framing.{split, after_items}
 use Rattle.rlp_reading.proofs.items.try_count_items.Given as goal
 
 -- the same bytes follow the items of the rest, which are the items that weren't counted

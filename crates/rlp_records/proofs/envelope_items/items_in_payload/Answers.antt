@@ -1,5 +1,5 @@
 use Rattle.std.proofs.Common.{rules, ◌≡◌, true, sym}
-use Rattle.rlp.specs.Format.Split.{begins_as_list}
+use Rattle.rlp.specs.Format.Framing.{begins_as_list}
 use Rattle.rlp_records.proofs.Scanning.{cut_counted, walk_counted, whole_counted}
 use Rattle.rlp_records.proofs.envelope_items.items_in_payload.Goals as goal
 

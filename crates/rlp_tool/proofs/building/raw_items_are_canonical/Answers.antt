@@ -1,5 +1,5 @@
 use Rattle.std.proofs.Common.{◌<◌, ◌-◌, length, arith, rules, refl, nat_eq}
-use Rattle.rlp.specs.Format.Strict.{IsCanonicalWithin}
+use Rattle.rlp.specs.Format.Framing.{IsCanonicalWithin}
 use Rattle.rlp_tool.specs.RawItems.{deepest_raw_item}
 use Rattle.rlp_tool.proofs.RawLemmas.{at_end, next_item, none_brought, no_bytes, not_empty, not_true, refuted, shorter_rest, stray_bytes, stray_item}
 use Rattle.rlp_tool.proofs.RawLemmas.{stray_rest, zero_test}

@@ -1,6 +1,6 @@
 use Rattle.std.proofs.Common.{◌≡◌, map, rules, subst, sym}
 use Rattle.std.specs.Vec.{vec_items}
-use Rattle.rlp.specs.Format.Item.{string}
+use Rattle.rlp.specs.Format.Encoding.{string}
 use Rattle.rlp_reading.proofs.Lemmas.Reading.{bytes_held}
 use Rattle.rlp_trie.specs.HexPrefix.{AreNibbles, nibbles_of}
 use Rattle.rlp_trie.specs.Next.{IsEnd}

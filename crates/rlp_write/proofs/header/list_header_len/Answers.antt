@@ -1,5 +1,5 @@
 use Rattle.std.proofs.Common.{◌≡◌, length, ap, arith, suc}
-use Rattle.rlp_format.specs.Format.WrittenHeader.{big_endian, written_header}
+use Rattle.rlp_format.specs.Format.Encoding.{big_endian, written_header}
 use Rattle.rlp_format.proofs.Lemmas.Headers.{written_header_long}
 use Rattle.rlp_write.proofs.header.list_header_len.Goals as goal
 

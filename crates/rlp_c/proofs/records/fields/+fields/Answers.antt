@@ -1,5 +1,5 @@
 use Rattle.std.proofs.Common.{ap, arith, sym, subst, ◌∙◌}
-use Rattle.rlp_reading.specs.Format.Split.{payload}
+use Rattle.rlp_reading.specs.Format.Framing.{payload}
 use Rattle.rlp_codec.specs.Form.{fault_of}
 use Rattle.rlp_reading.specs.Views.View.{strict_view_of}
 use Rattle.rlp_c.specs.Fields.{field_result}

@@ -1,5 +1,5 @@
 use Rattle.std.proofs.Common.{subst, sym}
-use Rattle.rlp_reading.specs.Format.Header.{ReadsHeader}
+use Rattle.rlp_reading.specs.Format.Framing.{ReadsHeader}
 use Rattle.rlp_format.proofs.Lemmas.Digits.{bytes_held}
 use Rattle.rlp_reading.proofs.Lemmas.Reading.{header_reads}
 use Rattle.rlp_reading.proofs.header.PayloadInfo.from.Goals as goal

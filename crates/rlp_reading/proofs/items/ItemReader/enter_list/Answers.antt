@@ -1,5 +1,5 @@
 use Rattle.std.proofs.Common.{◌≡◌, true, ap, sym, ◌∙◌}
-use Rattle.rlp_reading.specs.Format.Split.{begins_as_list}
+use Rattle.rlp_reading.specs.Format.Framing.{begins_as_list}
 use Rattle.rlp_reading.proofs.Lemmas.Numbered.{payload-fault}
 use Rattle.rlp_reading.specs.Views.View.{Reading}
 use Rattle.rlp_reading.proofs.items.ItemReader.enter_list.Goals as goal

@@ -1,7 +1,7 @@
 use Rattle.std.proofs.Common.{◌≡◌, None, List, ◌++◌, length, map, ap, sym, ◌∙◌, rules}
 use Rattle.std.specs.Vec.{vec_items}
 use Rattle.rlp.specs.Codec.{byte_string, end, field, plain, plain_fields}
-use Rattle.rlp.specs.Format.Item.{Item, list_of}
+use Rattle.rlp.specs.Format.Encoding.{Item, list_of}
 use Rattle.rlp.specs.Streams.Stream.{put_item}
 use Rattle.rlp_trie.specs.declared.branch.Branch.{Branch}
 use Rattle.rlp_trie.specs.declared.branch_child.BranchChild.{BranchChild}

@@ -1,5 +1,5 @@
 use Rattle.std.proofs.Common.{◌≡◌, rules, subst}
-use Rattle.rlp.specs.Format.WrittenHeader.{AreBytes}
+use Rattle.rlp.specs.Format.Encoding.{AreBytes}
 use Rattle.rlp_trie.specs.HexPrefix.{is_leaf_flag}
 use Rattle.rlp_trie.proofs.PathLemmas.{path_read}
 use Rattle.rlp_trie.proofs.path.Path.nibbles.Goals as goal

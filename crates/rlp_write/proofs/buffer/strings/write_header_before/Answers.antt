@@ -1,6 +1,5 @@
 use Rattle.std.proofs.Common.{◌≡◌, false, length, drop, ap, sym, ◌∙◌}
-use Rattle.rlp_format.specs.Format.WrittenHeader.{written_header}
-use Rattle.rlp_format.specs.Format.Encoding.{is_low_byte}
+use Rattle.rlp_format.specs.Format.Encoding.{written_header, is_low_byte}
 use Rattle.rlp_write.proofs.Streams.Written.{header_inserted, header_none, rest_from}
 use Rattle.rlp_write.proofs.buffer.strings.write_header_before.Goals as goal
 

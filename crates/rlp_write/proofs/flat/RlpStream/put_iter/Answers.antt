@@ -1,6 +1,5 @@
 use Rattle.std.proofs.Common.{◌∙◌}
-use Rattle.rlp_format.specs.Format.Item.{string}
-use Rattle.rlp_format.specs.Format.Encoding.{encoding}
+use Rattle.rlp_format.specs.Format.Encoding.{string, encoding}
 use Rattle.rlp_write.specs.Streams.Stream.{IsAsBefore}
 use Rattle.rlp_write.proofs.Streams.Growth.{grows_same, grows_put}
 use Rattle.rlp_write.proofs.Streams.Refused.{on_err, on_err_too}

@@ -1,5 +1,5 @@
 use Rattle.std.proofs.Common.{false, ap, ◌∙◌}
-use Rattle.rlp_format.specs.Format.Item.{string}
+use Rattle.rlp_format.specs.Format.Encoding.{string}
 use Rattle.rlp_write.specs.Streams.Stream.{Seen, add}
 use Rattle.rlp_write.proofs.Streams.Rewinding.{grown_uncounted}
 use Rattle.rlp_write.proofs.flat.RlpStream.try_append_iter.Goals as goal

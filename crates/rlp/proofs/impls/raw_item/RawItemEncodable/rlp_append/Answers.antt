@@ -1,7 +1,7 @@
 use Rattle.std.proofs.Common.{◌≡◌, ◌<◌, ◌^◌, length, true, false, ap, arith, subst, sym, ◌∙◌}
 use Rattle.std.proofs.lemmas.Result.{on_err_weaker}
 use Rattle.std.proofs.lemmas.Grind.{common_steps}
-use Rattle.rlp_reading.specs.Format.Split.{begins_as_list}
+use Rattle.rlp_reading.specs.Format.Framing.{begins_as_list}
 use Rattle.rlp_reading.specs.Views.View.{View}
 use Rattle.rlp_reading.specs.Values.RawItem.{IsRawItem, raw_item_of}
 use Rattle.rlp_reading.proofs.Lemmas.RawItems.{raw_is_list, raw_list, raw_string_read}

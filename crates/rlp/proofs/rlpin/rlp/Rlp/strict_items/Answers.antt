@@ -1,6 +1,5 @@
 use Rattle.std.proofs.Common.{◌≡◌, length, ap, sym, ◌∙◌}
-use Rattle.rlp_reading.specs.Format.Framing.{value}
-use Rattle.rlp_reading.specs.Format.Strict.{strict_fault}
+use Rattle.rlp_reading.specs.Format.Framing.{value, strict_fault}
 use Rattle.rlp_reading.specs.Views.View.{View}
 use Rattle.rlp_reading.proofs.Format.StrictLists.{strict_not_begun, strict_not_whole, strict_whole, value-items}
 use Rattle.rlp.proofs.rlpin.rlp.Rlp.strict_items.Goals as goal

@@ -1,5 +1,5 @@
 use Rattle.std.proofs.Common.{◌≡◌, ◌-◌, length, ap, ◌∙◌, arith}
-use Rattle.rlp_format.specs.Format.WrittenHeader.{written_header}
+use Rattle.rlp_format.specs.Format.Encoding.{written_header}
 use Rattle.rlp_write.specs.Streams.Held.{Held}
 use Rattle.rlp_write.proofs.Streams.Written.{header_placed}
 use Rattle.rlp_write.proofs.buffer.counted.Buffer.write_list_header.Goals as goal
