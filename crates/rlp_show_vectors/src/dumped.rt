@@ -196,21 +196,25 @@ fn add(alloc: Global, told: &mut Told, row: &str) -> Result<bool, AllocError> {
     Ok(number(place) == start && (is_payload || found == Some(header_len(*first))))
 }
 
-/// Returns whether these bytes, which rows show, are all of a line. A whole empty list has no
-/// content, and of the empty trie only the kind is shown. Nor are the last two strings shown of
-/// what EIP-155 signs, which has a chain and no `r`.
-fn are_all(alloc: Global, shown: &[u8], row: &Row) -> Result<bool, AllocError> {
-    let (_, text) = cut(row.0);
-    let Ok(bytes) = hex::decode(alloc, text.strip_prefix("0x").unwrap_or(text).as_bytes()) else {
-        return Ok(text.starts_with("enr:"));
-    };
-    let bytes = bytes.as_slice();
-    let is_unsigned = row.1.contains("chain_id: ") && !row.1.contains("r: 0x");
-    Ok(match bytes.get(shown.len()..) {
+/// Returns whether lines are those of what EIP-155 signs, which has a chain and no `r`.
+fn are_unsigned(lines: &str) -> bool {
+    lines.contains("chain_id: ") && !lines.contains("r: 0x")
+}
+
+/// Returns whether these bytes, which rows show, are all bytes of a record with these lines. A whole
+/// empty list has no content, and of the empty trie only the kind is shown. Nor are the last two
+/// strings shown of what EIP-155 signs.
+fn are_all(shown: &[u8], bytes: &[u8], lines: &str) -> bool {
+    match bytes.get(shown.len()..) {
         Some([]) => bytes == shown,
-        Some([0x80, 0x80]) if is_unsigned => bytes.starts_with(shown),
+        Some([0x80, 0x80]) if are_unsigned(lines) => bytes.starts_with(shown),
         _ => bytes.len() == 1,
-    })
+    }
+}
+
+/// Returns the bytes of a line, or nothing for the text of a node record.
+fn bytes_in(alloc: Global, text: &str) -> Option<Vec<u8>> {
+    hex::decode(alloc, text.strip_prefix("0x").unwrap_or(text).as_bytes()).ok()
 }
 
 /// Notes a record whose rows don't show all of its bytes in order, or don't have the expected lines.
@@ -221,7 +225,8 @@ pub(crate) fn note_rows(
     wrong: &mut Line,
 ) -> Result<(), AllocError> {
     let (given, want) = row;
-    let rows = answered(alloc, kind, Form::Bytes, cut(given).1)?;
+    let (_, text) = cut(given);
+    let rows = answered(alloc, kind, Form::Bytes, text)?;
     let mut told = Told {
         bytes: Vec::new(alloc),
         lines: String::new(alloc),
@@ -231,8 +236,76 @@ pub(crate) fn note_rows(
             wrong.note("row", given, row, "at its place");
         }
     }
-    if told.lines.as_str() != *want || !are_all(alloc, told.bytes.as_slice(), row)? {
+    let Some(bytes) = bytes_in(alloc, text) else {
+        return Ok(());
+    };
+    if told.lines.as_str() != *want || !are_all(told.bytes.as_slice(), bytes.as_slice(), want) {
         wrong.note("rows", given, rows.as_str(), want);
+    }
+    match kind {
+        Some(kind) if bytes.len() > 1 && !are_unsigned(want) => {
+            note_names(alloc, kind, bytes.as_slice(), rows.as_str(), wrong)
+        }
+        _ => Ok(()),
+    }
+}
+
+/// Returns the digits of bytes with a list in place of the string at a place, or the other way round.
+fn turned(alloc: Global, bytes: &[u8], place: usize) -> Result<String, AllocError> {
+    let mut turned = Vec::from_slice(alloc, bytes)?;
+    if let Some(first) = turned.get_mut(place) {
+        *first = match *first {
+            0..=0x7f => 0xc0,
+            other => other ^ 0x40,
+        };
+    }
+    hex::encode(alloc, turned.as_slice())
+}
+
+/// Returns the name in an answer, as `gas_limit` in `error field 9 (gas_limit): RlpIsTooBig`.
+fn name_at_fault(answer: &str) -> &str {
+    let text = answer.strip_prefix("error ").unwrap_or("");
+    match text.split_once(" (") {
+        Some((_, rest)) => rest.split_once("): ").unwrap_or((rest, "")).0,
+        None => text.split_once(": ").unwrap_or((text, "")).0,
+    }
+}
+
+/// Returns the place and the name of a row, or nothing for a row without a place or of a part of an
+/// envelope.
+fn place_and_name(row: &str) -> Option<(&str, &str)> {
+    let (place, rest) = cut(row);
+    let (_, what) = cut(cut(rest).1);
+    let (name, _) = what.split_once(": ")?;
+    let (_, own) = name.rsplit_once('.').unwrap_or(("", name));
+    match own {
+        "type" | "payload" => None,
+        _ if place == "-" => None,
+        _ => Some((place, name)),
+    }
+}
+
+/// Notes the names of rows that the program doesn't give to the fault of a string in place of a list
+/// there, or of a list in place of a string. An item of any kind may be either, and a fault in it is
+/// that of the whole item.
+fn note_names(
+    alloc: Global,
+    kind: Kind,
+    bytes: &[u8],
+    rows: &str,
+    wrong: &mut Line,
+) -> Result<(), AllocError> {
+    for row in rows.lines() {
+        let Some((place, name)) = place_and_name(row) else {
+            continue;
+        };
+        let digits = turned(alloc, bytes, number(place))?;
+        let answer = answered(alloc, Some(kind), Form::Text, digits.as_str())?;
+        let found = name_at_fault(answer.as_str());
+        let is_any = name.contains("pairs[") || name.contains("further[") || name.contains("child");
+        if !is_any || !name.starts_with(found) {
+            wrong.note("name", digits.as_str(), found, name);
+        }
     }
     Ok(())
 }
