@@ -39,6 +39,6 @@ def rows(data, lines):
             end = place + 1
         elif not isinstance(line, Derived):
             begin, end = framing(data, place, len(data))
-        found.append(f"- - - {line}" if end == place else row(data, place, begin if not isinstance(line, TypeByte) else place, end, line))
+        found.append(f"- - - {line}" if end == place else row(data, place, begin, end, line))
         place = end
     return found
