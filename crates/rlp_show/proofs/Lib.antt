@@ -1,4 +1,1 @@
 -- Lemmas, in a file for each subject.
-
--- lines that are shown without a fault
-pub mod LineLemmas

@@ -6,8 +6,7 @@ use Rattle.rlp_lines.specs.Replies.{answer_by}
 use Rattle.rlp_lines.specs.Run.{AppendsPart, RunLeaves, TellsFault, TextLeaves}
 use Rattle.rlp_lines.specs.Watched.{Watched}
 use Rattle.rlp_lines.specs.declared.serving.RunFault.{RunFault}
-use Rattle.rlp_show_text.specs.Answer.{exit_status, longest_line}
-use Rattle.rlp_show.specs.LineAnswer.{answer_of}
+use Rattle.rlp_show.specs.Answers.{answer_of, exit_status, longest_line}
 use Rattle.rlp_show.specs.declared.answers.Answers.{Answers}
 use Rattle.rlp_show.specs.declared.help.TheConstants.{HELP, USAGE, VERSION}
 use Rattle.rlp_show.specs.declared.request.Request.{Request}

@@ -5,8 +5,7 @@ ghost use Rattle.std.specs.IoError.{error_kind};
 ghost use Rattle.rlp_lines.specs.Lines.{last_of};
 ghost use Rattle.rlp_lines.specs.Replies.{answer_by};
 ghost use Rattle.rlp_lines.specs.Run.{RunLeaves, TellsFault};
-ghost use Rattle.rlp_show_text.specs.Answer.{exit_status, longest_line};
-ghost use Rattle.rlp_show.specs.LineAnswer.{answer_of};
+ghost use Rattle.rlp_show.specs.Answers.{answer_of, exit_status, longest_line};
 ghost use Rattle.rlp_show.specs.Program.{AnswersInput, AnswersWord, Prints, Refuses, Serves};
 ghost use Rattle.rlp_show.specs.Request.{request_of};
 

@@ -1,0 +1,143 @@
+//! The answers to the bytes of records, by their kinds.
+
+ghost use Rattle.std.specs.Prelude.{◌≡◌, ◌++◌, ℕ, List, string_bytes, OnOk};
+ghost use Rattle.rlp_print.specs.Display.{shown_of};
+ghost use Rattle.rlp_print.specs.Value.{Value};
+ghost use Rattle.rlp_show.specs.Answers.{kind_text};
+ghost use Rattle.rlp_show.specs.Shown.{kind_shown, message_shown, receipt_shown, signed_shown, transaction_shown, shown_as};
+
+use crate::given::Given;
+use crate::kind::Kind;
+use crate::listed::ListOf;
+use crate::messages::MessageKind;
+use crate::placed::decode_placed;
+use rlp::{Decodable, DecoderError, Rlp};
+use rlp_eth::{
+    BlockRangeUpdate, BlockReceipts, BlockReceipts69, GetBlockHeaders, NewBlock, NewBlockHash,
+    NewPooledTransactionHashes, Status68, Status69, WithRequestId,
+};
+use rlp_ethereum::{
+    AccessListItem, Account, AnyTransaction, Block, Body, Hash, Header, NodeRecord,
+    SignedAuthorization, TrieNode, TypedReceipt, UnsignedTransaction, Withdrawal,
+};
+use rlp_p2p::{Disconnect, Hello, Ping, Pong};
+use rlp_print::Show;
+use std::alloc::{AllocError, Global};
+
+/// Appends the answer to the bytes of a `T`.
+fn put_record<T: Decodable + Show>(
+    alloc: Global,
+    given: &Given<'_>,
+    out: &mut String,
+) -> Result<(), AllocError>
+    ensures { (shown : T.reading.M → Value)
+        → ((x : T) → shown (T.reading.seen x) ≡ shown_of T.display x)
+        → OnOk result (string_bytes out.new ≡ string_bytes out.old
+        ++ kind_text given.now.form given.now.kind given.now.name.now given.now.bytes.now
+        (shown_as T.reading.read shown given.now.bytes.now)) }
+{
+    let read = decode_placed::<T>(alloc, &Rlp::new_strict(given.bytes));
+    given.put_read(alloc, &read, out)
+}
+
+/// Appends the answer to the bytes of a `T` by itself, which are a list or an envelope.
+fn put_alone<T: Decodable + Show>(
+    alloc: Global,
+    given: &Given<'_>,
+    out: &mut String,
+) -> Result<(), AllocError> {
+    if Rlp::new(given.bytes).is_list() {
+        return put_record::<T>(alloc, given, out);
+    }
+    let item = rlp::encode(alloc, &given.bytes)?;
+    let read = decode_placed::<T>(alloc, &Rlp::new_strict(item.as_slice()));
+    given.put_read(alloc, &read, out)
+}
+
+/// Appends the answer to the bytes of a transaction, signed or not.
+fn put_transaction(alloc: Global, given: &Given<'_>, out: &mut String) -> Result<(), AllocError>
+    ensures { OnOk result (string_bytes out.new ≡ string_bytes out.old
+        ++ kind_text given.now.form given.now.kind given.now.name.now given.now.bytes.now
+        (transaction_shown given.now.bytes.now)) }
+{
+    match UnsignedTransaction::from_bytes(alloc, given.bytes) {
+        Ok(transaction) => given.put_value(alloc, &transaction, out),
+        Err(DecoderError::OutOfMemory) => Err(AllocError),
+        Err(_) => put_alone::<AnyTransaction>(alloc, given, out),
+    }
+}
+
+/// Appends the answer to the bytes of a record.
+pub(crate) fn put_known(
+    alloc: Global,
+    kind: Kind,
+    given: &Given<'_>,
+    out: &mut String,
+) -> Result<(), AllocError>
+    ensures { OnOk result (string_bytes out.new ≡ string_bytes out.old
+        ++ kind_text given.now.form given.now.kind given.now.name.now given.now.bytes.now
+        (kind_shown kind given.now.bytes.now)) }
+{
+    match kind {
+        Kind::AccessList => put_record::<ListOf<AccessListItem>>(alloc, given, out),
+        Kind::Account => put_record::<Account>(alloc, given, out),
+        Kind::Authorization => put_record::<SignedAuthorization>(alloc, given, out),
+        Kind::Block => put_record::<Block>(alloc, given, out),
+        Kind::Body => put_record::<Body>(alloc, given, out),
+        Kind::Header => put_record::<Header>(alloc, given, out),
+        Kind::Node => put_record::<TrieNode>(alloc, given, out),
+        Kind::Receipt => put_alone::<TypedReceipt>(alloc, given, out),
+        Kind::NodeRecord => put_record::<NodeRecord>(alloc, given, out),
+        Kind::Transaction => put_transaction(alloc, given, out),
+        Kind::Withdrawal => put_record::<Withdrawal>(alloc, given, out),
+        Kind::Message(kind) => put_message(alloc, kind, given, out),
+    }
+}
+
+/// Appends the answer to the bytes of a message.
+fn put_message(
+    alloc: Global,
+    kind: MessageKind,
+    given: &Given<'_>,
+    out: &mut String,
+) -> Result<(), AllocError>
+    ensures { OnOk result (string_bytes out.new ≡ string_bytes out.old
+        ++ kind_text given.now.form given.now.kind given.now.name.now given.now.bytes.now
+        (message_shown kind given.now.bytes.now)) }
+{
+    match kind {
+        MessageKind::Hello => put_record::<Hello>(alloc, given, out),
+        MessageKind::Disconnect => put_record::<Disconnect>(alloc, given, out),
+        MessageKind::Ping => put_record::<Ping>(alloc, given, out),
+        MessageKind::Pong => put_record::<Pong>(alloc, given, out),
+        MessageKind::Status68 => put_record::<Status68>(alloc, given, out),
+        MessageKind::Status69 => put_record::<Status69>(alloc, given, out),
+        MessageKind::NewBlockHashes => put_record::<ListOf<NewBlockHash>>(alloc, given, out),
+        MessageKind::Transactions => put_record::<ListOf<AnyTransaction>>(alloc, given, out),
+        MessageKind::NewBlock => put_record::<NewBlock>(alloc, given, out),
+        MessageKind::NewPooledTransactionHashes => {
+            put_record::<NewPooledTransactionHashes>(alloc, given, out)
+        }
+        MessageKind::BlockRangeUpdate => put_record::<BlockRangeUpdate>(alloc, given, out),
+        MessageKind::GetBlockHeaders => put_numbered::<GetBlockHeaders>(alloc, given, out),
+        MessageKind::BlockHeaders => put_numbered::<ListOf<Header>>(alloc, given, out),
+        MessageKind::GetBlockBodies
+        | MessageKind::GetPooledTransactions
+        | MessageKind::GetReceipts => put_numbered::<ListOf<Hash>>(alloc, given, out),
+        MessageKind::BlockBodies => put_numbered::<ListOf<Body>>(alloc, given, out),
+        MessageKind::PooledTransactions => {
+            put_numbered::<ListOf<AnyTransaction>>(alloc, given, out)
+        }
+        MessageKind::Receipts68 => put_numbered::<ListOf<BlockReceipts>>(alloc, given, out),
+        MessageKind::Receipts69 => put_numbered::<ListOf<BlockReceipts69>>(alloc, given, out),
+    }
+}
+
+/// Appends the answer to the bytes of a message that has the number of a request.
+fn put_numbered<T: Decodable + Show>(
+    alloc: Global,
+    given: &Given<'_>,
+    out: &mut String,
+) -> Result<(), AllocError> {
+    put_record::<WithRequestId<T>>(alloc, given, out)
+}
