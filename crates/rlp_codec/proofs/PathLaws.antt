@@ -31,7 +31,7 @@ pub item_passed : {M : Type 0} (read : View → Answer M Fault) (n i : ℕ) (v :
     → fault_path (read_each read n (v ∷ vs)) ≡ fault_path (read_each read n vs)
 item_passed {M} read n i v vs none =
     next_fault (read v).result _ (λ x. map_answer (λ xs. x ∷ xs) (read_each read n vs)) (fault_path (read_each read n vs))
-        (no_fault (read v).result _ _ none) (λ x. mapped_fault (λ (xs : List M). x ∷ xs) (read_each read n vs).result (read_each read n vs).path)
+    (no_fault (read v).result _ _ none) (λ x. mapped_fault (λ (xs : List M). x ∷ xs) (read_each read n vs).result (read_each read n vs).path)
 
 -- an item with a fault has the fault of the list
 pub item_found : {M : Type 0} (read : View → Answer M Fault) (n i : ℕ) (v : View) (vs : List View) (p : Path) → fault_path (within i (read v)) ≡ Some p

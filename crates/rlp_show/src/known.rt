@@ -89,11 +89,7 @@ fn put_alone<T: Decodable + Show>(
 }
 
 /// Appends the answer to the bytes of a transaction, signed or not.
-fn put_transaction(
-    alloc: Global,
-    given: &Given<'_>,
-    out: &mut String,
-) -> Result<(), AllocError>
+fn put_transaction(alloc: Global, given: &Given<'_>, out: &mut String) -> Result<(), AllocError>
     ensures { OnOk result (string_bytes out.new ≡ string_bytes out.old
         ++ kind_text given.now.form given.now.kind given.now.name.now given.now.bytes.now
         (transaction_shown given.now.bytes.now)) }
