@@ -9,12 +9,14 @@ ghost use Rattle.rlp_codec.specs.Form.{Faults, FieldsReading, Gives, fault_of, g
 mod groups;
 mod optional;
 mod parts;
+mod placed;
 
 use crate::rlpin::{Fields, Rlp};
 use crate::traits::Decodable;
 pub use groups::{FixedFields, Groups};
 pub use optional::{OptionalField, OptionalGroup};
 pub use parts::Joined;
+pub use placed::{DecodeFieldsPlaced, put_path_of};
 use rlp_reading::error::DecoderError;
 use std::alloc::Global;
 use std::error::Error;

@@ -9,7 +9,7 @@ ghost use Rattle.rlp_print.specs.NodeRecords.{is_ip, is_port_key, key_value_disp
 use crate::show::{Items, Show, show_fields};
 use crate::sink::{BytesKind, Shown, Sink, bytes, number};
 use rlp::{RawItem, Rlp};
-use rlp_node_record::{NodeFields, NodePair, NodeRecord};
+use rlp_node_record::{NodeFields, NodePair};
 use std::alloc::{AllocError, Global};
 
 /// Returns whether the value of a key is a port.
@@ -100,13 +100,5 @@ impl Show for NodeFields {
             "sequence" "sequence" &self.sequence;
             "pairs" "pairs" Items(&self.pairs)
         )
-    }
-}
-
-impl Show for NodeRecord {
-    ghost display = { seen_as node_fields.reading.seen node_fields_display };
-
-    fn show<S: Sink>(&self, alloc: Global, name: &str, sink: &mut S) -> Result<(), AllocError> {
-        self.fields().show(alloc, name, sink)
     }
 }

@@ -1,6 +1,7 @@
 -- What the bytes of a record give, by its kind: a value to show, or a fault and the places that lead to it.
-use Rattle.std.specs.Prelude.{ℕ, ◌≡◌, List, Result, Ok, Err}
+use Rattle.std.specs.Prelude.{ℕ, ◌≡◌, List, codes, if◌then◌else◌, Result, Ok, Err}
 use Rattle.rlp.specs.Codec.{Codec}
+use Rattle.rlp.specs.Format.{Encoding.encoding, Encoding.string, Framing.begins_as_list}
 use Rattle.rlp.specs.Views.View.{View, strict_view_of}
 use Rattle.rlp_codec.specs.Form.{Answer, Fault, Reading, here, map_answer}
 use Rattle.rlp_records.specs.Hash.{hash}
@@ -13,15 +14,15 @@ use Rattle.rlp_ethereum.specs.{Block.block, Body.body}
 use Rattle.rlp_p2p.specs.{Disconnect.disconnect, Hello.hello, Session.ping, Session.pong}
 use Rattle.rlp_eth.specs.Announcements.{block_range_update, new_block, new_block_hashes, new_pooled_transaction_hashes, transactions}
 use Rattle.rlp_eth.specs.Requests.{block_bodies, block_headers, get_block_bodies, get_block_headers, get_pooled_transactions, get_receipts, pooled_transactions}
-use Rattle.rlp_eth.specs.{Receipts.receipts, Receipts69.receipts69, Status.status68, Status.status69, WithRequestId.with_request_id}
-use Rattle.rlp_print.specs.Value.{Value}
-use Rattle.rlp_print.specs.Display.{Display, a_list, a_string, an_object, end}
+use Rattle.rlp_eth.specs.{Receipts.receipts, Receipts69.receipts69, Status.status68, Status.status69, WithRequestId.with_request_id_reading}
+use Rattle.rlp_print.specs.Value.{Value, both, entry, object}
+use Rattle.rlp_print.specs.Display.{Display, a_list, a_number, a_string, an_object, end}
 use Rattle.rlp_print.specs.Records.{account_display, typed_receipt_display, withdrawal_display}
 use Rattle.rlp_print.specs.Transactions.{access_list_display, any_transaction_display, signed_authorization_display, unsigned_display}
 use Rattle.rlp_print.specs.Blocks.{block_display, body_fields_display, header_display}
 use Rattle.rlp_print.specs.NodeRecords.{node_fields_display}
 use Rattle.rlp_print.specs.Messages.{disconnect_display, get_block_headers_display, hello_display, new_block_display, new_block_hash_display, new_pooled_transaction_hashes_display}
-use Rattle.rlp_print.specs.Messages.{range_display, receipt69_display, status68_display, status69_display, with_request_id_display}
+use Rattle.rlp_print.specs.Messages.{range_display, receipt69_display, status68_display, status69_display}
 use Rattle.rlp_show.specs.Nodes.{node_shown}
 use Rattle.rlp_show.specs.declared.kind.Kind.{Kind}
 use Rattle.rlp_show.specs.declared.kind.Kind.TheVariants.{AccessList, Account, Authorization, Block, Body, Header, Message, Node, NodeRecord, Receipt, Transaction, Withdrawal}
@@ -40,9 +41,21 @@ shown_as read shown b = map_answer shown (read (strict_view_of b))
 abbrev pub whole : {A : Type 0} (c : Codec A) → Display c.reading.M → List ℕ → Shown
 whole c d = shown_as c.reading.read d.shown
 
--- the same after the number of a request
+-- the number of a request, and what is shown of the value after the number
+abbrev pub after_number : {M : Type 0} → (M → Value) → ℕ × M → Value
+after_number shown m =
+    object (both (entry (codes "request_id") (codes "requestId") (a_number.shown m.0)) (entry (codes "content") (codes "content") (shown m.1)))
+
+-- what the bytes of a message with the number of a request give
+abbrev pub numbered_as : {A : Type 0} (r : Reading A) → (r.M → Value) → List ℕ → Shown
+numbered_as r shown = shown_as (with_request_id_reading r).read (λ m. after_number shown (m.0, m.1.0))
+
 abbrev pub numbered : {A : Type 0} (c : Codec A) → Display c.reading.M → List ℕ → Shown
-numbered c d = shown_as (with_request_id c).reading.read (λ m. (with_request_id_display d).shown (m.0, m.1.0))
+numbered c d = numbered_as c.reading d.shown
+
+-- bytes that stand by themselves, as an item: a list is its own encoding, and other bytes are the payload of a string
+abbrev pub item_alone : List ℕ → List ℕ
+item_alone b = if begins_as_list b then b else encoding (string b)
 
 -- the transaction that isn't signed, if bytes give one, or else what others give
 abbrev pub unsigned_or : Shown → Result unsigned_transaction.reading.M Fault → Shown

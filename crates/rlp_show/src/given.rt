@@ -1,12 +1,12 @@
 //! The answer to the bytes of a record of a kind.
 
-ghost use Rattle.std.specs.Prelude.{◌≡◌, ◌++◌, false, string_bytes, OnOk, Ok, Err};
+ghost use Rattle.std.specs.Prelude.{◌≡◌, ◌≢◌, ◌++◌, [], codes, false, string_bytes, IfOk, OnOk, Err};
+ghost use Rattle.rlp.specs.DecoderError.TheVariants.{OutOfMemory};
 ghost use Rattle.rlp_codec.specs.Form.{fault_of};
 ghost use Rattle.rlp_print.specs.Display.{shown_of};
 ghost use Rattle.rlp_print.specs.Value.{entry, object};
 ghost use Rattle.rlp_print.specs.Json.{json_of};
-ghost use Rattle.rlp_show.specs.Answers.{camel, field_at, letter_text, shown_text, value_text};
-ghost use Rattle.rlp_show.specs.Kinds.{kind_name};
+ghost use Rattle.rlp_show.specs.Answers.{camel, fault_name, fault_text, field_at, letter_text, shown_text, value_text};
 
 use crate::answers::Form;
 use crate::kind::Kind;
@@ -65,51 +65,65 @@ impl<'a> Given<'a> {
         out.push_str(text.as_str())
     }
 
-    /// Appends what is wrong with the bytes, or fails with `AllocError` if memory was refused.
+    /// Appends what is wrong with the bytes. Fails if memory was refused as they were read.
     pub(crate) fn put_fault(
         &self,
         alloc: Global,
         fault: &PlacedFault,
         out: &mut String,
     ) -> Result<(), AllocError>
-        ensures { OnOk result (string_bytes out.new ≡ string_bytes out.old
+        ensures memory { OnOk result (fault.now.fault ≢ OutOfMemory) }
+        ensures text { OnOk result (string_bytes out.new ≡ string_bytes out.old
             ++ shown_text self.now.form self.now.kind self.now.name.now self.now.bytes.now
             (Err (fault_of fault.now.fault)) fault.now.path.items) }
     {
-        let path = fault.path.as_slice();
-        let mut name = String::from_str(alloc, self.name)?;
-        put_part_name(
-            self.kind.part(),
-            &Rlp::new_strict(self.bytes),
-            path,
-            &mut name,
-        )?;
-        let fault = &fault.fault;
-        out.push_str("error ")?;
-        match field_at(self.kind.part().is_list(), path) {
-            Some(place) => write!(out, "field {place} ({name}): {fault}"),
-            None if name.is_empty() => write!(out, "{fault}"),
-            None => write!(out, "{name}: {fault}"),
+        match &fault.fault {
+            DecoderError::OutOfMemory => Err(AllocError),
+            error => self.put_error(alloc, error, fault.path.as_slice(), out),
         }
     }
 
-    /// Appends what was read of the bytes, or what is wrong with them.
-    pub(crate) fn put_read<T: Show>(
+    /// Appends a fault of the part of the bytes to which these places lead.
+    fn put_error(
         &self,
         alloc: Global,
-        read: &Result<T, PlacedFault>,
+        error: &DecoderError,
+        path: &[usize],
         out: &mut String,
-    ) -> Result<(), AllocError> {
-        match read {
-            Ok(value) => self.put_value(alloc, value, out),
-            Err(fault) if fault.fault == DecoderError::OutOfMemory => Err(AllocError),
-            Err(fault) => self.put_fault(alloc, fault, out),
-        }
+    ) -> Result<(), AllocError>
+        ensures { OnOk result (string_bytes out.new ≡ string_bytes out.old
+            ++ shown_text self.now.form self.now.kind self.now.name.now self.now.bytes.now
+            (Err (fault_of error.now)) path.now) }
+    {
+        let part = self.kind.part();
+        let mut name = String::from_str(alloc, self.name)?;
+        put_part_name(part, &Rlp::new_strict(self.bytes), path, &mut name)?;
+        put_fault_text(field_at(part.is_list(), path), name.as_str(), error, out)
+    }
+}
+
+/// Appends what is wrong with an item of this name.
+fn put_fault_text(
+    place: Option<usize>,
+    name: &str,
+    error: &DecoderError,
+    out: &mut String,
+) -> Result<(), AllocError>
+    ensures { OnOk result (string_bytes out.new ≡ string_bytes out.old ++ codes "error "
+        ++ fault_text place name.now (fault_name (fault_of error.now))) }
+{
+    match place {
+        Some(place) => write!(out, "error field {place} ({name}): {error}"),
+        None if name.is_empty() => write!(out, "error {error}"),
+        None => write!(out, "error {name}: {error}"),
     }
 }
 
 /// Returns the JSON of an object whose only key is a name.
-fn json_under<T: Show>(alloc: Global, name: &str, value: &T) -> Result<String, AllocError> {
+fn json_under<T: Show>(alloc: Global, name: &str, value: &T) -> Result<String, AllocError>
+    ensures { IfOk result (λ text. string_bytes text
+        ≡ json_of (object (entry [] (camel false name.now) (shown_of T.display value.now)))) }
+{
     let mut json = String::new(alloc);
     put_camel(name.as_bytes(), &mut json)?;
     let member = Named {

@@ -1,10 +1,17 @@
 //! The answers to the bytes of records, by their kinds.
 
-ghost use Rattle.std.specs.Prelude.{◌≡◌, ◌++◌, ℕ, List, string_bytes, OnOk};
+ghost use Rattle.std.specs.Prelude.{◌≡◌, ◌++◌, string_bytes, OnOk, IsTrue};
+ghost use Rattle.rlp.specs.Views.View.{strict_view_of};
+ghost use Rattle.rlp_codec.specs.Form.{map_answer};
+ghost use Rattle.rlp_node_record.specs.NodeLaws.{node_record};
+ghost use Rattle.rlp_trie.specs.{TrieNode.seen_node, TrieNodeLaws.trie_node};
+ghost use Rattle.rlp_print.specs.Items.{node_display, node_hash, node_parts};
+ghost use Rattle.rlp_print.specs.NodeRecords.{node_fields_display};
 ghost use Rattle.rlp_print.specs.Display.{shown_of};
 ghost use Rattle.rlp_print.specs.Value.{Value};
 ghost use Rattle.rlp_show.specs.Answers.{kind_text};
-ghost use Rattle.rlp_show.specs.Shown.{kind_shown, message_shown, receipt_shown, signed_shown, transaction_shown, shown_as};
+ghost use Rattle.rlp_show.specs.Nodes.{node_shown};
+ghost use Rattle.rlp_show.specs.Shown.{item_alone, kind_shown, message_shown, numbered_as, shown_as, transaction_shown, whole};
 
 use crate::given::Given;
 use crate::kind::Kind;
@@ -25,6 +32,7 @@ use rlp_print::Show;
 use std::alloc::{AllocError, Global};
 
 /// Appends the answer to the bytes of a `T`.
+#[tactic(auto, using(crate::proofs::Readings::readings))]
 fn put_record<T: Decodable + Show>(
     alloc: Global,
     given: &Given<'_>,
@@ -36,26 +44,56 @@ fn put_record<T: Decodable + Show>(
         ++ kind_text given.now.form given.now.kind given.now.name.now given.now.bytes.now
         (shown_as T.reading.read shown given.now.bytes.now)) }
 {
-    let read = decode_placed::<T>(alloc, &Rlp::new_strict(given.bytes));
-    given.put_read(alloc, &read, out)
+    match decode_placed::<T>(alloc, &Rlp::new_strict(given.bytes)) {
+        Ok(value) => given.put_value(alloc, &value, out),
+        Err(fault) => given.put_fault(alloc, &fault, out),
+    }
+}
+
+/// Appends the answer to the bytes of a message that has the number of a request.
+fn put_numbered<T: Decodable + Show>(
+    alloc: Global,
+    given: &Given<'_>,
+    out: &mut String,
+) -> Result<(), AllocError>
+    ensures { (shown : T.reading.M → Value)
+        → ((x : T) → shown (T.reading.seen x) ≡ shown_of T.display x)
+        → OnOk result (string_bytes out.new ≡ string_bytes out.old
+        ++ kind_text given.now.form given.now.kind given.now.name.now given.now.bytes.now
+        (numbered_as T.reading shown given.now.bytes.now)) }
+{
+    put_record::<WithRequestId<T>>(alloc, given, out)
 }
 
 /// Appends the answer to the bytes of a `T` by itself, which are a list or an envelope.
+#[tactic(auto, using(crate::proofs::Readings::readings))]
 fn put_alone<T: Decodable + Show>(
     alloc: Global,
     given: &Given<'_>,
     out: &mut String,
-) -> Result<(), AllocError> {
+) -> Result<(), AllocError>
+    ensures { (shown : T.reading.M → Value)
+        → ((x : T) → shown (T.reading.seen x) ≡ shown_of T.display x)
+        → OnOk result (string_bytes out.new ≡ string_bytes out.old
+        ++ kind_text given.now.form given.now.kind given.now.name.now given.now.bytes.now
+        (map_answer shown (T.reading.read (strict_view_of (item_alone given.now.bytes.now))))) }
+{
     if Rlp::new(given.bytes).is_list() {
         return put_record::<T>(alloc, given, out);
     }
     let item = rlp::encode(alloc, &given.bytes)?;
-    let read = decode_placed::<T>(alloc, &Rlp::new_strict(item.as_slice()));
-    given.put_read(alloc, &read, out)
+    match decode_placed::<T>(alloc, &Rlp::new_strict(item.as_slice())) {
+        Ok(value) => given.put_value(alloc, &value, out),
+        Err(fault) => given.put_fault(alloc, &fault, out),
+    }
 }
 
 /// Appends the answer to the bytes of a transaction, signed or not.
-fn put_transaction(alloc: Global, given: &Given<'_>, out: &mut String) -> Result<(), AllocError>
+fn put_transaction(
+    alloc: Global,
+    given: &Given<'_>,
+    out: &mut String,
+) -> Result<(), AllocError>
     ensures { OnOk result (string_bytes out.new ≡ string_bytes out.old
         ++ kind_text given.now.form given.now.kind given.now.name.now given.now.bytes.now
         (transaction_shown given.now.bytes.now)) }
@@ -64,6 +102,43 @@ fn put_transaction(alloc: Global, given: &Given<'_>, out: &mut String) -> Result
         Ok(transaction) => given.put_value(alloc, &transaction, out),
         Err(DecoderError::OutOfMemory) => Err(AllocError),
         Err(_) => put_alone::<AnyTransaction>(alloc, given, out),
+    }
+}
+
+/// Returns whether a branch has sixteen children. This is always so: the test tells the proof the
+/// length of the array.
+fn has_children(node: &TrieNode) -> bool
+    ensures { IsTrue result → node_display.shown (node_hash node.now, node_parts node.now)
+        ≡ node_shown (seen_node node.now) }
+{
+    match node {
+        TrieNode::Branch(branch) => branch.children.len() == 16,
+        _ => true,
+    }
+}
+
+/// Appends the answer to the bytes of a node of the trie.
+fn put_node(alloc: Global, given: &Given<'_>, out: &mut String) -> Result<(), AllocError>
+    ensures { OnOk result (string_bytes out.new ≡ string_bytes out.old
+        ++ kind_text given.now.form given.now.kind given.now.name.now given.now.bytes.now
+        (shown_as trie_node.reading.read node_shown given.now.bytes.now)) }
+{
+    match decode_placed::<TrieNode>(alloc, &Rlp::new_strict(given.bytes)) {
+        Ok(node) if has_children(&node) => given.put_value(alloc, &node, out),
+        Ok(_) => Err(AllocError),
+        Err(fault) => given.put_fault(alloc, &fault, out),
+    }
+}
+
+/// Appends the answer to the bytes of a node record.
+fn put_node_record(alloc: Global, given: &Given<'_>, out: &mut String) -> Result<(), AllocError>
+    ensures { OnOk result (string_bytes out.new ≡ string_bytes out.old
+        ++ kind_text given.now.form given.now.kind given.now.name.now given.now.bytes.now
+        (whole node_record node_fields_display given.now.bytes.now)) }
+{
+    match decode_placed::<NodeRecord>(alloc, &Rlp::new_strict(given.bytes)) {
+        Ok(node) => given.put_value(alloc, node.fields(), out),
+        Err(fault) => given.put_fault(alloc, &fault, out),
     }
 }
 
@@ -85,9 +160,9 @@ pub(crate) fn put_known(
         Kind::Block => put_record::<Block>(alloc, given, out),
         Kind::Body => put_record::<Body>(alloc, given, out),
         Kind::Header => put_record::<Header>(alloc, given, out),
-        Kind::Node => put_record::<TrieNode>(alloc, given, out),
+        Kind::Node => put_node(alloc, given, out),
         Kind::Receipt => put_alone::<TypedReceipt>(alloc, given, out),
-        Kind::NodeRecord => put_record::<NodeRecord>(alloc, given, out),
+        Kind::NodeRecord => put_node_record(alloc, given, out),
         Kind::Transaction => put_transaction(alloc, given, out),
         Kind::Withdrawal => put_record::<Withdrawal>(alloc, given, out),
         Kind::Message(kind) => put_message(alloc, kind, given, out),
@@ -131,13 +206,4 @@ fn put_message(
         MessageKind::Receipts68 => put_numbered::<ListOf<BlockReceipts>>(alloc, given, out),
         MessageKind::Receipts69 => put_numbered::<ListOf<BlockReceipts69>>(alloc, given, out),
     }
-}
-
-/// Appends the answer to the bytes of a message that has the number of a request.
-fn put_numbered<T: Decodable + Show>(
-    alloc: Global,
-    given: &Given<'_>,
-    out: &mut String,
-) -> Result<(), AllocError> {
-    put_record::<WithRequestId<T>>(alloc, given, out)
 }
