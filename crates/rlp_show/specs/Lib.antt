@@ -38,3 +38,5 @@ pub mod P2pValues
 pub mod EthValues
 -- the lines of answers with receipts of eth/68
 pub mod MessageReceipts
+-- the names of the parts of records
+pub mod Names

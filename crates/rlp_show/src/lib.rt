@@ -12,6 +12,7 @@ mod kind;
 pub mod laws;
 mod lists;
 mod messages;
+mod names;
 mod node_records;
 mod nodes;
 mod numbers;
