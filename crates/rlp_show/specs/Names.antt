@@ -23,85 +23,66 @@ Field = List ℕ × Part
 abbrev pub fields_in : List (record { now : List ℕ } × Part) → List Field
 fields_in fs = map (λ f. (f.0.now, f.1)) fs
 
--- the fields of records, in order
+-- the fields of messages of a kind, in order
+abbrev pub message_fields : MessageKind → List Field
+message_fields message.Hello = fields_in table.HELLO.now
+message_fields message.Disconnect = fields_in table.DISCONNECT.now
+message_fields message.Status68 = fields_in table.STATUS68.now
+message_fields message.Status69 = fields_in table.STATUS69.now
+message_fields message.GetBlockHeaders = fields_in table.GET_BLOCK_HEADERS.now
+message_fields message.BlockHeaders = fields_in table.BLOCK_HEADERS.now
+message_fields message.GetBlockBodies = fields_in table.GET_HASHED.now
+message_fields message.BlockBodies = fields_in table.BLOCK_BODIES.now
+message_fields message.NewBlock = fields_in table.NEW_BLOCK.now
+message_fields message.NewPooledTransactionHashes = fields_in table.NEW_POOLED_HASHES.now
+message_fields message.GetPooledTransactions = fields_in table.GET_HASHED.now
+message_fields message.PooledTransactions = fields_in table.POOLED_TRANSACTIONS.now
+message_fields message.GetReceipts = fields_in table.GET_HASHED.now
+message_fields message.Receipts68 = fields_in table.RECEIPTS68.now
+message_fields message.Receipts69 = fields_in table.RECEIPTS69.now
+message_fields message.BlockRangeUpdate = fields_in table.BLOCK_RANGE.now
+message_fields _ = []
+
+-- the fields of records of a kind, in order
+abbrev pub kind_fields : Kind → List Field
+kind_fields kind.Account = fields_in table.ACCOUNT.now
+kind_fields kind.Authorization = fields_in table.AUTHORIZATION.now
+kind_fields kind.Block = fields_in table.BLOCK.now
+kind_fields kind.Body = fields_in table.BODY.now
+kind_fields kind.Header = fields_in table.HEADER.now
+kind_fields kind.NodeRecord = fields_in table.NODE_RECORD.now
+kind_fields kind.Withdrawal = fields_in table.WITHDRAWAL.now
+kind_fields (kind.Message m) = message_fields m
+kind_fields _ = []
+
+-- the fields of a record, in order
 abbrev pub fields : Record → List Field
+fields named.Other = []
+fields (named.Kind k) = kind_fields k
 fields named.AccessListItem = fields_in table.ACCESS_LIST_ITEM.now
-fields named.Account = fields_in table.ACCOUNT.now
-fields named.Authorization = fields_in table.AUTHORIZATION.now
-fields named.Block = fields_in table.BLOCK.now
-fields named.BlockRange = fields_in table.BLOCK_RANGE.now
-fields named.Body = fields_in table.BODY.now
 fields named.Branch = fields_in table.BRANCH.now
 fields named.Capability = fields_in table.CAPABILITY.now
-fields named.Disconnect = fields_in table.DISCONNECT.now
 fields named.Extension = fields_in table.EXTENSION.now
 fields named.ForkId = fields_in table.FORK_ID.now
-fields named.GetBlockHeaders = fields_in table.GET_BLOCK_HEADERS.now
-fields named.Header = fields_in table.HEADER.now
-fields named.Hello = fields_in table.HELLO.now
+fields named.HeadersAsked = fields_in table.HEADERS_ASKED.now
 fields named.Leaf = fields_in table.LEAF.now
 fields named.Log = fields_in table.LOG.now
-fields named.NewBlock = fields_in table.NEW_BLOCK.now
 fields named.NewBlockHash = fields_in table.NEW_BLOCK_HASH.now
-fields named.NewPooledTransactionHashes = fields_in table.NEW_POOLED.now
 fields named.NodePair = fields_in table.NODE_PAIR.now
-fields named.NodeRecord = fields_in table.NODE_RECORD.now
 fields named.Receipt69 = fields_in table.RECEIPT69.now
-fields named.Status68 = fields_in table.STATUS68.now
-fields named.Status69 = fields_in table.STATUS69.now
-fields named.Withdrawal = fields_in table.WITHDRAWAL.now
 fields named.ReceiptPayload = fields_in table.RECEIPT.now
 fields named.Legacy = fields_in table.LEGACY.now
 fields named.AccessList = fields_in table.ACCESS_LIST.now
 fields named.FeeMarket = fields_in table.FEE_MARKET.now
 fields named.Blob = fields_in table.BLOB.now
 fields named.SetCode = fields_in table.SET_CODE.now
-fields named.HeadersRequest = fields_in table.HEADERS_REQUEST.now
-fields named.HashesRequest = fields_in table.HASHES_REQUEST.now
-fields named.Bodies = fields_in table.BODIES.now
-fields named.Headers = fields_in table.HEADERS.now
-fields named.Receipts = fields_in table.RECEIPTS.now
-fields named.Receipts69 = fields_in table.RECEIPTS69.now
-fields named.Transactions = fields_in table.TRANSACTIONS.now
-fields _ = []
-
--- what has the parts of messages of a kind
-abbrev pub message_part : MessageKind → Part
-message_part message.Hello = part.One named.Hello
-message_part message.Disconnect = part.One named.Disconnect
-message_part message.Ping = part.One named.Other
-message_part message.Pong = part.One named.Other
-message_part message.Status68 = part.One named.Status68
-message_part message.Status69 = part.One named.Status69
-message_part message.NewBlockHashes = part.List named.NewBlockHash
-message_part message.Transactions = part.List named.Transaction
-message_part message.GetBlockHeaders = part.One named.HeadersRequest
-message_part message.BlockHeaders = part.One named.Headers
-message_part message.GetBlockBodies = part.One named.HashesRequest
-message_part message.BlockBodies = part.One named.Bodies
-message_part message.NewBlock = part.One named.NewBlock
-message_part message.NewPooledTransactionHashes = part.One named.NewPooledTransactionHashes
-message_part message.GetPooledTransactions = part.One named.HashesRequest
-message_part message.PooledTransactions = part.One named.Transactions
-message_part message.GetReceipts = part.One named.HashesRequest
-message_part message.Receipts68 = part.One named.Receipts
-message_part message.Receipts69 = part.One named.Receipts69
-message_part message.BlockRangeUpdate = part.One named.BlockRange
 
 -- what has the parts of records of a kind
 abbrev pub kind_part : Kind → Part
 kind_part kind.AccessList = part.List named.AccessListItem
-kind_part kind.Account = part.One named.Account
-kind_part kind.Authorization = part.One named.Authorization
-kind_part kind.Block = part.One named.Block
-kind_part kind.Body = part.One named.Body
-kind_part kind.Header = part.One named.Header
-kind_part kind.Node = part.One named.Node
-kind_part kind.Receipt = part.One named.Receipt
-kind_part kind.NodeRecord = part.One named.NodeRecord
-kind_part kind.Transaction = part.One named.Transaction
-kind_part kind.Withdrawal = part.One named.Withdrawal
-kind_part (kind.Message m) = message_part m
+kind_part (kind.Message message.NewBlockHashes) = part.List named.NewBlockHash
+kind_part (kind.Message message.Transactions) = part.List (named.Kind kind.Transaction)
+kind_part k = part.One (named.Kind k)
 
 -- whether a part is a list whose items have no names of their own
 abbrev pub is_list : Part → Bool
@@ -130,8 +111,8 @@ in_list part.Pairs i name = in_field named.NodePair (i % 2) (item_name name (i /
 -- Which field item i of a record is, or is in, and its place in a field of many items: the first 16 items of a branch are one field, and so are the last of others.
 abbrev pub field_of : Record → ℕ → ℕ × Option ℕ
 field_of named.Branch i = if nat_lt i 16 then (0, Some i) else (1, None)
-field_of named.Hello i = if nat_lt i 5 then (i, None) else (5, Some (i - 5))
-field_of named.NodeRecord i = if nat_lt i 2 then (i, None) else (2, Some (i - 2))
+field_of (named.Kind (kind.Message message.Hello)) i = if nat_lt i 5 then (i, None) else (5, Some (i - 5))
+field_of (named.Kind kind.NodeRecord) i = if nat_lt i 2 then (i, None) else (2, Some (i - 2))
 field_of _ i = (i, None)
 
 -- a field, or an item in it
@@ -184,9 +165,9 @@ node_kind v =
 
 -- what a part is, by its view, and the view that has its fields
 abbrev pub opened : Part → View → Part × View
-opened (part.One named.Node) v = (part.One (node_kind v), v)
-opened (part.One named.Receipt) v = (part.One named.ReceiptPayload, payload v)
-opened (part.One named.Transaction) v = (part.One (transaction_kind v), payload v)
+opened (part.One (named.Kind kind.Node)) v = (part.One (node_kind v), v)
+opened (part.One (named.Kind kind.Receipt)) v = (part.One named.ReceiptPayload, payload v)
+opened (part.One (named.Kind kind.Transaction)) v = (part.One (transaction_kind v), payload v)
 opened p v = (p, v)
 
 -- The name of the part that a path leads to, in a part of this name. A path beyond the names ends there.

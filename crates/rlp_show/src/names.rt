@@ -1,8 +1,8 @@
 //! The names of the parts of records, by the path to a part.
 
-ghost use Rattle.std.specs.Prelude.{◌≡◌, IfOk, OnOk, map, option_map, string_bytes};
+ghost use Rattle.std.specs.Prelude.{◌≡◌, IfOk, OnOk, map, string_bytes};
 ghost use Rattle.rlp_print.specs.Value.{inside, item_name};
-ghost use Rattle.rlp_show.specs.Names.{content, envelope, field_of, fields, in_field, in_list, in_part, in_record, is_list, item_in, kind_part, message_part, naming, node_kind, opened, payload, transaction_kind};
+ghost use Rattle.rlp_show.specs.Names.{content, envelope, field_of, fields, in_field, in_list, in_part, is_list, item_in, kind_fields, kind_part, message_fields, naming, node_kind, opened, payload, transaction_kind};
 
 use crate::kind::Kind;
 use crate::messages::MessageKind;
@@ -11,54 +11,29 @@ use rlp_trie::ends_in_leaf;
 use std::alloc::AllocError;
 use std::fmt::Write;
 
-/// A kind of records whose parts have names. The parts of any other item have none.
+/// Records whose parts have names. The parts of any other item have none.
 #[derive(Clone, Copy)]
 pub enum Record {
     Other,
+    Kind(Kind),
     AccessListItem,
-    Account,
-    Authorization,
-    Block,
-    BlockRange,
-    Body,
     Branch,
     Capability,
-    Disconnect,
     Extension,
     ForkId,
-    GetBlockHeaders,
-    Header,
-    Hello,
+    HeadersAsked,
     Leaf,
     Log,
-    NewBlock,
     NewBlockHash,
-    NewPooledTransactionHashes,
     NodePair,
-    NodeRecord,
     Receipt69,
-    Status68,
-    Status69,
-    Withdrawal,
-    // The bytes tell which of the records above or below these are.
-    Node,
-    Receipt,
-    Transaction,
-    // A receipt without its envelope, a transaction without a type, and the payloads of the others.
     ReceiptPayload,
+    // Transactions without a type, and the payloads of the others.
     Legacy,
     AccessList,
     FeeMarket,
     Blob,
     SetCode,
-    // The number of a request, with what is asked for or what is answered.
-    HeadersRequest,
-    HashesRequest,
-    Bodies,
-    Headers,
-    Receipts,
-    Receipts69,
-    Transactions,
 }
 
 /// What has parts: a record, a list of records, a list of such lists, or the keys and values of a
@@ -71,6 +46,9 @@ pub enum Part {
     Pairs,
 }
 
+/// The fields of a record, in order: their names, and what they are.
+type Fields = &'static [(&'static str, Part)];
+
 /// What a field is: a record or a list, or without more an item whose parts have no names.
 macro_rules! part {
     () => {
@@ -79,187 +57,170 @@ macro_rules! part {
     (Pairs) => {
         Part::Pairs
     };
+    ($form:ident Kind $kind:ident) => {
+        Part::$form(Record::Kind(Kind::$kind))
+    };
     ($form:ident $record:ident) => {
         Part::$form(Record::$record)
     };
 }
 
-/// The fields of a record, by their names.
+/// Fields with their names.
 macro_rules! fields {
     ($($name:literal $($part:ident)*);*) => {
         &[$(($name, part!($($part)*))),*]
     };
 }
 
-/// The fields of records, in order.
-const ACCESS_LIST_ITEM: &[(&str, Part)] = fields!("address"; "storage_keys" List Other);
+const ACCESS_LIST_ITEM: Fields = fields!("address"; "storage_keys" List Other);
 
-const ACCOUNT: &[(&str, Part)] = fields!("nonce"; "balance"; "storage_root"; "code_hash");
+const ACCOUNT: Fields = fields!("nonce"; "balance"; "storage_root"; "code_hash");
 
-const AUTHORIZATION: &[(&str, Part)] =
-    fields!("chain_id"; "address"; "nonce"; "y_parity"; "r"; "s");
+const AUTHORIZATION: Fields = fields!("chain_id"; "address"; "nonce"; "y_parity"; "r"; "s");
 
-const BLOCK: &[(&str, Part)] = fields!(
-    "header" One Header; "transactions" List Transaction; "ommers" List Header;
-    "withdrawals" List Withdrawal
+const BLOCK: Fields = fields!(
+    "header" One Kind Header; "transactions" List Kind Transaction; "ommers" List Kind Header;
+    "withdrawals" List Kind Withdrawal
 );
 
-const BLOCK_RANGE: &[(&str, Part)] = fields!("earliest_block"; "latest_block"; "latest_block_hash");
+const BLOCK_RANGE: Fields = fields!("earliest_block"; "latest_block"; "latest_block_hash");
 
-const BODY: &[(&str, Part)] =
-    fields!("transactions" List Transaction; "ommers" List Header; "withdrawals" List Withdrawal);
+const BODY: Fields = fields!(
+    "transactions" List Kind Transaction; "ommers" List Kind Header;
+    "withdrawals" List Kind Withdrawal
+);
 
-const BRANCH: &[(&str, Part)] = fields!("children" List Other; "value");
+const BRANCH: Fields = fields!("children" List Other; "value");
 
-const CAPABILITY: &[(&str, Part)] = fields!("name"; "version");
+const CAPABILITY: Fields = fields!("name"; "version");
 
-const DISCONNECT: &[(&str, Part)] = fields!("reason");
+const DISCONNECT: Fields = fields!("reason");
 
-const EXTENSION: &[(&str, Part)] = fields!("path"; "child");
+const EXTENSION: Fields = fields!("path"; "child");
 
-const FORK_ID: &[(&str, Part)] = fields!("fork_hash"; "fork_next");
+const FORK_ID: Fields = fields!("fork_hash"; "fork_next");
 
-const GET_BLOCK_HEADERS: &[(&str, Part)] = fields!("start_block"; "limit"; "skip"; "reverse");
+const HEADERS_ASKED: Fields = fields!("start_block"; "limit"; "skip"; "reverse");
 
-const HEADER: &[(&str, Part)] = fields!(
+const HEADER: Fields = fields!(
     "parent_hash"; "ommers_hash"; "beneficiary"; "state_root"; "transactions_root";
     "receipts_root"; "logs_bloom"; "difficulty"; "number"; "gas_limit"; "gas_used"; "timestamp";
     "extra_data"; "mix_hash"; "nonce"; "base_fee_per_gas"; "withdrawals_root"; "blob_gas_used";
     "excess_blob_gas"; "parent_beacon_block_root"; "requests_hash"
 );
 
-const HELLO: &[(&str, Part)] = fields!(
+const HELLO: Fields = fields!(
     "protocol_version"; "client_id"; "capabilities" List Capability; "listen_port"; "node_id";
     "further" List Other
 );
 
-const LEAF: &[(&str, Part)] = fields!("path"; "value");
+const LEAF: Fields = fields!("path"; "value");
 
-const LOG: &[(&str, Part)] = fields!("address"; "topics" List Other; "data");
+const LOG: Fields = fields!("address"; "topics" List Other; "data");
 
-const NEW_BLOCK: &[(&str, Part)] = fields!("block" One Block; "total_difficulty");
+const NEW_BLOCK: Fields = fields!("block" One Kind Block; "total_difficulty");
 
-const NEW_BLOCK_HASH: &[(&str, Part)] = fields!("hash"; "number");
+const NEW_BLOCK_HASH: Fields = fields!("hash"; "number");
 
-const NEW_POOLED: &[(&str, Part)] = fields!("types"; "sizes" List Other; "hashes" List Other);
+const NEW_POOLED_HASHES: Fields = fields!("types"; "sizes" List Other; "hashes" List Other);
 
-const NODE_PAIR: &[(&str, Part)] = fields!("key"; "value");
+const NODE_PAIR: Fields = fields!("key"; "value");
 
-const NODE_RECORD: &[(&str, Part)] = fields!("signature"; "sequence"; "pairs" Pairs);
+const NODE_RECORD: Fields = fields!("signature"; "sequence"; "pairs" Pairs);
 
-const RECEIPT69: &[(&str, Part)] =
+const RECEIPT69: Fields =
     fields!("transaction_type"; "status_or_state_root"; "cumulative_gas_used"; "logs" List Log);
 
-const STATUS68: &[(&str, Part)] = fields!(
+const STATUS68: Fields = fields!(
     "version"; "network_id"; "total_difficulty"; "block_hash"; "genesis_hash"; "fork_id" One ForkId
 );
 
-const STATUS69: &[(&str, Part)] = fields!(
+const STATUS69: Fields = fields!(
     "version"; "network_id"; "genesis_hash"; "fork_id" One ForkId; "earliest_block";
     "latest_block"; "latest_block_hash"
 );
 
-const WITHDRAWAL: &[(&str, Part)] = fields!("index"; "validator_index"; "address"; "amount");
+const WITHDRAWAL: Fields = fields!("index"; "validator_index"; "address"; "amount");
 
-const RECEIPT: &[(&str, Part)] =
+const RECEIPT: Fields =
     fields!("status_or_state_root"; "cumulative_gas_used"; "logs_bloom"; "logs" List Log);
 
-const LEGACY: &[(&str, Part)] =
+const LEGACY: Fields =
     fields!("nonce"; "gas_price"; "gas_limit"; "to"; "value"; "data"; "v"; "r"; "s");
 
-const ACCESS_LIST: &[(&str, Part)] = fields!(
+const ACCESS_LIST: Fields = fields!(
     "chain_id"; "nonce"; "gas_price"; "gas_limit"; "to"; "value"; "data";
     "access_list" List AccessListItem; "y_parity"; "r"; "s"
 );
 
-const FEE_MARKET: &[(&str, Part)] = fields!(
+const FEE_MARKET: Fields = fields!(
     "chain_id"; "nonce"; "max_priority_fee_per_gas"; "max_fee_per_gas"; "gas_limit"; "to"; "value";
     "data"; "access_list" List AccessListItem; "y_parity"; "r"; "s"
 );
 
-const BLOB: &[(&str, Part)] = fields!(
+const BLOB: Fields = fields!(
     "chain_id"; "nonce"; "max_priority_fee_per_gas"; "max_fee_per_gas"; "gas_limit"; "to"; "value";
     "data"; "access_list" List AccessListItem; "max_fee_per_blob_gas";
     "blob_versioned_hashes" List Other; "y_parity"; "r"; "s"
 );
 
-const SET_CODE: &[(&str, Part)] = fields!(
+const SET_CODE: Fields = fields!(
     "chain_id"; "nonce"; "max_priority_fee_per_gas"; "max_fee_per_gas"; "gas_limit"; "destination";
-    "value"; "data"; "access_list" List AccessListItem; "authorization_list" List Authorization;
-    "y_parity"; "r"; "s"
+    "value"; "data"; "access_list" List AccessListItem;
+    "authorization_list" List Kind Authorization; "y_parity"; "r"; "s"
 );
 
-const HEADERS_REQUEST: &[(&str, Part)] = fields!("request_id"; "content" One GetBlockHeaders);
+const GET_BLOCK_HEADERS: Fields = fields!("request_id"; "content" One HeadersAsked);
 
-const HASHES_REQUEST: &[(&str, Part)] = fields!("request_id"; "content" List Other);
+const GET_HASHED: Fields = fields!("request_id"; "content" List Other);
 
-const BODIES: &[(&str, Part)] = fields!("request_id"; "content" List Body);
+const BLOCK_BODIES: Fields = fields!("request_id"; "content" List Kind Body);
 
-const HEADERS: &[(&str, Part)] = fields!("request_id"; "content" List Header);
+const BLOCK_HEADERS: Fields = fields!("request_id"; "content" List Kind Header);
 
-const RECEIPTS: &[(&str, Part)] = fields!("request_id"; "content" Lists Receipt);
+const RECEIPTS68: Fields = fields!("request_id"; "content" Lists Kind Receipt);
 
-const RECEIPTS69: &[(&str, Part)] = fields!("request_id"; "content" Lists Receipt69);
+const RECEIPTS69: Fields = fields!("request_id"; "content" Lists Receipt69);
 
-const TRANSACTIONS: &[(&str, Part)] = fields!("request_id"; "content" List Transaction);
+const POOLED_TRANSACTIONS: Fields = fields!("request_id"; "content" List Kind Transaction);
 
 impl Record {
-    /// Returns the fields of the records, in order.
-    fn fields(self) -> &'static [(&'static str, Part)]
+    /// Returns the fields of the record, in order.
+    fn fields(self) -> Fields
         ensures { map (λ f. (f.0.now, f.1)) result.now ≡ fields self }
     {
         match self {
-            Record::Other | Record::Node | Record::Receipt | Record::Transaction => &[],
+            Record::Other => &[],
+            Record::Kind(kind) => kind.fields(),
             Record::AccessListItem => ACCESS_LIST_ITEM,
-            Record::Account => ACCOUNT,
-            Record::Authorization => AUTHORIZATION,
-            Record::Block => BLOCK,
-            Record::BlockRange => BLOCK_RANGE,
-            Record::Body => BODY,
             Record::Branch => BRANCH,
             Record::Capability => CAPABILITY,
-            Record::Disconnect => DISCONNECT,
             Record::Extension => EXTENSION,
             Record::ForkId => FORK_ID,
-            Record::GetBlockHeaders => GET_BLOCK_HEADERS,
-            Record::Header => HEADER,
-            Record::Hello => HELLO,
+            Record::HeadersAsked => HEADERS_ASKED,
             Record::Leaf => LEAF,
             Record::Log => LOG,
-            Record::NewBlock => NEW_BLOCK,
             Record::NewBlockHash => NEW_BLOCK_HASH,
-            Record::NewPooledTransactionHashes => NEW_POOLED,
             Record::NodePair => NODE_PAIR,
-            Record::NodeRecord => NODE_RECORD,
             Record::Receipt69 => RECEIPT69,
-            Record::Status68 => STATUS68,
-            Record::Status69 => STATUS69,
-            Record::Withdrawal => WITHDRAWAL,
             Record::ReceiptPayload => RECEIPT,
             Record::Legacy => LEGACY,
             Record::AccessList => ACCESS_LIST,
             Record::FeeMarket => FEE_MARKET,
             Record::Blob => BLOB,
             Record::SetCode => SET_CODE,
-            Record::HeadersRequest => HEADERS_REQUEST,
-            Record::HashesRequest => HASHES_REQUEST,
-            Record::Bodies => BODIES,
-            Record::Headers => HEADERS,
-            Record::Receipts => RECEIPTS,
-            Record::Receipts69 => RECEIPTS69,
-            Record::Transactions => TRANSACTIONS,
         }
     }
 
-    /// Returns which field the item at `index` is, or is in, and its place in a field of many items.
+    /// Returns the field that the item at `index` is in, and its place in a field of many items.
     fn field_of(self, index: usize) -> (usize, Option<usize>)
         ensures { result ≡ field_of self index }
     {
         match self {
             Record::Branch if index < 16 => (0, Some(index)),
             Record::Branch => (1, None),
-            Record::Hello if index >= 5 => (5, Some(index - 5)),
-            Record::NodeRecord if index >= 2 => (2, Some(index - 2)),
+            Record::Kind(Kind::Message(MessageKind::Hello)) if index >= 5 => (5, Some(index - 5)),
+            Record::Kind(Kind::NodeRecord) if index >= 2 => (2, Some(index - 2)),
             _ => (index, None),
         }
     }
@@ -330,9 +291,15 @@ impl Part {
         ensures { result ≡ opened self item.now }
     {
         match self {
-            Part::One(Record::Node) => (Part::One(node_kind(item)), item.clone()),
-            Part::One(Record::Receipt) => (Part::One(Record::ReceiptPayload), payload(item)),
-            Part::One(Record::Transaction) => (Part::One(transaction_kind(item)), payload(item)),
+            Part::One(Record::Kind(Kind::Node)) => (Part::One(node_kind(item)), item.clone()),
+            Part::One(Record::Kind(Kind::Receipt)) => (
+                Part::One(Record::ReceiptPayload),
+                payload(item),
+            ),
+            Part::One(Record::Kind(Kind::Transaction)) => (
+                Part::One(transaction_kind(item)),
+                payload(item),
+            ),
             part => (part, item.clone()),
         }
     }
@@ -452,48 +419,55 @@ impl Kind {
     {
         match self {
             Kind::AccessList => Part::List(Record::AccessListItem),
-            Kind::Account => Part::One(Record::Account),
-            Kind::Authorization => Part::One(Record::Authorization),
-            Kind::Block => Part::One(Record::Block),
-            Kind::Body => Part::One(Record::Body),
-            Kind::Header => Part::One(Record::Header),
-            Kind::Node => Part::One(Record::Node),
-            Kind::Receipt => Part::One(Record::Receipt),
-            Kind::NodeRecord => Part::One(Record::NodeRecord),
-            Kind::Transaction => Part::One(Record::Transaction),
-            Kind::Withdrawal => Part::One(Record::Withdrawal),
-            Kind::Message(kind) => kind.part(),
+            Kind::Message(MessageKind::NewBlockHashes) => Part::List(Record::NewBlockHash),
+            Kind::Message(MessageKind::Transactions) => Part::List(Record::Kind(Kind::Transaction)),
+            kind => Part::One(Record::Kind(kind)),
+        }
+    }
+
+    /// Returns the fields of records of this kind, in order. The bytes tell those of a node, a
+    /// receipt and a transaction.
+    fn fields(self) -> Fields
+        ensures { map (λ f. (f.0.now, f.1)) result.now ≡ kind_fields self }
+    {
+        match self {
+            Kind::Account => ACCOUNT,
+            Kind::Authorization => AUTHORIZATION,
+            Kind::Block => BLOCK,
+            Kind::Body => BODY,
+            Kind::Header => HEADER,
+            Kind::Message(kind) => kind.fields(),
+            Kind::NodeRecord => NODE_RECORD,
+            Kind::Withdrawal => WITHDRAWAL,
+            Kind::AccessList | Kind::Node | Kind::Receipt | Kind::Transaction => &[],
         }
     }
 }
 
 impl MessageKind {
-    /// Returns what has the parts of messages of this kind.
-    fn part(self) -> Part
-        ensures { result ≡ message_part self }
+    /// Returns the fields of messages of this kind, in order.
+    fn fields(self) -> Fields
+        ensures { map (λ f. (f.0.now, f.1)) result.now ≡ message_fields self }
     {
         match self {
-            MessageKind::Hello => Part::One(Record::Hello),
-            MessageKind::Disconnect => Part::One(Record::Disconnect),
-            MessageKind::Ping | MessageKind::Pong => Part::One(Record::Other),
-            MessageKind::Status68 => Part::One(Record::Status68),
-            MessageKind::Status69 => Part::One(Record::Status69),
-            MessageKind::NewBlockHashes => Part::List(Record::NewBlockHash),
-            MessageKind::Transactions => Part::List(Record::Transaction),
-            MessageKind::GetBlockHeaders => Part::One(Record::HeadersRequest),
-            MessageKind::BlockHeaders => Part::One(Record::Headers),
-            MessageKind::GetBlockBodies => Part::One(Record::HashesRequest),
-            MessageKind::BlockBodies => Part::One(Record::Bodies),
-            MessageKind::NewBlock => Part::One(Record::NewBlock),
-            MessageKind::NewPooledTransactionHashes => Part::One(
-                Record::NewPooledTransactionHashes,
-            ),
-            MessageKind::GetPooledTransactions => Part::One(Record::HashesRequest),
-            MessageKind::PooledTransactions => Part::One(Record::Transactions),
-            MessageKind::GetReceipts => Part::One(Record::HashesRequest),
-            MessageKind::Receipts68 => Part::One(Record::Receipts),
-            MessageKind::Receipts69 => Part::One(Record::Receipts69),
-            MessageKind::BlockRangeUpdate => Part::One(Record::BlockRange),
+            MessageKind::Hello => HELLO,
+            MessageKind::Disconnect => DISCONNECT,
+            MessageKind::Status68 => STATUS68,
+            MessageKind::Status69 => STATUS69,
+            MessageKind::GetBlockHeaders => GET_BLOCK_HEADERS,
+            MessageKind::BlockHeaders => BLOCK_HEADERS,
+            MessageKind::GetBlockBodies => GET_HASHED,
+            MessageKind::BlockBodies => BLOCK_BODIES,
+            MessageKind::NewBlock => NEW_BLOCK,
+            MessageKind::NewPooledTransactionHashes => NEW_POOLED_HASHES,
+            MessageKind::GetPooledTransactions => GET_HASHED,
+            MessageKind::PooledTransactions => POOLED_TRANSACTIONS,
+            MessageKind::GetReceipts => GET_HASHED,
+            MessageKind::Receipts68 => RECEIPTS68,
+            MessageKind::Receipts69 => RECEIPTS69,
+            MessageKind::BlockRangeUpdate => BLOCK_RANGE,
+            MessageKind::Ping | MessageKind::Pong => &[],
+            MessageKind::NewBlockHashes | MessageKind::Transactions => &[],
         }
     }
 }
