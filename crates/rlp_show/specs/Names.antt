@@ -108,9 +108,9 @@ in_list (part.List r) i name = (part.One r, item_name name i)
 in_list (part.Lists r) i name = (part.List r, item_name name i)
 in_list part.Pairs i name = in_field named.NodePair (i % 2) (item_name name (i / 2))
 
--- Which field item i of a record is, or is in, and its place in a field of many items: the first 16 items of a branch are one field, and so are the last of others.
+-- The field that item i of a record is in, and its place in a field of many items: the first 16 items of a branch are one field, and so are the last of others.
 abbrev pub field_of : Record → ℕ → ℕ × Option ℕ
-field_of named.Branch i = if nat_lt i 16 then (0, Some i) else (1, None)
+field_of named.Branch i = if nat_lt i 16 then (0, Some i) else (i - 15, None)
 field_of (named.Kind (kind.Message message.Hello)) i = if nat_lt i 5 then (i, None) else (5, Some (i - 5))
 field_of (named.Kind kind.NodeRecord) i = if nat_lt i 2 then (i, None) else (2, Some (i - 2))
 field_of _ i = (i, None)

@@ -218,7 +218,7 @@ impl Record {
     {
         match self {
             Record::Branch if index < 16 => (0, Some(index)),
-            Record::Branch => (1, None),
+            Record::Branch => (index - 15, None),
             Record::Kind(Kind::Message(MessageKind::Hello)) if index >= 5 => (5, Some(index - 5)),
             Record::Kind(Kind::NodeRecord) if index >= 2 => (2, Some(index - 2)),
             _ => (index, None),
