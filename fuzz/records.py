@@ -360,6 +360,13 @@ class AnyItem:
         return written_list(dice, [self.written(dice) for _ in range(dice.choice((0, 1, 1, 2)))])
 
 
+def items_of_whole(data, most=None):
+    """The items of a list that is all of data, and has at most so many bytes. That data is one item is tested first."""
+    if framing(data, 0, len(data))[1] < len(data) or (most and len(data) > most):
+        raise Answered("RlpIsTooBig")
+    return strict_items(data)
+
+
 def is_word(string):
     """Whether a string is lower-case letters and digits, with a letter first."""
     return re.fullmatch(rb"[a-z][a-z0-9]*", string) is not None
@@ -408,10 +415,8 @@ class NodeRecord:
     first = Record([("signature", STRING), ("sequence", number(8))])
 
     def lines(self, name, data):
-        if len(data) > 300:
-            raise Wrong(name, Answered("RlpIsTooBig"))
         try:
-            items = strict_items(data)
+            items = items_of_whole(data, 300)
             if len(items) < 2 or len(items) % 2 == 1:
                 raise Answered("RlpIncorrectListLen")
         except Answered as answered:
@@ -545,7 +550,7 @@ class Node:
         if data == b"\x80":
             return [kind_line(name, "empty")]
         try:
-            items = strict_items(data)
+            items = items_of_whole(data)
             if len(items) not in (2, 17):
                 raise Answered("RlpIncorrectListLen")
         except Answered as answered:
