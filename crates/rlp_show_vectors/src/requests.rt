@@ -56,6 +56,7 @@ fn form_text(form: Form) -> &'static str {
     match form {
         Form::Json => "json ",
         Form::Text => "",
+        Form::Bytes => "bytes ",
     }
 }
 
