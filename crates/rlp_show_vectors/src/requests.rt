@@ -56,7 +56,6 @@ fn form_text(form: Form) -> &'static str {
     match form {
         Form::Json => "json ",
         Form::Text => "",
-        Form::Bytes => "bytes ",
     }
 }
 
