@@ -1,11 +1,11 @@
 -- Bytes that stand by themselves give what they give as an item.
-use Rattle.std.proofs.Common.{◌≡◌, ◌≢◌, ◌<◌, ◌≤◌, ◌^◌, ◌⊎◌, inl, inr, ℕ, Bool, true, false, List, [], ◌∷◌, length, refl, sym, ap, ◌∙◌, Result, Ok, Err}
+use Rattle.std.proofs.Common.{◌≡◌, ◌≢◌, ◌<◌, ◌≤◌, ◌^◌, ◌⊎◌, inl, inr, ℕ, Bool, true, false, List, [], ◌∷◌, length, refl, sym, ap, ◌∙◌, Ok, Err}
 use Rattle.std.proofs.Common.{arith, leb-true, le-ltb, ltb}
 use Rattle.std.proofs.lemmas.Bool.{cond-true, cond-false}
 use Rattle.rlp.specs.DecoderError.{DecoderError}
 use Rattle.rlp.specs.DecoderError.TheVariants.{OutOfMemory, RlpExpectedToBeData}
 use Rattle.rlp.specs.Format.{Encoding.encoding, Encoding.string, Framing.begins_as_list, Framing.read_string}
-use Rattle.rlp.specs.Views.View.{View, strict_view_of, view_string}
+use Rattle.rlp.specs.Views.View.{View, strict_view_of}
 use Rattle.rlp_reading.proofs.Lemmas.Strings.{string_list}
 use Rattle.rlp_reading.proofs.Lemmas.StringsHeld.{held_fault, held_only}
 use Rattle.rlp_reading.proofs.Lemmas.Depths.{not_list}

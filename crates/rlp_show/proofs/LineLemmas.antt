@@ -1,5 +1,5 @@
 -- Lines whose digits are shown without a fault.
-use Rattle.std.proofs.Common.{◌≡◌, ◌^◌, ◌<◌, ◌≤◌, ◌==◌, ◌-◌, ◌⊎◌, inl, inr, if◌then◌else◌, ℕ, Bool, true, false, Some, Result, Ok, Err, List, [], drop, length, take, codes}
+use Rattle.std.proofs.Common.{◌≡◌, ◌^◌, ◌<◌, ◌≤◌, ◌==◌, ◌-◌, if◌then◌else◌, ℕ, Bool, true, false, Some, Result, Ok, Err, List, drop, length, take, codes}
 use Rattle.std.proofs.Common.{refl, sym, ap, ◌∙◌, arith, length-drop, length-take, nat_eq, slice_index}
 use Rattle.std.specs.List.{starts_with}
 use Rattle.std.specs.Result.{result_ok}

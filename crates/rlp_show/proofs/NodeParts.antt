@@ -1,5 +1,5 @@
 -- What contracts see of a node has the parts that are shown of it.
-use Rattle.std.proofs.Common.{◌≡◌, ℕ, zero, suc, ◌+◌, List, [], ◌∷◌, None, length, map, drop, get_or, refl, sym, ap, ◌∙◌, arith}
+use Rattle.std.proofs.Common.{◌≡◌, ℕ, zero, suc, ◌+◌, List, ◌∷◌, None, length, map, drop, get_or, sym, ap, ◌∙◌, arith}
 use Rattle.std.specs.Bool.{⊤}
 use Rattle.std.proofs.Math.Seq.{drop-cons}
 use Rattle.std.proofs.lemmas.List.{drop_all}
@@ -11,7 +11,7 @@ use Rattle.rlp_trie.specs.declared.branch.Branch.{Branch}
 use Rattle.rlp_trie.specs.declared.branch_child.BranchChild.{BranchChild}
 use Rattle.rlp_trie.specs.declared.trie_node.TrieNode.{TrieNode}
 use Rattle.rlp_trie.specs.declared.trie_node.TrieNode.TheVariants as node
-use Rattle.rlp_print.specs.Items.{NodeSeen, branch, node_display, node_hash, node_parts}
+use Rattle.rlp_print.specs.Items.{branch, node_display, node_hash, node_parts}
 use Rattle.rlp_show.specs.Nodes.{Many, first_parts, node_shown, parts_seen}
 
 abbrev Child : Type 0

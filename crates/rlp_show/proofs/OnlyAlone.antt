@@ -1,7 +1,7 @@
 -- Transactions and receipts by themselves that are shown without a fault.
-use Rattle.std.proofs.Common.{◌≡◌, ◌<◌, ◌^◌, ◌⊎◌, inl, inr, ℕ, List, length, refl, sym, ap, ◌∙◌, Result, Ok, Err}
+use Rattle.std.proofs.Common.{◌≡◌, ◌<◌, ◌^◌, ◌⊎◌, inl, inr, ℕ, List, length, refl, ◌∙◌, Result, Ok, Err}
 use Rattle.rlp.specs.Format.Encoding.{AreBytes}
-use Rattle.rlp_codec.specs.Form.{Fault, map_value}
+use Rattle.rlp_codec.specs.Form.{Fault}
 use Rattle.rlp_records.specs.Alone.{bytes_alone}
 use Rattle.rlp_headers.proofs.Receipts.{receipt_strings}
 use Rattle.rlp_headers.specs.TypedReceipt.{receipt_alone, typed_receipt}

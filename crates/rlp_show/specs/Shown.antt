@@ -4,7 +4,6 @@ use Rattle.rlp.specs.Codec.{Codec}
 use Rattle.rlp.specs.Format.{Encoding.encoding, Encoding.string, Framing.begins_as_list}
 use Rattle.rlp.specs.Views.View.{View, strict_view_of}
 use Rattle.rlp_codec.specs.Form.{Answer, Fault, Reading, here, map_answer}
-use Rattle.rlp_records.specs.Hash.{hash}
 use Rattle.rlp_headers.specs.{Account.account, Header.header, TypedReceipt.receipt_alone, Withdrawal.withdrawal}
 use Rattle.rlp_transactions.specs.{Access.access_list, AnyTransaction.any_alone, Authorization.signed_authorization, UnsignedTransaction.unsigned_alone}
 use Rattle.rlp_transactions.specs.UnsignedTransaction.{unsigned_transaction}

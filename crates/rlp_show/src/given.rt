@@ -11,8 +11,7 @@ ghost use Rattle.rlp_show.specs.Answers.{camel, fault_name, fault_text, field_at
 use crate::answers::Form;
 use crate::kind::Kind;
 use crate::names::put_part_name;
-use crate::placed::PlacedFault;
-use rlp::{DecoderError, Rlp};
+use rlp::{DecoderError, PlacedFault, Rlp};
 use rlp_print::{Named, Object, Show, dump_of, json_of, lines_of};
 use std::alloc::{AllocError, Global};
 use std::fmt::Write;

@@ -17,8 +17,7 @@ use crate::given::Given;
 use crate::kind::Kind;
 use crate::listed::ListOf;
 use crate::messages::MessageKind;
-use crate::placed::{DecodePlaced, decode_placed};
-use rlp::{DecoderError, Rlp};
+use rlp::{DecodePlaced, DecoderError, Rlp, decode_placed};
 use rlp_eth::{
     BlockRangeUpdate, BlockReceipts, BlockReceipts69, GetBlockHeaders, NewBlock, NewBlockHash,
     NewPooledTransactionHashes, Status68, Status69, WithRequestId,

@@ -12,7 +12,6 @@ pub mod laws;
 mod listed;
 mod messages;
 mod names;
-mod placed;
 mod request;
 mod serving;
 

@@ -5,7 +5,7 @@ ghost use Rattle.std.specs.Vec.{vec_items};
 ghost use Rattle.rlp_codec.specs.Form.{list_reading};
 ghost use Rattle.rlp_print.specs.Display.{a_list, seen_as};
 
-use rlp::{Decodable, DecoderError, Rlp};
+use rlp::{Decodable, DecodePlaced, DecoderError, Rlp, put_list_path};
 use rlp_print::{Items, Show, Sink};
 use std::alloc::{AllocError, Global};
 
@@ -18,6 +18,12 @@ impl<T: Decodable> Decodable for ListOf<T> {
 
     fn decode(alloc: Global, rlp: &Rlp<'_>) -> Result<ListOf<T>, DecoderError> {
         Ok(ListOf(rlp.as_list(alloc)?))
+    }
+}
+
+impl<T: DecodePlaced> DecodePlaced for ListOf<T> {
+    fn put_path(alloc: Global, rlp: &Rlp<'_>, path: &mut Vec<usize>) -> Result<(), AllocError> {
+        put_list_path::<T>(alloc, rlp, path)
     }
 }
 

@@ -1,4 +1,4 @@
-use Rattle.std.proofs.Common.{◌≡◌, ◌<◌, ◌^◌, true, false, length, sym, ap, ◌∙◌, subst, arith}
+use Rattle.std.proofs.Common.{◌≡◌, true, false, ap, ◌∙◌}
 use Rattle.rlp.specs.Format.Framing.{begins_as_list}
 use Rattle.rlp_show.proofs.Alone.{list_item, string_item}
 use Rattle.rlp_show.proofs.Readings.{read_at}

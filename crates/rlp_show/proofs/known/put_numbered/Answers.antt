@@ -1,4 +1,3 @@
-use Rattle.std.proofs.Common.{ap}
 use Rattle.rlp_show.proofs.Readings.{after_same}
 use Rattle.rlp_show.specs.Shown.{after_number}
 use Rattle.rlp_show.proofs.known.put_numbered.Goals as goal

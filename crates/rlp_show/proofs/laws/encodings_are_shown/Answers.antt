@@ -1,4 +1,4 @@
-use Rattle.std.proofs.Common.{refl}
+use Rattle.std.proofs.Common.{true, refl}
 use Rattle.rlp.specs.Format.Encoding.{encoding}
 use Rattle.rlp_show.proofs.LineLemmas.{line_answered, shown_read}
 use Rattle.rlp_show.proofs.laws.encodings_are_shown.Goals as goal

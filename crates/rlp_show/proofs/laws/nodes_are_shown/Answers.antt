@@ -1,4 +1,4 @@
-use Rattle.std.proofs.Common.{refl, ap}
+use Rattle.std.proofs.Common.{true, refl, ap}
 use Rattle.rlp.specs.Format.Encoding.{encoding}
 use Rattle.rlp_codec.specs.Form.{map_value}
 use Rattle.rlp_trie.specs.{TrieNode.node_item, TrieNodeLaws.trie_node}
