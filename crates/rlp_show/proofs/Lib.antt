@@ -2,3 +2,10 @@
 
 -- what bytes give
 pub mod Readings
+-- bytes that stand by themselves
+pub mod Alone
+-- the parts of nodes
+pub mod NodeParts
+-- lines that are shown
+pub mod LineLemmas
+pub mod OnlyAlone

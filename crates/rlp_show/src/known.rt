@@ -1,6 +1,6 @@
 //! The answers to the bytes of records, by their kinds.
 
-ghost use Rattle.std.specs.Prelude.{◌≡◌, ◌++◌, string_bytes, OnOk, IsTrue};
+ghost use Rattle.std.specs.Prelude.{◌≡◌, ◌<◌, ◌^◌, ◌++◌, length, string_bytes, OnOk, IsTrue};
 ghost use Rattle.rlp.specs.Views.View.{strict_view_of};
 ghost use Rattle.rlp_codec.specs.Form.{map_answer};
 ghost use Rattle.rlp_node_record.specs.NodeLaws.{node_record};
@@ -17,8 +17,8 @@ use crate::given::Given;
 use crate::kind::Kind;
 use crate::listed::ListOf;
 use crate::messages::MessageKind;
-use crate::placed::decode_placed;
-use rlp::{Decodable, DecoderError, Rlp};
+use crate::placed::{DecodePlaced, decode_placed};
+use rlp::{DecoderError, Rlp};
 use rlp_eth::{
     BlockRangeUpdate, BlockReceipts, BlockReceipts69, GetBlockHeaders, NewBlock, NewBlockHash,
     NewPooledTransactionHashes, Status68, Status69, WithRequestId,
@@ -31,9 +31,27 @@ use rlp_p2p::{Disconnect, Hello, Ping, Pong};
 use rlp_print::Show;
 use std::alloc::{AllocError, Global};
 
+/// Appends the answer to bytes, by the `T` that these bytes are read as.
+fn put_read<T: DecodePlaced + Show>(
+    alloc: Global,
+    given: &Given<'_>,
+    bytes: &[u8],
+    out: &mut String,
+) -> Result<(), AllocError>
+    ensures { (shown : T.reading.M → Value)
+        → ((x : T) → shown (T.reading.seen x) ≡ shown_of T.display x)
+        → OnOk result (string_bytes out.new ≡ string_bytes out.old
+        ++ kind_text given.now.form given.now.kind given.now.name.now given.now.bytes.now
+        (shown_as T.reading.read shown bytes.now)) }
+{
+    match decode_placed::<T>(alloc, &Rlp::new_strict(bytes)) {
+        Ok(value) => given.put_value(alloc, &value, out),
+        Err(fault) => given.put_fault(alloc, &fault, out),
+    }
+}
+
 /// Appends the answer to the bytes of a `T`.
-#[tactic(auto, using(crate::proofs::Readings::readings))]
-fn put_record<T: Decodable + Show>(
+fn put_record<T: DecodePlaced + Show>(
     alloc: Global,
     given: &Given<'_>,
     out: &mut String,
@@ -44,14 +62,11 @@ fn put_record<T: Decodable + Show>(
         ++ kind_text given.now.form given.now.kind given.now.name.now given.now.bytes.now
         (shown_as T.reading.read shown given.now.bytes.now)) }
 {
-    match decode_placed::<T>(alloc, &Rlp::new_strict(given.bytes)) {
-        Ok(value) => given.put_value(alloc, &value, out),
-        Err(fault) => given.put_fault(alloc, &fault, out),
-    }
+    put_read::<T>(alloc, given, given.bytes, out)
 }
 
 /// Appends the answer to the bytes of a message that has the number of a request.
-fn put_numbered<T: Decodable + Show>(
+fn put_numbered<T: DecodePlaced + Show>(
     alloc: Global,
     given: &Given<'_>,
     out: &mut String,
@@ -66,53 +81,49 @@ fn put_numbered<T: Decodable + Show>(
 }
 
 /// Appends the answer to the bytes of a `T` by itself, which are a list or an envelope.
-#[tactic(auto, using(crate::proofs::Readings::readings))]
-fn put_alone<T: Decodable + Show>(
+fn put_alone<T: DecodePlaced + Show>(
     alloc: Global,
     given: &Given<'_>,
     out: &mut String,
 ) -> Result<(), AllocError>
-    ensures { (shown : T.reading.M → Value)
+    ensures short { OnOk result (length (item_alone given.now.bytes.now) < 2 ^ 64) }
+    ensures text { (shown : T.reading.M → Value)
         → ((x : T) → shown (T.reading.seen x) ≡ shown_of T.display x)
         → OnOk result (string_bytes out.new ≡ string_bytes out.old
         ++ kind_text given.now.form given.now.kind given.now.name.now given.now.bytes.now
         (map_answer shown (T.reading.read (strict_view_of (item_alone given.now.bytes.now))))) }
 {
     if Rlp::new(given.bytes).is_list() {
-        return put_record::<T>(alloc, given, out);
+        return put_read::<T>(alloc, given, given.bytes, out);
     }
     let item = rlp::encode(alloc, &given.bytes)?;
-    match decode_placed::<T>(alloc, &Rlp::new_strict(item.as_slice())) {
-        Ok(value) => given.put_value(alloc, &value, out),
-        Err(fault) => given.put_fault(alloc, &fault, out),
-    }
+    put_read::<T>(alloc, given, item.as_slice(), out)
 }
 
 /// Appends the answer to the bytes of a transaction, signed or not.
-fn put_transaction(
-    alloc: Global,
-    given: &Given<'_>,
-    out: &mut String,
-) -> Result<(), AllocError>
+fn put_transaction(alloc: Global, given: &Given<'_>, out: &mut String) -> Result<(), AllocError>
     ensures { OnOk result (string_bytes out.new ≡ string_bytes out.old
         ++ kind_text given.now.form given.now.kind given.now.name.now given.now.bytes.now
         (transaction_shown given.now.bytes.now)) }
 {
     match UnsignedTransaction::from_bytes(alloc, given.bytes) {
         Ok(transaction) => given.put_value(alloc, &transaction, out),
-        Err(DecoderError::OutOfMemory) => Err(AllocError),
-        Err(_) => put_alone::<AnyTransaction>(alloc, given, out),
+        Err(fault) => match fault {
+            DecoderError::OutOfMemory => Err(AllocError),
+            _ => put_alone::<AnyTransaction>(alloc, given, out),
+        },
     }
 }
 
 /// Returns whether a branch has sixteen children. This is always so: the test tells the proof the
 /// length of the array.
+#[tactic(auto, using(crate::proofs::NodeParts::nodes))]
 fn has_children(node: &TrieNode) -> bool
     ensures { IsTrue result → node_display.shown (node_hash node.now, node_parts node.now)
         ≡ node_shown (seen_node node.now) }
 {
     match node {
-        TrieNode::Branch(branch) => branch.children.len() == 16,
+        TrieNode::Branch(branch) => branch.children.as_slice().len() == 16,
         _ => true,
     }
 }
@@ -196,9 +207,9 @@ fn put_message(
         MessageKind::BlockRangeUpdate => put_record::<BlockRangeUpdate>(alloc, given, out),
         MessageKind::GetBlockHeaders => put_numbered::<GetBlockHeaders>(alloc, given, out),
         MessageKind::BlockHeaders => put_numbered::<ListOf<Header>>(alloc, given, out),
-        MessageKind::GetBlockBodies
-        | MessageKind::GetPooledTransactions
-        | MessageKind::GetReceipts => put_numbered::<ListOf<Hash>>(alloc, given, out),
+        MessageKind::GetBlockBodies => put_numbered::<ListOf<Hash>>(alloc, given, out),
+        MessageKind::GetPooledTransactions => put_numbered::<ListOf<Hash>>(alloc, given, out),
+        MessageKind::GetReceipts => put_numbered::<ListOf<Hash>>(alloc, given, out),
         MessageKind::BlockBodies => put_numbered::<ListOf<Body>>(alloc, given, out),
         MessageKind::PooledTransactions => {
             put_numbered::<ListOf<AnyTransaction>>(alloc, given, out)
