@@ -66,7 +66,6 @@ fn form_text(form: Form) -> &'static str {
         Form::Json => "json ",
         Form::Bytes => "bytes ",
         Form::Text => "",
-        Form::Bytes => "bytes ",
     }
 }
 
