@@ -12,7 +12,7 @@ SOURCE = (HERE.parent / "crates/rlp_show/src/help.rt").read_text(encoding="utf-8
 
 def printed(name):
     """A text of `help.rt`, by the name of its constant."""
-    text = re.search(rf'^pub const {name}: &str = "(?:\\\n)?([^"]*)";$', SOURCE, re.MULTILINE).group(1)
+    text = re.search(rf'^pub const {name}: &str =\s+"(?:\\\n)?([^"]*)";$', SOURCE, re.MULTILINE).group(1)
     return text.replace("\\n", "\n")
 
 
