@@ -9,7 +9,7 @@ pub(crate) struct Columns<'a>(pub(crate) &'a [u64]);
 
 impl Encodable for Columns<'_> {
     ghost use Rattle.std.specs.Prelude.{All, map};
-    ghost use Rattle.rlp.specs.Format.Encoding.{list_of, string, encoding};
+    ghost use Rattle.rlp.specs.Format.Encoding.{list_of};
     ghost use Rattle.rlp.specs.Values.Value.{FitsBytes, number_item};
 
     ghost item = { λ v. list_of (map number_item v.0.now) };
@@ -27,6 +27,7 @@ pub(crate) struct LastField(pub(crate) Option<u64>);
 
 impl Encodable for LastField {
     ghost use Rattle.std.specs.Prelude.{[], ◌∷◌, IfSome};
+    ghost use Rattle.rlp.specs.Format.Encoding.{list_of};
     ghost use Rattle.rlp.specs.Values.Value.{FitsBytes, number_item};
     ghost use Rattle.rlp.specs.Values.Value.{items_if};
 
@@ -45,6 +46,7 @@ pub(crate) struct Tagged(pub(crate) u8, pub(crate) u64);
 
 impl Encodable for Tagged {
     ghost use Rattle.std.specs.Prelude.{◌∷◌};
+    ghost use Rattle.rlp.specs.Format.Encoding.{encoding, string};
     ghost use Rattle.rlp.specs.Values.Value.{FitsBytes, number_item};
 
     ghost item = { λ v. string (v.0 ∷ encoding (number_item v.1)) };
