@@ -12,21 +12,28 @@ SOURCE = (HERE.parent / "crates/rlp_show/src/help.rt").read_text(encoding="utf-8
 
 def printed(name):
     """A text of `help.rt`, by the name of its constant."""
-    text = re.search(rf'^pub const {name}: &str = "(?:\\\n)?([^"]*)";$', SOURCE, re.MULTILINE).group(1)
+    text = re.search(rf'^pub const {name}: &str =\s+"(?:\\\n)?([^"]*)";$', SOURCE, re.MULTILINE).group(1)
     return text.replace("\\n", "\n")
 
 
 HELP, USAGE, VERSION = printed("HELP"), printed("USAGE"), printed("VERSION")
-# A withdrawal of EIP-4895: its index 0, the validator 1000, the address and the amount 5; its lines and its JSON.
+# A withdrawal of EIP-4895: its index 0, the validator 1000, the address and the amount 5; its lines, its JSON and its rows.
 ADDRESS = "5df9b87991262f6ba471f09758cde1c0fc1de734"
 RECORD = f"0xda808203e894{ADDRESS}05"
 LINES = f"index: 0\nvalidator_index: 1000\naddress: 0x{ADDRESS}\namount: 5\n\n"
+ROWS = f"""0 da - list
+1 80 - index: 0
+2 82 03e8 validator_index: 1000
+5 94 {ADDRESS} address: 0x{ADDRESS}
+26 - 05 amount: 5
+
+"""
 GUESSED = "".join([f"withdrawal.{line}\n" for line in LINES.splitlines() if line]) + "\n"
 JSON = f'{{"withdrawal":{{"index":"0x0","validatorIndex":"0x3e8","address":"0x{ADDRESS}","amount":"0x5"}}}}\n'
 ACCESS_LIST = "access_list: []\n\n"
 WRONG = "error RlpIncorrectListLen\n"
-# With --json a fault names the kind.
-WRONG_IN_JSON = "error withdrawal: RlpIncorrectListLen\n"
+# With --json a fault is an object, and names the kind.
+WRONG_IN_JSON = '{"error":{"name":"withdrawal","fault":"RlpIncorrectListLen"}}\n'
 # Two lines, of which the second is no withdrawal.
 INPUT = f"{RECORD}\nc0\n"
 
@@ -42,6 +49,9 @@ CALLS = (
     (f"withdrawal {RECORD}", INPUT, 0, LINES, ""),
     (f"--json {RECORD}", INPUT, 0, JSON, ""),
     (f"--json withdrawal {RECORD}", INPUT, 0, JSON, ""),
+    ("--bytes withdrawal", INPUT, 5, ROWS + WRONG, ""),
+    (f"--bytes withdrawal {RECORD}", INPUT, 0, ROWS, ""),
+    ("--bytes 0xc0", INPUT, 0, "0 c0 - access_list: []\n\n", ""),
     ("withdrawal 0xc0", INPUT, 5, WRONG, ""),
     ("--json withdrawal 0xc0", INPUT, 5, WRONG_IN_JSON, ""),
     (f"withdrawal {RECORD}\nc0\n{RECORD}", INPUT, 5, LINES + WRONG + LINES, ""),
@@ -57,6 +67,7 @@ CALLS = (
     ("withdrawal nonsense", INPUT, 4, "", USAGE),
     (f"withdrawal {RECORD} {RECORD}", INPUT, 4, "", USAGE),
     ("--json --json", INPUT, 4, "", USAGE),
+    ("--bytes --json", INPUT, 4, "", USAGE),
     ("\udcff", INPUT, 4, "", USAGE),
     # An input that can't be read.
     ("", "/", 2, "", ""),

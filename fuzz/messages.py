@@ -16,7 +16,11 @@ def classes(records):
         def lines(self, name, data):
             if data and data[0] >= 0xC0:
                 return self.listed.lines(name, data)
-            return types["u8"].lines(f"{name}.reason" if name else "reason", data)
+            try:
+                return types["u8"].lines(f"{name}.reason" if name else "reason", data)
+            except wrong as fault:
+                # Alone, the reason is the whole message.
+                raise wrong(name, fault.fault) from None
 
         def written(self, dice):
             return (self.listed if dice.random() < 0.5 else types["u8"]).written(dice)
@@ -37,11 +41,11 @@ def classes(records):
                     raise Answered("RlpIncorrectListLen")
             except Answered as answered:
                 raise wrong(name, answered) from None
-            more = [(f"further[{place}]", records.AnyItem(256)) for place in range(len(items) - 5)]
+            more = [(f"further[{place}]", records.AnyItem()) for place in range(len(items) - 5)]
             return record(FIRST + more).lines(name, data)
 
         def written(self, dice):
-            items = [one.written(dice) for _, one in FIRST] + [records.AnyItem(256).written(dice) for _ in range(dice.choice((0, 0, 1, 2)))]
+            items = [one.written(dice) for _, one in FIRST] + [records.AnyItem().written(dice) for _ in range(dice.choice((0, 0, 1, 2)))]
             return records.written_list(dice, items if dice.random() < 0.95 else items[: dice.randint(0, 5)])
 
     class HeldReceipt(records.Held):

@@ -3,15 +3,17 @@ answers of `rlp_show`, after crates/rlp_show/CALLING.md. It shares no code with 
 """
 
 import ipaddress
+import json
 import re
 import sys
 
 import messages
 import objects
-from answers import Answered, bytes_of, encoded_string, framing, written_header
+from answers import Answered, bytes_of, canonical_end, encoded_string, framing, text_of_view, written_header
 from guess import guess
 from keccak import keccak256
 from lines import digits, spoiled
+from places import Derived, Payload, TypeByte, rows
 from strict import bytes_of_node_text, node_text, strict_items, strict_string
 
 # ---- types: how an item is shown under a name, and how a random one is written
@@ -91,11 +93,6 @@ def v_text(value):
         return f"{value} (parity {value - 27})"
     chain, parity = divmod(value - 35, 2)
     return f"{value} (chain {chain}, parity {parity})" if 0 <= chain < 1 << 64 else str(value)
-
-
-def unsigned_v_text(chain):
-    """The number of the chain, which is in the place of a `v` in a transaction without a type that isn't signed."""
-    return f"{chain} (unsigned, chain {chain})"
 
 
 def bloom_text(string):
@@ -197,7 +194,7 @@ class Hashed:
 
     def lines(self, name, data):
         before = f"{name}." if name else ""
-        return [f"{before}hash: 0x{keccak256(data).hex()}"] + self.one.lines(name, data)
+        return [Derived(f"{before}hash: 0x{keccak256(data).hex()}")] + self.one.lines(name, data)
 
 
 def chain_of(v):
@@ -221,25 +218,54 @@ class Signed:
         if added is None:
             return lines
         payload = b"".join(items[:-3]) + added
-        signed = keccak256(self.front + written_header(0xC0, len(payload)) + payload)
-        return lines + [f"{name + '.' if name else ''}signing_hash: 0x{signed.hex()}"]
+        return lines + [signing_line(name, self.front + written_header(0xC0, len(payload)) + payload)]
+
+
+def signing_line(name, signed):
+    """The line of the hash of what is signed."""
+    return Derived(f"{name + '.' if name else ''}signing_hash: 0x{keccak256(signed).hex()}")
 
 
 class Legacy:
-    """A transaction without a type, of which what isn't signed is shown in a way of its own. It isn't signed if its last two items are empty
-    strings, and is then what EIP-155 signs."""
+    """A transaction without a type. If both numbers of its signature are 0, it has none, and its `v` says nothing."""
 
-    def __init__(self, signed, unsigned):
-        self.signed, self.unsigned = signed, unsigned
+    def __init__(self, signed, plain):
+        self.signed, self.plain = signed, plain
 
     def lines(self, name, data):
         try:
-            is_unsigned = strict_items(data)[-2:] == [b"\x80", b"\x80"]
+            is_signed = strict_items(data)[-2:] != [b"\x80", b"\x80"]
         except Answered:
-            is_unsigned = False
-        if not is_unsigned:
+            is_signed = True
+        return (self.signed if is_signed else self.plain).lines(name, data)
+
+    def written(self, dice):
+        return dice.choice((self.signed, self.signed, self.plain)).written(dice)
+
+
+class Zero:
+    """The number 0, which isn't shown."""
+
+    def lines(self, name, data):
+        if data != b"\x80":
+            raise Wrong(name, "another number")
+        return []
+
+    def written(self, dice):
+        return b"\x80"
+
+
+class Whole:
+    """A transaction by itself: the bytes that are signed, or else a signed transaction."""
+
+    def __init__(self, unsigned, signed):
+        self.unsigned, self.signed = unsigned, signed
+
+    def lines(self, name, data):
+        try:
+            return self.unsigned.lines(name, data) + [signing_line(name, data)]
+        except Wrong:
             return self.signed.lines(name, data)
-        return self.unsigned.lines(name, data) + [f"{name + '.' if name else ''}signing_hash: 0x{keccak256(data).hex()}"]
 
     def written(self, dice):
         return dice.choice((self.signed, self.signed, self.unsigned)).written(dice)
@@ -253,7 +279,7 @@ class Typed:
 
     def lines(self, name, data):
         if data and data[0] in self.types:
-            return [f"{name + '.' if name else ''}type: {data[0]}"] + self.types[data[0]].lines(name, data[1:])
+            return [TypeByte(f"{name + '.' if name else ''}type: {data[0]}")] + self.types[data[0]].lines(name, data[1:])
         return (self.other if data and data[0] >= 0xC0 else self.unknown).lines(name, data)
 
     def written(self, dice):
@@ -280,7 +306,7 @@ class Kept(Unknown):
         if not data or data[0] >= 0x80:
             return super().lines(name, data)
         before = f"{name}." if name else ""
-        return [f"{before}type: {data[0]}", f"{before}payload: 0x{data[1:].hex()}"]
+        return [TypeByte(f"{before}type: {data[0]}"), Payload(f"{before}payload: 0x{data[1:].hex()}")]
 
 
 class Held:
@@ -308,17 +334,21 @@ class Held:
 
 
 class AnyItem:
-    """An item of any kind, through so many nested lists."""
-
-    def __init__(self, lists_left):
-        self.lists_left = lists_left
+    """An item of any kind, which is canonical and of at most 256 nested lists. A fault is that of the whole item."""
 
     def lines(self, name, data):
-        if not data or data[0] < 0xC0:
+        try:
+            canonical_end(data, 0, len(data), 256)
+        except Answered:
+            is_deep = text_of_view(data) == "error deep"
+            raise Wrong(name, f'Custom("{"item nests too deep" if is_deep else "item is not canonical"}")') from None
+        return self.shown(name, data)
+
+    def shown(self, name, data):
+        if data[0] < 0xC0:
             return STRING.lines(name, data)
-        if self.lists_left == 0:
-            raise Wrong(name, 'Custom("item nests too deep")')
-        return ListOf(AnyItem(self.lists_left - 1)).lines(name, data)
+        items = strict_items(data)
+        return [line for place, item in enumerate(items) for line in AnyItem().shown(f"{name}[{place}]", item)] or [f"{name}: []"]
 
     def written(self, dice):
         if dice.random() < 0.01:
@@ -329,6 +359,13 @@ class AnyItem:
         if dice.random() < 0.6:
             return STRING.written(dice)
         return written_list(dice, [self.written(dice) for _ in range(dice.choice((0, 1, 1, 2)))])
+
+
+def items_of_whole(data, most=None):
+    """The items of a list that is all of data, and has at most so many bytes. That data is one item is tested first."""
+    if framing(data, 0, len(data))[1] < len(data) or (most and len(data) > most):
+        raise Answered("RlpIsTooBig")
+    return strict_items(data)
 
 
 def is_word(string):
@@ -365,7 +402,7 @@ class NodeValue:
             text = known_text(strict_string(self.key), strict_string(data))
         except Answered:
             text = None
-        return AnyItem(256).lines(name, data) if text is None else [f"{name}: {text}"]
+        return AnyItem().lines(name, data) if text is None else [f"{name}: {text}"]
 
 
 NODE_KEY = Text(word_text, None)
@@ -379,10 +416,8 @@ class NodeRecord:
     first = Record([("signature", STRING), ("sequence", number(8))])
 
     def lines(self, name, data):
-        if len(data) > 300:
-            raise Wrong(name, Answered("RlpIsTooBig"))
         try:
-            items = strict_items(data)
+            items = items_of_whole(data, 300)
             if len(items) < 2 or len(items) % 2 == 1:
                 raise Answered("RlpIncorrectListLen")
         except Answered as answered:
@@ -414,7 +449,7 @@ class NodeRecord:
             keys = [dice.choice(keys + [b"ie"]) for _ in keys]
         for key in keys:
             known = NODE_VALUES.get(key) if dice.random() < 0.8 else None
-            items += [encoded_string(key), encoded_string(dice.choice(known)) if known else AnyItem(256).written(dice)]
+            items += [encoded_string(key), encoded_string(dice.choice(known)) if known else AnyItem().written(dice)]
         if dice.random() < 0.05:
             items = items[: dice.randint(0, len(items))]
         return written_list(dice, items)
@@ -447,27 +482,53 @@ PATH = Text(path_text, some_path(0x20, 0x20, 0x3F))
 EXTENSION_PATH = Text(extension_path_text, some_path(0x00, 0x13, 0x1A))
 
 
+def kind_line(name, kind):
+    """The line of the kind of a node."""
+    return Derived(f"{name + '.' if name else ''}node: {kind}")
+
+
+class KeptNode(AnyItem):
+    """A node that is kept in its parent: an item of any kind, which is shown as a node if it has the form of one."""
+
+    def shown(self, name, data):
+        if data[0] < 0xC0:
+            return STRING.lines(name, data)
+        items = strict_items(data)
+        if len(items) == 17:
+            children = [line for place, item in enumerate(items[:16]) for line in self.shown(f"{name}.children[{place}]", item)]
+            return [kind_line(name, "branch"), *children, *AnyItem().shown(f"{name}.value", items[16])]
+        try:
+            path = strict_string(items[0])
+            line = f"{name}.path: {path_text(path)}"
+        except (Answered, IndexError):
+            return super().shown(name, data)
+        if len(items) != 2:
+            return super().shown(name, data)
+        if path[0] < 0x20:
+            return [kind_line(name, "extension"), line, *self.shown(f"{name}.child", items[1])]
+        return [kind_line(name, "leaf"), line, *AnyItem().shown(f"{name}.value", items[1])]
+
+
 class Child:
-    """A child of a node of the trie: a list of fewer than 32 bytes, or a hash. A list is of a type."""
+    """A child of a node of the trie: a list of fewer than 32 bytes, or a hash."""
 
     hash = Text(fixed_text(32), lambda dice: dice.randbytes(dice.choice((0, 32, 32, 32))))
     often_kept = 0.5
-
-    def __init__(self, kept):
-        self.kept = kept
 
     def lines(self, name, data):
         if not data or data[0] < 0xC0:
             return self.hash.lines(name, data)
         if len(data) >= 32:
             raise Wrong(name, "RlpIsTooBig")
-        return self.kept.lines(name, data)
+        return KeptNode().lines(name, data)
 
     def written(self, dice):
         if dice.random() > self.often_kept:
             return self.hash.written(dice)
         if dice.random() < 0.3:
-            return written_list(dice, [encoded_string(b"\x1a"), Child(self.kept).written(dice)])
+            return written_list(dice, [encoded_string(b"\x1a"), Child().written(dice)])
+        if dice.random() < 0.1:
+            return written_list(dice, [self.hash.written(dice) if dice.random() < 0.1 else b"\x80" for _ in range(17)])
         value = encoded_string(dice.randbytes(dice.choice((1, 1, 1, 20, 28, 28, 29, 40))))
         return written_list(dice, [encoded_string(dice.choice((b"\x20", b"\x20", b"\x00"))), value])
 
@@ -480,23 +541,17 @@ class BranchChild(Child):
 
 
 class Node:
-    """A node of the trie: a branch of 17 items, or a leaf or an extension, which the path tells apart; or the empty trie.
+    """A node of the trie: a branch of 17 items, or a leaf or an extension, which the path tells apart; or the empty trie."""
 
-    So many nodes are shown one in another. Of others the items are shown.
-    """
-
+    branch = Record([(f"children[{digit}]", BranchChild()) for digit in range(16)] + [("value", STRING)])
+    extension = Record([("path", EXTENSION_PATH), ("child", Child())])
     leaf = Record([("path", PATH), ("value", STRING)])
-
-    def __init__(self, nodes_left):
-        kept = Node(nodes_left - 1) if nodes_left > 1 else AnyItem(256)
-        self.branch = Record([(f"children[{digit}]", BranchChild(kept)) for digit in range(16)] + [("value", STRING)])
-        self.extension = Record([("path", EXTENSION_PATH), ("child", Child(kept))])
 
     def lines(self, name, data):
         if data == b"\x80":
-            return [f"{name + '.' if name else ''}node: empty"]
+            return [kind_line(name, "empty")]
         try:
-            items = strict_items(data)
+            items = items_of_whole(data)
             if len(items) not in (2, 17):
                 raise Answered("RlpIncorrectListLen")
         except Answered as answered:
@@ -507,7 +562,7 @@ class Node:
                 kind = "leaf" if strict_string(items[0])[:1] >= b"\x20" else "extension"
             except Answered:
                 kind = "extension"
-        return [f"{name + '.' if name else ''}node: {kind}"] + getattr(self, kind).lines(name, data)
+        return [kind_line(name, kind)] + getattr(self, kind).lines(name, data)
 
     def written(self, dice):
         if dice.random() < 0.05:
@@ -525,7 +580,7 @@ def fields(text, types):
 
 TYPES = {"u8": number(1), "u64": number(8), "u256": number(32), "hash": HASH, "address": ADDRESS, "bloom": BLOOM, "string": STRING}
 TYPES |= {"scalar": number(32, hex), "v": number(32, v_text, (27, 28, 35, 36, 37, 38, (2 << 64) + 34, (2 << 64) + 35))}
-TYPES |= {"chain": number(32, unsigned_v_text, (0, 1, 27, 28, 36, 37, 137)), "none": number(32, hex, (0,))}
+TYPES |= {"plain_v": number(32, str, (0, 1, 27, 28, 36, 37, 137)), "none": number(32, hex, (0,)), "zero": Zero()}
 TYPES |= {"truth": TRUTH, "recipient": RECIPIENT, "status": STATUS, "nonce": fixed(8), "hashes": ListOf(HASH)}
 TYPES["log"] = Record(fields("address:address topics:hashes data:string", TYPES))
 TYPES["access"] = Record(fields("address:address storage_keys:hashes", TYPES))
@@ -539,21 +594,23 @@ HEADER = """parent_hash:hash ommers_hash:hash beneficiary:address state_root:has
     excess_blob_gas:u64 parent_beacon_block_root:hash requests_hash:hash"""
 CALL = "gas_limit:u64 to:recipient value:u256 data:string"
 POINT = "y_parity:truth r:scalar s:scalar"
-SIGNED = f"access_list:access_list {POINT}"
-LEGACY = f"nonce:u64 gas_price:u256 {CALL} v:v r:scalar s:scalar"
-UNSIGNED = f"nonce:u64 gas_price:u256 {CALL} v:chain r:none s:none"
-TYPE_1 = f"chain_id:u64 nonce:u64 gas_price:u256 {CALL} {SIGNED}"
+SIX = f"nonce:u64 gas_price:u256 {CALL}"
+TYPE_1 = f"chain_id:u64 nonce:u64 gas_price:u256 {CALL} access_list:access_list"
 FEES = "chain_id:u64 nonce:u64 max_priority_fee_per_gas:u256 max_fee_per_gas:u256"
-TYPE_2 = f"{FEES} {CALL} {SIGNED}"
+TYPE_2 = f"{FEES} {CALL} access_list:access_list"
 TYPE_3 = f"""{FEES} gas_limit:u64 to:address value:u256 data:string access_list:access_list max_fee_per_blob_gas:u256
-    blob_versioned_hashes:hashes {POINT}"""
+    blob_versioned_hashes:hashes"""
 TYPE_4 = f"""{FEES} gas_limit:u64 destination:address value:u256 data:string access_list:access_list
-    authorization_list:authorizations {POINT}"""
+    authorization_list:authorizations"""
 TYPES["header"] = Hashed(Record(fields(HEADER, TYPES), counts=(15, 16, 17, 20, 21)))
 TYPES["withdrawal"] = Record(fields("index:u64 validator_index:u64 address:address amount:u64", TYPES))
-PAYLOADS = {kind: Signed(bytes([kind]), Record(fields(text, TYPES))) for kind, text in enumerate((TYPE_1, TYPE_2, TYPE_3, TYPE_4), 1)}
-UNTYPED = Legacy(Signed(b"", Record(fields(LEGACY, TYPES))), Record(fields(UNSIGNED, TYPES)))
+TYPED = dict(enumerate((TYPE_1, TYPE_2, TYPE_3, TYPE_4), 1))
+PAYLOADS = {kind: Signed(bytes([kind]), Record(fields(f"{text} {POINT}", TYPES))) for kind, text in TYPED.items()}
+UNTYPED = Legacy(Signed(b"", Record(fields(f"{SIX} v:v r:scalar s:scalar", TYPES))), Record(fields(f"{SIX} v:plain_v r:none s:none", TYPES)))
 TRANSACTION = Typed(PAYLOADS, UNTYPED, Kept())
+# What is signed: without a type six fields, or after EIP-155 nine.
+WITHOUT_TYPE = Record(fields(f"{SIX} chain_id:u64 first:zero second:zero", TYPES), counts=(6, 9))
+UNSIGNED = Typed({kind: Record(fields(text, TYPES)) for kind, text in TYPED.items()}, WITHOUT_TYPE, Unknown())
 TYPES["transactions"] = ListOf(Held(PAYLOADS, TRANSACTION.other))
 TYPES |= {"headers": ListOf(TYPES["header"]), "withdrawals": ListOf(TYPES["withdrawal"])}
 BLOCK = "header:header transactions:transactions ommers:headers withdrawals:withdrawals"
@@ -566,10 +623,10 @@ KINDS = {
     "block": Record(fields(BLOCK, TYPES), counts=(3, 4)),
     "body": Record(fields(BLOCK, TYPES)[1:], counts=(2, 3)),
     "header": TYPES["header"],
-    "node": Hashed(Node(4)),
+    "node": Hashed(Node()),
     "receipt": Typed(dict.fromkeys((1, 2, 3, 4), RECEIPT), RECEIPT, Unknown()),
     "record": NodeRecord(),
-    "transaction": Hashed(TRANSACTION),
+    "transaction": Whole(UNSIGNED, Hashed(TRANSACTION)),
     "withdrawal": TYPES["withdrawal"],
 }
 KINDS |= messages.classes(sys.modules[__name__])
@@ -592,35 +649,45 @@ def line(dice, kind):
     return text
 
 
-def lines_of(kind, data, name):
-    """The lines of a record of a kind under a name, or of a guessed one under the name of its kind."""
-    if kind:
-        return KINDS[kind].lines(name, data)
+def guessed(data):
+    """The kind of a record whose kind isn't named."""
     try:
         kind = guess(data)
     except Answered as answered:
         raise Wrong("", answered) from None
     if kind is None:
         raise Wrong("", 'Custom("unknown kind")')
-    return KINDS[kind].lines(kind, data)
+    return kind
 
 
-def answer(kind, text, is_json):
-    """What is answered to a line, as one text: the lines of the record and an empty line, or one line of JSON, or the fault."""
+def fault(form, wrong):
+    """What is answered to a line at fault."""
+    if form != "--json":
+        return f"error {wrong}\n"
+    place = {} if wrong.place is None else {"field": wrong.place}
+    text = re.fullmatch(r'Custom\("(.*)"\)', str(wrong.fault))
+    members = {**place, "name": wrong.name, "fault": text.group(1) if text else str(wrong.fault)}
+    return json.dumps({"error": members}, separators=(",", ":")) + "\n"
+
+
+def answer(kind, text, form):
+    """What is answered to a line, as one text: the lines or rows of the record and an empty line, or one line of JSON, or the fault."""
     if len(text) > 32 << 20:
-        return "error long line\n"
+        return fault(form, Wrong("", "long line"))
     text = text[:-1] if text.endswith("\r") else text
     data = bytes_of(text)
     if data is None:
         data = bytes_of_node_text(text)
     if data is None:
-        return "error base64\n" if text.startswith("enr:") else "error hex\n"
+        return fault(form, Wrong("", "base64" if text.startswith("enr:") else "hex"))
     try:
-        if is_json:
-            return objects.answer(lines_of(kind, data, kind)) + "\n"
-        return "".join(line + "\n" for line in lines_of(kind, data, "")) + "\n"
+        own = kind or guessed(data)
+        lines = KINDS[own].lines(own if form == "--json" or not kind else "", data)
+        if form == "--json":
+            return objects.answer(own, data, lines) + "\n"
+        return "".join(line + "\n" for line in (rows(data, lines) if form == "--bytes" else lines)) + "\n"
     except Wrong as wrong:
-        return f"error {wrong}\n"
+        return fault(form, wrong)
 
 
 def answers_in(output):

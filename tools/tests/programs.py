@@ -59,7 +59,7 @@ class NotBuilt(StandIn):
 
     def test_input(self):
         for given in (b"", b"c0", b"c0\n" * 500_000):
-            for words in (["./rlp_tool"], ["./rlp_tool", "--help"], ["./rlp_show"], ["./rlp_show", "--json"], ["./rlp_show", "--json", "block"]):
+            for words in (["./rlp_tool"], ["./rlp_tool", "--help"], ["./rlp_show"], ["./rlp_show", "--json"], ["./rlp_show", "--json", "block"], ["./rlp_show", "--bytes", "block"]):
                 self.run_script(*words, input=given)
                 self.assertEqual((self.notes / "input").read_bytes(), given)
 

@@ -4,6 +4,8 @@
 pub mod Streams
 -- the items of a view
 pub mod Readers
+-- what a struct gives, by the number of its items
+pub mod Counting
 -- the first item of a view
 mod Splitting
 -- what is written for raw items

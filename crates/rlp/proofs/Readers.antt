@@ -1,16 +1,17 @@
 -- The items of a view, as a reader of items begins with them.
-use Rattle.std.proofs.Common.{◌≡◌, ℕ, ◌≤◌, true, false, MatchResult, IfOk, List, [], ◌∷◌, ◌++◌, length, map, ◌<◌, ◌^◌, Bool, arith, Result, Ok, Err, None, Some, refl, sym, ap, ◌∙◌}
+use Rattle.std.proofs.Common.{◌≡◌, ℕ, ◌≤◌, ◌+◌, suc, ◌↔◌, Option, IsTrue, true, false, MatchResult, IfOk, List, [], ◌∷◌, ◌++◌, length, map, ◌<◌, ◌^◌, Bool, arith, Result, Ok, Err, None, Some, refl, sym, ap, ◌∙◌}
 use Rattle.std.proofs.lemmas.Bool.{cond-true, cond-false}
 use Rattle.rlp_reading.specs.declared.error.DecoderError.{DecoderError}
 use Rattle.rlp_reading.specs.declared.error.DecoderError.TheVariants.{RlpExpectedToBeList}
 use Rattle.rlp_reading.specs.declared.header.PayloadInfo.{PayloadInfo}
-use Rattle.rlp_reading.specs.Format.Framing.{fault, framing, value, begins_as_list, items, payload, payload_in, split, after_items, strict_list_fault}
+use Rattle.rlp_reading.specs.Format.Framing.{fault, framing, value, begins_as_list, items, payload, payload_in, split, after_items, fault_of_some, strict_fault, strict_list_fault}
 use Rattle.rlp_reading.proofs.Lemmas.Numbered.{item_count-fault, item_count-told, payload-fault, told_begins}
-use Rattle.rlp_reading.specs.Views.View.{View, item_at, item_count, items_fault, list_fault}
+use Rattle.rlp_reading.specs.Views.View.{View, item_at, item_count, item_views, items_fault, list_fault}
 use Rattle.rlp_reading.proofs.Format.Splits.{length-split, split-nil}
-use Rattle.rlp_reading.proofs.Format.StrictLists.{after_items-next, strict_counted, value-items}
-use Rattle.rlp_reading.proofs.Views.InOrder.{framed_place, unframed_place}
-use Rattle.rlp.specs.Left.{AreCounted, ItemsLeft, after_next}
+use Rattle.rlp_reading.proofs.Format.StrictLists.{after_items-next, after_items-nil, after_items-none, strict_counted, strict_not_whole, strict_whole, value-items}
+use Rattle.rlp_reading.proofs.Views.InOrder.{counted_told, framed_place, unframed_place}
+use Rattle.rlp_codec.specs.Form.{fault_of, items_of, list_of_views, map_value, seen_fault}
+use Rattle.rlp.specs.Left.{AreCounted, ItemsLeft, ListRead, after_next}
 
 no_items : (b : List ℕ) → payload b ≡ [] → items b ≡ []
 unfolding items
@@ -86,24 +87,126 @@ other_untold v kind = item_count-fault v RlpExpectedToBeList (cond-false (begins
 
 pub ruleset counted_views = (lenient_told, other_untold)
 
+-- ---- a list, by its header
+
+-- no bytes have no fault, and only they
+no_fault : (p : List ℕ) → fault_of_some p ≡ None → p ≡ []
+no_fault [] none = refl
+no_fault (byte ∷ more) none = absurd (let no : ⊥ = cc in no)
+
+counted_none : (v : View) (o : Option DecoderError) → v.is_strict ≡ true → strict_list_fault v.bytes ≡ o → item_count v ≡ Ok (length (items v.bytes)) → o ≡ None
+counted_none v None strict is told = refl
+counted_none v (Some e) strict is told = let other : item_count v ≡ Err e = strict_untold v e strict is in absurd (let no : ⊥ = cc in no)
+
+-- a strict view of exactly one list, by what follows the items in the list
+pub strict_by_end : (v : View) (q : List ℕ) → v.is_strict ≡ true → begins_as_list v.bytes ≡ true → strict_fault v.bytes ≡ None → value v.bytes ≡ Ok q
+    → (IsTrue v.is_strict → after_items q ≡ []) ↔ (item_count v ≡ Ok (length (items v.bytes)))
+strict_by_end v q strict kind none is =
+    let same = strict_whole v.bytes q (sym kind) none is in (
+      λ ended. strict_told v (length (items v.bytes)) strict (sym same ∙ ap fault_of_some (ended strict)) refl,
+      λ told also. no_fault (after_items q) (same ∙ counted_none v (strict_list_fault v.bytes) strict refl told),
+    )
+
+-- a strict view that isn't exactly one item
+pub strict_unframed : (v : View) (e : DecoderError) → v.is_strict ≡ true → begins_as_list v.bytes ≡ true → strict_fault v.bytes ≡ Some e → item_count v ≡ Err e
+strict_unframed v e strict kind is = strict_untold v e strict (strict_not_whole v.bytes e (sym kind) is)
+
+-- a lenient view that begins as a list
+pub lenient_by_end : (v : View) (q : List ℕ) → v.is_strict ≡ false → begins_as_list v.bytes ≡ true
+    → (IsTrue v.is_strict → after_items q ≡ []) ↔ (item_count v ≡ Ok (length (items v.bytes)))
+lenient_by_end v q lenient kind = (
+  λ _. lenient_told v _ lenient kind refl,
+  λ _ strict. absurd (let no : ⊥ = cc in no),
+)
+
+pub ruleset framed_views = (strict_by_end, strict_unframed, lenient_by_end, other_untold)
+
+told_of : (v : View) (vs : List View) (r : Result ℕ DecoderError) → item_count v ≡ r → map_value (λ (n : ℕ). item_views v) (seen_fault r) ≡ Ok vs
+    → item_count v ≡ Ok (length (items v.bytes))
+told_of v vs (Ok n) count is = item_count-told v (counted_told v n count)
+told_of v vs (Err e) count is = absurd (let no : ⊥ = cc in no)
+
+-- the items of a view, by what follows those that its list's header leads to
+pub items_by_end : (v : View) (strict : Bool) (q p : List ℕ) → strict ≡ v.is_strict → p ≡ q → split q ≡ items v.bytes
+    → (IsTrue v.is_strict → after_items q ≡ []) ↔ (item_count v ≡ Ok (length (items v.bytes)))
+    → (IsTrue v.is_strict → after_items p ≡ []) ↔ (items_of v ≡ Ok (map (λ b. record { bytes = b; is_strict = strict }) (split p)))
+items_by_end v strict q p kind same parts told =
+    let e : map (λ b. record { bytes = b; is_strict = strict }) (split p) ≡ item_views v =
+    ap (λ s. map (λ b. record { bytes = b; is_strict = s }) (split p)) kind ∙ ap (map (λ b. record v { bytes = b })) (ap split same ∙ parts) in (
+      λ ended. ap (λ r. map_value (λ (n : ℕ). item_views v) (seen_fault r)) (told.0 (λ s. ap after_items (sym same) ∙ ended s)) ∙ ap Ok (sym e),
+      λ is s. ap after_items same ∙ told.1 (told_of v _ (item_count v) refl is) s,
+    )
+
+list_told_by : (v : View) (strict : Bool) → v.is_strict ≡ strict → list_fault v ≡ None → list_of_views v ≡ Ok (item_views v)
+list_told_by v false kind none = cond-false v.is_strict (items_of v) (Ok (item_views v)) kind
+list_told_by v true kind none =
+    cond-true v.is_strict (items_of v) (Ok (item_views v)) kind
+    ∙ ap (λ r. map_value (λ (n : ℕ). item_views v) (seen_fault r))
+    (strict_told v (length (items v.bytes)) kind (sym (cond-true v.is_strict (strict_list_fault v.bytes) None kind) ∙ none) refl)
+
+-- a view that can be read as a list
+pub list_told : (v : View) → list_fault v ≡ None → list_of_views v ≡ Ok (item_views v)
+list_told v none = list_told_by v v.is_strict refl none
+
+list_faulty_by : (v : View) (strict : Bool) (e : DecoderError) → v.is_strict ≡ strict → list_fault v ≡ Some e → list_of_views v ≡ Err (fault_of e)
+list_faulty_by v false e kind fault =
+    let none : list_fault v ≡ None = cond-false v.is_strict (strict_list_fault v.bytes) None kind in absurd (let no : ⊥ = cc in no)
+list_faulty_by v true e kind fault =
+    cond-true v.is_strict (items_of v) (Ok (item_views v)) kind
+    ∙ ap (λ r. map_value (λ (n : ℕ). item_views v) (seen_fault r))
+    (strict_untold v e kind (sym (cond-true v.is_strict (strict_list_fault v.bytes) None kind) ∙ fault))
+
+-- a view that can't be read as a list
+pub list_faulty : (v : View) (e : DecoderError) → list_fault v ≡ Some e → list_of_views v ≡ Err (fault_of e)
+list_faulty v e fault = list_faulty_by v v.is_strict e refl fault
+
 -- ---- a reader of items
 
 -- the items of a slice, not counted
-pub not_counted : (b : List ℕ) → length b < 2 ^ 64 → AreCounted false 18446744073709551615 (split b)
-not_counted b short = record { few = omega (arith, length-split b); exact = λ other. absurd (let no : ⊥ = cc in no) }
+pub not_counted : (b : List ℕ) → length b < 2 ^ 64 → AreCounted 0 None (split b)
+not_counted b short = record { few = omega (arith, length-split b); exact = tt }
 
 -- the items of a slice, counted
-pub all_counted : (b c : List ℕ) (n : ℕ) → b ≡ c → n ≡ length (split c) → AreCounted true n (split b)
-all_counted b c n same many = let whole : length (split b) ≡ length (split c) = ap (λ b. length (split b)) same in record { few = omega arith; exact = λ is. omega arith }
+pub all_counted : (b c : List ℕ) (n : ℕ) → b ≡ c → n ≡ length (split c) → n < 2 ^ 64 → AreCounted 0 (Some n) (split b)
+all_counted b c n same many few = let whole : length (split b) ≡ length (split c) = ap (λ b. length (split b)) same in record { few = omega arith; exact = omega arith }
 
 pub ruleset reader_starts = (not_counted, all_counted)
 
--- what a reader of these bytes has left
-abbrev pub left_in : Bool → List ℕ → ItemsLeft
-left_in strict b = record { views = map (λ b. record { bytes = b; is_strict = strict }) (split b); past = fault (after_items b) }
+-- the list of a reader that has taken `taken` items and has the bytes `b` left
+abbrev pub list_in : ℕ → List ℕ → ListRead
+list_in taken b = record { count = taken + length (split b); after = after_items b }
+
+-- what that reader has left
+abbrev pub left_in : Bool → ℕ → List ℕ → ItemsLeft
+left_in strict taken b = record {
+  views = map (λ b. record { bytes = b; is_strict = strict }) (split b);
+  past = fault (after_items b);
+  list = list_in taken b;
+}
+
+-- once an item is taken, the list is the same
+pub same_list : (taken : ℕ) (b item others : List ℕ) → split b ≡ item ∷ split others → b ≡ item ++ others → list_in (taken + 1) others ≡ list_in taken b
+same_list taken b item others parts whole =
+    let more : length (split b) ≡ suc (length (split others)) = ap length parts in
+    let many : taken + 1 + length (split others) ≡ taken + length (split b) = omega arith in
+    ap (λ n. record { count = n; after = after_items others }) many
+    ∙ ap (λ p. record { count = taken + length (split b); after = p }) (sym (after_items-next b item others parts whole))
 
 -- one item is taken
-pub one_taken : (strict : Bool) (b item others : List ℕ) → split b ≡ item ∷ split others → b ≡ item ++ others → left_in strict others ≡ after_next (left_in strict b)
-one_taken strict b item others parts whole =
-    ap (λ p. record { views = map (λ b. record { bytes = b; is_strict = strict }) (split others); past = fault p }) (sym (after_items-next b item others parts whole))
-    ∙ ap (λ fs. after_next (record { views = map (λ b. record { bytes = b; is_strict = strict }) fs; past = fault (after_items b) })) (sym parts)
+pub one_taken : (strict : Bool) (taken : ℕ) (b item others : List ℕ) → split b ≡ item ∷ split others → b ≡ item ++ others
+    → left_in strict (taken + 1) others ≡ after_next (left_in strict taken b)
+one_taken strict taken b item others parts whole =
+    ap (λ l. record { views = map (λ b. record { bytes = b; is_strict = strict }) (split others); past = fault l.after; list = l }) (same_list taken b item others parts whole)
+    ∙ ap (λ fs. after_next (record { views = map (λ b. record { bytes = b; is_strict = strict }) fs; past = fault (after_items b); list = list_in taken b })) (sym parts)
+
+-- nothing is left of no bytes
+pub none_left : (strict : Bool) (taken : ℕ) (b : List ℕ) → b ≡ [] → ((left_in strict taken b).views ≡ []) × (after_items b ≡ [])
+none_left strict taken b none = (ap (map (λ b. record { bytes = b; is_strict = strict })) (ap split none ∙ split-nil), ap after_items none ∙ after_items-nil)
+
+map-none : {A B : Type 0} (f : A → B) (xs : List A) → map f xs ≡ [] → xs ≡ []
+map-none f [] none = refl
+map-none f (x ∷ xs) none = absurd (let no : ⊥ = cc in no)
+
+-- where nothing is left, there are no bytes
+pub no_bytes_left : (strict : Bool) (taken : ℕ) (b : List ℕ) → (left_in strict taken b).views ≡ [] → after_items b ≡ [] → b ≡ []
+no_bytes_left strict taken b none ended = sym (after_items-none b (map-none _ (split b) none)) ∙ ended

@@ -8,6 +8,7 @@ mod bytes_mut;
 mod bytes_shared;
 mod number;
 mod option;
+mod placed;
 mod raw_item;
 mod text;
 mod uint;

@@ -37,10 +37,13 @@ pub use rlp_write::{
 pub use rlpin::{BasicDecoder, Envelope, Fields, Rlp, RlpIterator};
 use std::alloc::Global;
 pub use structs::{
-    DecodeFields, FieldFault, FixedFields, Groups, Joined, ListField, OptionalField, OptionalGroup,
-    decode_struct,
+    DecodeFields, DecodeFieldsPlaced, FieldFault, FixedFields, Groups, Joined, ListField,
+    OptionalField, OptionalGroup, decode_struct, put_path_of,
 };
-pub use traits::{Decodable, RoundTrip, Scalar, StrictRead};
+pub use traits::{
+    Decodable, DecodePlaced, PlacedFault, RoundTrip, Scalar, StrictRead, decode_placed,
+    put_list_path,
+};
 
 /// The value that the bytes begin with, read by [`Decodable::decode`] of its type from a lenient
 /// view. The types of this crate ignore what follows the value's item.

@@ -5,16 +5,19 @@ ghost use Rattle.std.specs.Vec.{vec_items};
 ghost use Rattle.rlp_reading.specs.declared.error.DecoderError.TheVariants.{OutOfMemory};
 ghost use Rattle.rlp_reading.specs.Values.FaultText.{field_fault_text};
 ghost use Rattle.rlp_codec.specs.Form.{Faults, FieldsReading, Gives, fault_of, group_before, list_reading, no_fields, one_field, part_fields, struct_reading};
+ghost use Rattle.rlp.specs.Left.{AreAccepted};
 
 mod groups;
 mod optional;
 mod parts;
+mod placed;
 
 use crate::rlpin::{Fields, Rlp};
 use crate::traits::Decodable;
 pub use groups::{FixedFields, Groups};
 pub use optional::{OptionalField, OptionalGroup};
 pub use parts::Joined;
+pub use placed::{DecodeFieldsPlaced, put_path_of};
 use rlp_reading::error::DecoderError;
 use std::alloc::Global;
 use std::error::Error;
@@ -73,12 +76,14 @@ pub trait DecodeFields: Sized + Drop {
         ensures { result ≡ reading.accepts len };
 
     /// Reads the fields from the next items. If a field fails, the items after its item are left.
+    /// The reader goes on over the same list.
     fn decode_fields(alloc: Global, fields: &mut Fields<'_>) -> Result<Self, DecoderError>
         ensures value { IfOk result (λ x. (reading.read fields.old.views).result
             ≡ Ok (reading.seen x, fields.new.views)) }
         ensures fault { IfErr result (λ e. ((reading.read fields.old.views).result
             ≡ Err (fields.new.views, fault_of e))
-            ⊎ ((e ≡ OutOfMemory) × IsTrue reading.takes_memory)) };
+            ⊎ ((e ≡ OutOfMemory) × IsTrue reading.takes_memory)) }
+        ensures list { fields.new.list ≡ fields.old.list };
 }
 
 /// No more fields.
@@ -107,9 +112,13 @@ impl<T: Decodable, Q: DecodeFields> DecodeFields for (T, Q) {
         let Some(item) = fields.next() else {
             return Err(DecoderError::RlpIncorrectListLen);
         };
-        let value = T::decode(alloc, &item)?;
-        let others = Q::decode_fields(alloc, fields)?;
-        Ok((value, others))
+        match T::decode(alloc, &item) {
+            Ok(value) => match Q::decode_fields(alloc, fields) {
+                Ok(others) => Ok((value, others)),
+                Err(fault) => Err(fault),
+            },
+            Err(fault) => Err(fault),
+        }
     }
 }
 
@@ -119,6 +128,9 @@ impl<T: Decodable, Q: DecodeFields> DecodeFields for (T, Q) {
 /// Fails with `RlpIncorrectListLen` and no place if the number of items is wrong, whatever the items
 /// are. Also fails as [`Rlp::item_count`] does, with no place, and with the fault of the first field
 /// that fails and its place.
+///
+/// It reads the items as they come, and walks over them only after a fault, to find which fault comes
+/// first. [`Groups`] count their items before they read them.
 #[inline(always)]
 pub fn decode_struct<F: DecodeFields>(alloc: Global, rlp: &Rlp<'_>) -> Result<F, FieldFault>
     ensures value { IfOk result (λ x. Gives (struct_reading F.reading) rlp.now x) }
@@ -128,34 +140,51 @@ pub fn decode_struct<F: DecodeFields>(alloc: Global, rlp: &Rlp<'_>) -> Result<F,
         (slice_get ((struct_reading F.reading).read rlp.now).path 0 ≡ e.place)
         ⊎ ((e.fault ≡ OutOfMemory) × IsTrue F.reading.takes_memory)) }
 {
-    let mut fields = match Fields::counted(rlp) {
+    let mut fields = match Fields::framed(rlp) {
         Ok(fields) => fields,
         Err(fault) => return Err(FieldFault { place: None, fault }),
     };
-    let count = fields.count_left();
-    if !F::accepts(count) {
-        return Err(FieldFault {
-            place: None,
-            fault: DecoderError::RlpIncorrectListLen,
-        });
-    }
-    let values = match F::decode_fields(alloc, &mut fields) {
-        Ok(values) => values,
-        Err(fault) => {
-            let place = count.saturating_sub(1).saturating_sub(fields.count_left());
-            return Err(FieldFault {
-                place: Some(place),
-                fault,
-            });
+    match F::decode_fields(alloc, &mut fields) {
+        Ok(values) => {
+            let has_ended = fields.has_ended() || !rlp.is_strict() && fields.is_empty();
+            if has_ended && F::accepts(fields.taken()) {
+                return Ok(values);
+            }
+            Err(first_fault::<F>(rlp, fields.taken(), DecoderError::RlpIncorrectListLen))
         }
-    };
-    if fields.is_empty() {
-        return Ok(values);
+        Err(fault) => Err(first_fault::<F>(rlp, fields.taken().saturating_sub(1), fault)),
     }
-    Err(FieldFault {
-        place: Some(count.saturating_sub(fields.count_left())),
+}
+
+/// The fault of a struct whose fields [`decode_struct`] can't read: that of the list, or else a wrong
+/// number of items, or else what was found, at the place where it was found. It walks over the items.
+#[inline(never)]
+fn first_fault<F: DecodeFields>(rlp: &Rlp<'_>, place: usize, found: DecoderError) -> FieldFault
+    requires fault { AreAccepted F.reading rlp.now
+        → Faults (struct_reading F.reading) rlp.now found
+        ⊎ ((found ≡ OutOfMemory) × IsTrue F.reading.takes_memory) }
+    requires place { AreAccepted F.reading rlp.now
+        → (slice_get ((struct_reading F.reading).read rlp.now).path 0 ≡ Some place)
+        ⊎ ((found ≡ OutOfMemory) × IsTrue F.reading.takes_memory) }
+    ensures fault { Faults (struct_reading F.reading) rlp.now result.fault
+        ⊎ ((result.fault ≡ OutOfMemory) × IsTrue F.reading.takes_memory) }
+    ensures place { (slice_get ((struct_reading F.reading).read rlp.now).path 0 ≡ result.place)
+        ⊎ ((result.fault ≡ OutOfMemory) × IsTrue F.reading.takes_memory) }
+{
+    let count = match rlp.item_count() {
+        Ok(count) => count,
+        Err(fault) => return FieldFault { place: None, fault },
+    };
+    if F::accepts(count) {
+        return FieldFault {
+            place: Some(place),
+            fault: found,
+        };
+    }
+    FieldFault {
+        place: None,
         fault: DecoderError::RlpIncorrectListLen,
-    })
+    }
 }
 
 /// Writes a struct as the list of its fields. The arguments are the stream, and then each field in

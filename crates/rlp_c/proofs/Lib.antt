@@ -14,11 +14,7 @@ mod Measuring
 mod Texts
 -- the rows of a tree describe it
 mod Described
--- what the table of kinds gives, item by item
-mod Tables
--- the table has the fields that the codecs read
-mod RecordTables
--- the walk over the fields of a record
-mod Checking
+-- tests that keep nothing have the faults of the codecs
+pub mod Testing
 -- the answers for transactions and headers
 mod RecordAnswers

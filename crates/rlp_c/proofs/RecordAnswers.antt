@@ -1,17 +1,17 @@
 -- The answers for transactions and headers.
-use Rattle.std.proofs.Common.{◌≡◌, ◌≢◌, ◌↔◌, inl, inr, ⊎_elim, ℕ, zero, suc, ◌-◌, ◌==◌, ◌<◌, ◌≤◌, ◌^◌, true, false, nat_le, ne_eqb, List, [], ◌∷◌, length, map, take, drop}
-use Rattle.std.proofs.Common.{slice_index_or, refl, sym, ap, ◌∙◌, subst, arith, append-nil, IsOk, Some, None, Result, Ok, Err}
+use Rattle.std.proofs.Common.{◌≡◌, ◌↔◌, inl, inr, ℕ, ◌-◌, ◌==◌, ◌<◌, ◌≤◌, ◌^◌, Bool, true, false, if◌then◌else◌, nat_le, List, [], ◌∷◌, length, map, take, drop}
+use Rattle.std.proofs.Common.{slice_index_or, refl, sym, ap, ◌∙◌, subst, arith, append-nil, IsOk, Option, Some, None, Result, Ok, Err}
 use Rattle.std.specs.Bool.{⊤}
 use Rattle.std.proofs.lemmas.Bool.{cond-true, cond-false}
 use Rattle.std.proofs.lemmas.Bool.Decides.{nat_tests}
 use Rattle.std.proofs.lemmas.List.{take_all}
 use Rattle.rlp_format.specs.Format.Encoding.{Item, list_of, IsSized, encoding}
 use Rattle.rlp_format.proofs.Lemmas.Encodings.{listed_from}
-use Rattle.rlp_reading.specs.Format.Framing.{begins_as_list}
+use Rattle.rlp_reading.specs.Format.Framing.{begins_as_list, items}
 use Rattle.rlp_reading.specs.Views.View.{View, strict_view_of}
 use Rattle.rlp_reading.proofs.Lemmas.Views.{list_shape}
 use Rattle.rlp_reading.proofs.Lemmas.WholeLists.{strict_items, whole_sized}
-use Rattle.rlp_codec.specs.Form.{Answer, Fault, custom, is_too_short, map_answer}
+use Rattle.rlp_codec.specs.Form.{Answer, Fault, custom, here, map_answer, map_fault}
 use Rattle.rlp.specs.Codec.{truth_value}
 use Rattle.rlp_records.specs.Alone.{bytes_alone, unknown_type}
 use Rattle.rlp_transactions.specs.declared.transaction.Transaction.{Transaction}
@@ -20,21 +20,23 @@ use Rattle.rlp_transactions.specs.declared.transaction.Transaction.TheVariants.{
 use Rattle.rlp_transactions.specs.AccessListTransaction.{access_list_transaction_fields, signed_access_list_transaction}
 use Rattle.rlp_transactions.specs.BlobTransaction.{blob_transaction_fields, signed_blob_transaction}
 use Rattle.rlp_transactions.specs.FeeMarketTransaction.{fee_market_transaction_fields, signed_fee_market_transaction}
-use Rattle.rlp_transactions.specs.LegacyTransaction.{signed_legacy_transaction, signed_legacy_transaction_fields}
+use Rattle.rlp_transactions.specs.LegacyTransaction.{signed_legacy_transaction_fields}
 use Rattle.rlp_transactions.specs.SetCodeTransaction.{set_code_transaction_fields, signed_set_code_transaction}
 use Rattle.rlp_transactions.specs.Signed.{signed_fields}
-use Rattle.rlp_transactions.specs.Transaction.{transaction, typed_transactions}
+use Rattle.rlp_transactions.specs.Transaction.{transaction, transaction_alone, typed_transactions}
+use Rattle.rlp_transactions.proofs.Strings.{transaction_strings}
 use Rattle.rlp_transactions.specs.TransactionParts.{type_of}
 use Rattle.rlp_headers.specs.declared.header.Header.{Header as BlockHeader}
 use Rattle.rlp_headers.specs.Header.{header, header_fields}
 use Rattle.rlp_c.specs.declared.item.RlpItem.{RlpItem}
-use Rattle.rlp_c.specs.declared.records.kinds.Record.{Record}
-use Rattle.rlp_c.specs.declared.records.kinds.Record.TheVariants.{Header, Legacy, AccessListPayload, FeeMarketPayload, BlobPayload, SetCodePayload}
-use Rattle.rlp_c.specs.Fields.{numbered, record_result}
+use Rattle.rlp_c.specs.declared.records.fields.Record.{Record}
+use Rattle.rlp_c.specs.declared.records.fields.Record.TheVariants.{Header, Legacy, AccessListPayload, FeeMarketPayload, BlobPayload, SetCodePayload}
+use Rattle.rlp_c.specs.Fields.{number_of, numbered, record_result, without_value}
 use Rattle.rlp_c.specs.Places.{IsFound, fields_in, fields_of, place_of}
-use Rattle.rlp_c.specs.Records.{IsRecordRead, IsTransactionRead, legacy, nothing, record_of_type, transaction_result, typed, unknown}
+use Rattle.rlp_c.specs.Records.{IsRecordRead, IsTransactionRead, legacy, record_of_type, transaction_result, typed, unknown}
 use Rattle.rlp_c.specs.Rows.{ArePlaced}
-use Rattle.rlp_c.proofs.Statuses.{faulty_not_found}
+use Rattle.rlp_c.proofs.Statuses.{number_within}
+use Rattle.rlp_c.proofs.Testing.{mapped}
 
 -- the first byte, and the others
 pub first_and_rest : (b : List ℕ) → 1 ≤ length b → b ≡ slice_index_or b 0 0 ∷ take (length b - 1) (drop 1 b)
@@ -45,64 +47,34 @@ first_and_rest (first ∷ rest) some =
 
 -- ---- what bytes give as a transaction
 
-mapped : {A B : Type 0} (f : A → B) (a : Answer A Fault) → numbered (map_answer f a) ≡ numbered a
-mapped {A = A} {B = B} f a = by a.result
-  where
-    by : (r : Result A Fault) → numbered (map_answer f (record { result = r; path = a.path })) ≡ numbered (record { result = r; path = a.path })
-    by (Ok x) = refl
-    by (Err e) = refl
-
-read_back : {A : Type 0} (a : Answer A Fault) (x : A) → a.result ≡ Ok x → numbered a ≡ Ok tt
-read_back {A = A} a x is = by a.result is
-  where
-    by : (r : Result A Fault) → r ≡ Ok x → numbered (record { result = r; path = a.path }) ≡ Ok tt
-    by (Ok y) is = refl
-    by (Err e) is = absurd (let no : ⊥ = cc in no)
-
 legacy_is : (b : List ℕ) → begins_as_list b ≡ true → transaction_result b ≡ record_result Legacy (strict_view_of b)
-legacy_is b kind = ap numbered (cond-true (begins_as_list b) _ _ kind) ∙ mapped inl (signed_legacy_transaction.reading.read (strict_view_of b))
-
--- there are four types
-above_unknown : (k : ℕ) → 4 < k → record_of_type k ≡ None
-above_unknown k high = grind (arith, nat_tests)
-
--- what holds of each type and its record
-by_type : (P : ℕ → Record → Type 0) → P 1 AccessListPayload → P 2 FeeMarketPayload → P 3 BlobPayload → P 4 SetCodePayload → (k : ℕ) (r : Record)
-    → record_of_type k ≡ Some r → P k r
-by_type P one two three four zero r is = absurd (let no : ⊥ = cc in no)
-by_type P one two three four (suc zero) r is = subst (P 1) (let same : AccessListPayload ≡ r = cc in same) one
-by_type P one two three four (suc (suc zero)) r is = subst (P 2) (let same : FeeMarketPayload ≡ r = cc in same) two
-by_type P one two three four (suc (suc (suc zero))) r is = subst (P 3) (let same : BlobPayload ≡ r = cc in same) three
-by_type P one two three four (suc (suc (suc (suc zero)))) r is = subst (P 4) (let same : SetCodePayload ≡ r = cc in same) four
-by_type P one two three four (suc (suc (suc (suc (suc k))))) r is =
-    let none = above_unknown (suc (suc (suc (suc (suc k))))) (omega arith) in absurd (let no : ⊥ = cc in no)
+legacy_is b kind = ap numbered (cond-true (begins_as_list b) _ _ kind) ∙ mapped inl _
 
 known_low : (k : ℕ) (r : Record) → record_of_type k ≡ Some r → nat_le 0xc0 k ≡ false
-known_low = by_type (λ k r. nat_le 0xc0 k ≡ false) refl refl refl refl
+known_low k r known = grind (arith, nat_tests)
 
-payload_is : (k : ℕ) (r : Record) → record_of_type k ≡ Some r → (v : View) → numbered (typed_transactions.cases.read k v) ≡ record_result r v
-payload_is = by_type (λ k r. (v : View) → numbered (typed_transactions.cases.read k v) ≡ record_result r v)
-    (λ v. mapped inl (signed_access_list_transaction.reading.read v))
-    (λ v. mapped inr _ ∙ mapped inl (signed_fee_market_transaction.reading.read v))
-    (λ v. mapped inr _ ∙ mapped inr _ ∙ mapped inl (signed_blob_transaction.reading.read v))
-    (λ v. mapped inr _ ∙ mapped inr _ ∙ mapped inr (signed_set_code_transaction.reading.read v))
+-- what the list behind the byte of a type gives
+abbrev of_type : Option Record → View → Result ⊤ (ℕ × Fault)
+of_type (Some r) v = record_result r v
+of_type None v = Err (0, custom unknown_type)
 
-typed_is : (k : ℕ) (p : List ℕ) (r : Record) → record_of_type k ≡ Some r → transaction_result (k ∷ p) ≡ record_result r (strict_view_of p)
-typed_is k p r known =
-    ap numbered (cond-false (begins_as_list (k ∷ p)) _ _ (known_low k r known))
-    ∙ mapped inr (typed_transactions.cases.read k (strict_view_of p)) ∙ payload_is k r known (strict_view_of p)
+first_type : {M N : Type 0} (test : Bool) (r : Record) (o : Option Record) (v : View) (x : Answer M Fault) (y : Answer N Fault) → numbered x ≡ record_result r v
+    → numbered y ≡ of_type o v → numbered (if test then map_answer inl x else map_answer inr y) ≡ of_type (if test then Some r else o) v
+first_type true r o v x y first others = mapped inl x ∙ first
+first_type false r o v x y first others = mapped inr y ∙ others
 
--- an unknown type isn't this one
-other_type : (k n : ℕ) (r : Record) → record_of_type k ≡ None → record_of_type n ≡ Some r → (k == n) ≡ false
-other_type k n r none known = ne_eqb k n (λ same. let is = ap record_of_type same in let no : ⊥ = cc in no)
+last_type : (test : Bool) (v : View)
+    → numbered (if test then signed_set_code_transaction.reading.read v else here (Err (custom unknown_type))) ≡ of_type (if test then Some SetCodePayload else None) v
+last_type true v = refl
+last_type false v = refl
 
-unknown_is : (k : ℕ) (p : List ℕ) → begins_as_list (k ∷ p) ≡ false → record_of_type k ≡ None → transaction_result (k ∷ p) ≡ Err (0, custom unknown_type)
-unknown_is k p low none =
-    ap numbered (cond-false (begins_as_list (k ∷ p)) _ _ low) ∙ mapped inr (typed_transactions.cases.read k (strict_view_of p))
-    ∙ ap numbered (cond-false (k == 1) _ _ (other_type k 1 AccessListPayload none refl)) ∙ mapped inr _
-    ∙ ap numbered (cond-false (k == 2) _ _ (other_type k 2 FeeMarketPayload none refl)) ∙ mapped inr _
-    ∙ ap numbered (cond-false (k == 3) _ _ (other_type k 3 BlobPayload none refl)) ∙ mapped inr _
-    ∙ ap numbered (cond-false (k == 4) _ _ (other_type k 4 SetCodePayload none refl))
+typed_is : (k : ℕ) (p : List ℕ) → begins_as_list (k ∷ p) ≡ false → transaction_result (k ∷ p) ≡ of_type (record_of_type k) (strict_view_of p)
+typed_is k p low =
+    let v = strict_view_of p in
+    ap numbered (cond-false (begins_as_list (k ∷ p)) _ _ low) ∙ mapped inr (typed_transactions.cases.read k v)
+    ∙ first_type (k == 1) AccessListPayload _ v (signed_access_list_transaction.reading.read v) _ refl
+    (first_type (k == 2) FeeMarketPayload _ v (signed_fee_market_transaction.reading.read v) _ refl
+    (first_type (k == 3) BlobPayload _ v (signed_blob_transaction.reading.read v) _ refl (last_type (k == 4) v)))
 
 module _ (b : List ℕ) (old new : List RlpItem) (old_type type count status : ℕ) where
   abbrev Answered : Type 0
@@ -115,112 +87,69 @@ module _ (b : List ℕ) (old new : List RlpItem) (old_type type count status : �
     pub typed_answer : (r : Record) → record_of_type k ≡ Some r → type ≡ k → IsRecordRead r 1 p old new count status (record_result r (strict_view_of p))
         → Answered
     typed_answer r known is read = typed k p r whole known is
-        (subst (IsRecordRead r 1 p old new count status) (sym (ap transaction_result whole ∙ typed_is k p r known)) read)
+        (subst (IsRecordRead r 1 p old new count status) (sym (ap transaction_result whole ∙ typed_is k p (known_low k r known) ∙ ap (λ o. of_type o (strict_view_of p)) known)) read)
 
     pub unknown_answer : begins_as_list b ≡ false → record_of_type k ≡ None → type ≡ old_type → count ≡ 0 → status ≡ 16 → Answered
     unknown_answer low none same number done = unknown k p whole low none
-        (ap transaction_result whole ∙ unknown_is k p (ap begins_as_list (sym whole) ∙ low) none) same number done
+        (ap transaction_result whole ∙ typed_is k p (ap begins_as_list (sym whole) ∙ low) ∙ ap (λ o. of_type o (strict_view_of p)) none) same number done
 
 -- ---- found exactly where the codec reads
 
-other_not_found : (n status : ℕ) → status ≡ n → n ≢ 0 → n ≢ 13 → ¬ IsFound status
-other_not_found n status is some more (inl ok) = some (sym is ∙ ok)
-other_not_found n status is some more (inr full) = more (sym is ∙ full)
-
-neither : {P Q : Type 0} → ¬ P → ¬ Q → P ↔ Q
-neither p q = (λ x. absurd (p x), λ x. absurd (q x))
-
-not_read : (e : ℕ × Fault) → ¬ IsOk (let r : Result ⊤ (ℕ × Fault) = Err e in r)
-not_read e ok = let no : ⊥ = cc in no
-
-pub record_exact : (r : Record) (place : ℕ) (b : List ℕ) (old new : List RlpItem) (count status : ℕ) (a : Result ⊤ (ℕ × Fault))
-    → IsRecordRead r place b old new count status a → IsFound status ↔ IsOk a
-record_exact r place b old new count status (Ok x) (many, room) = (λ found. refl, λ ok. ⊎_elim (λ h. inl h.1) (λ h. inr h.1) room)
-record_exact r place b old new count status (Err e) (is, number) = neither (faulty_not_found e.1 status is) (not_read e)
-
 pub transaction_exact : (b : List ℕ) (old new : List RlpItem) (old_type type count status : ℕ) (a : Result ⊤ (ℕ × Fault))
     → IsTransactionRead b old new old_type type count status a → IsFound status ↔ IsOk a
-transaction_exact b old new old_type type count status a (legacy begins is read) = record_exact Legacy 0 b old new count status a read
-transaction_exact b old new old_type type count status a (typed k p r whole known is read) = record_exact r 1 p old new count status a read
-transaction_exact b old new old_type type count status a (unknown k p whole begins none fault is number done) =
-    neither (other_not_found 16 status done (omega arith) (omega arith)) (λ ok. not_read (0, custom unknown_type) (subst IsOk fault ok))
-transaction_exact b old new old_type type count status a (nothing none fault is number done) =
-    neither (other_not_found 2 status done (omega arith) (omega arith)) (λ ok. not_read (0, is_too_short) (subst IsOk fault ok))
+transaction_exact b old new old_type type count status a read = grind (arith, number_within)
 
 -- ---- what the codecs write
 
-module _ (r : Record) (place : ℕ) (xs : List Item) (b : List ℕ) (short : length b < 2 ^ 64) (is : b ≡ encoding (list_of xs)) where
+numbered_value : {M : Type 0} (a : Answer M Fault) (x : M) → a.result ≡ Ok x → numbered a ≡ Ok tt
+numbered_value a x is = ap (λ r. map_fault (λ e. (number_of a.path, e)) (without_value r)) is
+
+module _ (xs : List Item) (short : length (encoding (list_of xs)) < 2 ^ 64) where
   sized : IsSized (list_of xs)
-  sized = whole_sized (list_of xs) b short is
+  sized = whole_sized (list_of xs) (encoding (list_of xs)) short refl
 
-  pub record_written : (old new : List RlpItem) (count status : ℕ) (a : Result ⊤ (ℕ × Fault)) → a ≡ Ok tt → IsRecordRead r place b old new count status a
-      → ArePlaced place (encoding (list_of xs)) (fields_in (list_of xs)) old new count status
-  record_written old new count status a fine read =
-      subst (λ c. ArePlaced place c (fields_in (list_of xs)) old new count status) is
-      (subst (λ fs. ArePlaced place b fs old new count status) (strict_items xs b sized is ∙ ap (map encoding) (sym (listed_from xs)))
-      (subst (IsRecordRead r place b old new count status) fine read))
+  -- the items of a list's encoding
+  fields_are : items (encoding (list_of xs)) ≡ fields_in (list_of xs)
+  fields_are = strict_items xs (encoding (list_of xs)) sized refl ∙ ap (map encoding) (sym (listed_from xs))
 
-  pub begins : begins_as_list b ≡ true
-  begins = (list_shape xs b sized ([], is ∙ sym (append-nil (encoding (list_of xs))))).0
+  begins : begins_as_list (encoding (list_of xs)) ≡ true
+  begins = (list_shape xs (encoding (list_of xs)) sized ([], sym (append-nil (encoding (list_of xs))))).0
 
-pub header_written : (h : BlockHeader) (b : List ℕ) (old new : List RlpItem) (count status : ℕ) → length b < 2 ^ 64 → header.Fits h
-    → b ≡ encoding (header.item h) → IsRecordRead Header 0 b old new count status (numbered (header.reading.read (strict_view_of b)))
-    → ArePlaced 0 (encoding (header.item h)) (fields_in (header.item h)) old new count status
-header_written h b old new count status short fit is =
-    record_written Header 0 (header_fields.items h) b short is old new count status _
-    (read_back (header.reading.read (strict_view_of b)) (header.reading.seen h) ((header.reads_strictly.back true).back b h short fit is))
+module _ (old new : List RlpItem) (count status : ℕ) where
+  abbrev Placed : ℕ → Item → Type 0
+  Placed place x = ArePlaced place (encoding x) (fields_in x) old new count status
 
-module _ (b : List ℕ) (old new : List RlpItem) (old_type type count status : ℕ) (short : length b < 2 ^ 64)
-    (read : IsTransactionRead b old new old_type type count status (transaction_result b)) where
-  abbrev Placed : ℕ → ℕ → Item → Type 0
-  Placed k place x = (type ≡ k) × ArePlaced place (encoding x) (fields_in x) old new count status
+  pub header_written : (h : BlockHeader) (b : List ℕ) → length b < 2 ^ 64 → header.Fits h → b ≡ encoding (header.item h)
+      → IsRecordRead Header 0 b old new count status (numbered (header.reading.read (strict_view_of b))) → Placed 0 (header.item h)
+  header_written h b short fit is read =
+      let fine = numbered_value (header.reading.read (strict_view_of b)) (header.reading.seen h) ((header.reads_strictly.back true).back b h short fit is) in
+      let fields = fields_are (header_fields.items h) (subst (λ d. length d < 2 ^ 64) is short) in
+      let found : ArePlaced 0 b (items b) old new count status = subst (IsRecordRead Header 0 b old new count status) fine read in
+      subst (λ fs. ArePlaced 0 (encoding (header.item h)) fs old new count status) fields (subst (λ d. ArePlaced 0 d (items d) old new count status) is found)
 
-  legacy_written : (xs : List Item) → b ≡ encoding (list_of xs) → record_result Legacy (strict_view_of b) ≡ Ok tt → Placed 0 0 (list_of xs)
-  legacy_written xs is fine = by (transaction_result b) (legacy_is b (begins Legacy 0 xs b short is) ∙ fine) read
-    where
-      by : (a : Result ⊤ (ℕ × Fault)) → a ≡ Ok tt → IsTransactionRead b old new old_type type count status a → Placed 0 0 (list_of xs)
-      by a fine (legacy kind same read) = (same, record_written Legacy 0 xs b short is old new count status a fine read)
-      by a fine (typed k p r whole known same read) =
-          let high : nat_le 0xc0 k ≡ true = sym (ap begins_as_list whole) ∙ begins Legacy 0 xs b short is in
-          let low = known_low k r known in absurd (let no : ⊥ = cc in no)
-      by a fine (unknown k p whole low none fault same number done) = absurd (let no : ⊥ = cc in no)
-      by a fine (nothing none fault same number done) = absurd (let no : ⊥ = cc in no)
+  module _ (old_type type : ℕ) where
+    abbrev Reads : List ℕ → Result ⊤ (ℕ × Fault) → Type 0
+    Reads b a = IsTransactionRead b old new old_type type count status a
 
-  typed_written : (k : ℕ) (r : Record) (xs : List Item) → b ≡ k ∷ encoding (list_of xs) → record_of_type k ≡ Some r
-      → record_result r (strict_view_of (encoding (list_of xs))) ≡ Ok tt → Placed k 1 (list_of xs)
-  typed_written k r xs is known fine = by (transaction_result b) (ap transaction_result is ∙ typed_is k (encoding (list_of xs)) r known ∙ fine) read
-    where
-      by : (a : Result ⊤ (ℕ × Fault)) → a ≡ Ok tt → IsTransactionRead b old new old_type type count status a → Placed k 1 (list_of xs)
-      by a fine (legacy kind same read) = let low = known_low k r known in let first = ap begins_as_list is in absurd (let no : ⊥ = cc in no)
-      by a fine (typed l p s whole also same read) =
-          let bytes : l ∷ p ≡ k ∷ encoding (list_of xs) = sym whole ∙ is in
-          let first : l ≡ k = cc in
-          let rest : p ≡ encoding (list_of xs) = cc in
-          (same ∙ first, record_written s 1 xs p (omega (arith, short, ap length whole)) rest old new count status a fine read)
-      by a fine (unknown l p whole low none fault same number done) = absurd (let no : ⊥ = cc in no)
-      by a fine (nothing none fault same number done) = absurd (let no : ⊥ = cc in no)
+    -- the answers for a list, and for the byte of a type and a list
+    list_read : (xs : List Item) → length (encoding (list_of xs)) < 2 ^ 64 → Reads (encoding (list_of xs)) (Ok tt) → (type ≡ 0) × Placed 0 (list_of xs)
+    list_read xs short read = grind (arith, nat_tests, fields_are xs short, begins xs short)
 
-  -- the encoding of a payload is shorter than the bytes
-  inside : (k : ℕ) (e : List ℕ) → b ≡ k ∷ e → length e < 2 ^ 64
-  inside k e is = omega (arith, short, ap length is)
+    typed_read : (k : ℕ) (xs : List Item) → k < 0xc0 → length (encoding (list_of xs)) < 2 ^ 64 → Reads (k ∷ encoding (list_of xs)) (Ok tt)
+        → (type ≡ k) × Placed 1 (list_of xs)
+    typed_read k xs low short read = grind (arith, nat_tests, fields_are xs short)
 
-  pub transaction_written : (t : Transaction) → transaction.Fits t → b ≡ bytes_alone (transaction.item t) → Placed (type_of t) (place_of t) (fields_of t)
-  transaction_written (of_legacy t) fit is =
-      legacy_written (signed_legacy_transaction_fields.items t) is
-      (read_back (signed_legacy_transaction.reading.read (strict_view_of b)) _ ((signed_legacy_transaction.reads_strictly.back true).back b t short fit is))
-  transaction_written (of_access_list t) fit is =
-      let c = signed_access_list_transaction in
-      typed_written 1 AccessListPayload ((signed_fields access_list_transaction_fields refl truth_value).items t) is refl (read_back (c.reading.read (strict_view_of (encoding (c.item t)))) _
-      ((c.reads_strictly.back true).back (encoding (c.item t)) t (inside 1 (encoding (c.item t)) is) fit refl))
-  transaction_written (of_fee_market t) fit is =
-      let c = signed_fee_market_transaction in
-      typed_written 2 FeeMarketPayload ((signed_fields fee_market_transaction_fields refl truth_value).items t) is refl (read_back (c.reading.read (strict_view_of (encoding (c.item t)))) _
-      ((c.reads_strictly.back true).back (encoding (c.item t)) t (inside 2 (encoding (c.item t)) is) fit refl))
-  transaction_written (of_blob t) fit is =
-      let c = signed_blob_transaction in
-      typed_written 3 BlobPayload ((signed_fields blob_transaction_fields refl truth_value).items t) is refl (read_back (c.reading.read (strict_view_of (encoding (c.item t)))) _
-      ((c.reads_strictly.back true).back (encoding (c.item t)) t (inside 3 (encoding (c.item t)) is) fit refl))
-  transaction_written (of_set_code t) fit is =
-      let c = signed_set_code_transaction in
-      typed_written 4 SetCodePayload ((signed_fields set_code_transaction_fields refl truth_value).items t) is refl (read_back (c.reading.read (strict_view_of (encoding (c.item t)))) _
-      ((c.reads_strictly.back true).back (encoding (c.item t)) t (inside 4 (encoding (c.item t)) is) fit refl))
+    written_by : (t : Transaction) → length (bytes_alone (transaction.item t)) < 2 ^ 64 → Reads (bytes_alone (transaction.item t)) (Ok tt)
+        → (type ≡ type_of t) × Placed (place_of t) (fields_of t)
+    written_by (of_legacy t) short read = list_read (signed_legacy_transaction_fields.items t) short read
+    written_by (of_access_list t) short read = typed_read 1 ((signed_fields access_list_transaction_fields refl truth_value).items t) (omega arith) (omega (arith, short)) read
+    written_by (of_fee_market t) short read = typed_read 2 ((signed_fields fee_market_transaction_fields refl truth_value).items t) (omega arith) (omega (arith, short)) read
+    written_by (of_blob t) short read = typed_read 3 ((signed_fields blob_transaction_fields refl truth_value).items t) (omega arith) (omega (arith, short)) read
+    written_by (of_set_code t) short read = typed_read 4 ((signed_fields set_code_transaction_fields refl truth_value).items t) (omega arith) (omega (arith, short)) read
+
+    pub transaction_written : (t : Transaction) (b : List ℕ) → length b < 2 ^ 64 → transaction.Fits t → b ≡ bytes_alone (transaction.item t)
+        → Reads b (transaction_result b) → (type ≡ type_of t) × Placed (place_of t) (fields_of t)
+    transaction_written t b short fit is read =
+        let few : length (bytes_alone (transaction.item t)) < 2 ^ 64 = subst (λ d. length d < 2 ^ 64) is short in
+        let fine = numbered_value (transaction_alone b) (transaction.reading.seen t) (ap (λ d. (transaction_alone d).result) is ∙ transaction_strings.back t fit few) in
+        written_by t few (subst (λ d. Reads d (Ok tt)) is (subst (Reads b) fine read))

@@ -5,7 +5,8 @@ use Rattle.rlp_reading.specs.declared.error.DecoderError.{DecoderError}
 use Rattle.rlp_reading.specs.declared.header.PayloadInfo.{PayloadInfo}
 use Rattle.rlp_reading.specs.Format.Framing.{IsFramedItem, fault, framing, value, begins_as_list, split, after_items, fault_of_some, strict_fault, strict_list_fault}
 use Rattle.rlp_reading.proofs.Format.Splits.{split-nil}
-use Rattle.rlp_reading.proofs.Format.StrictLists.{after_items-next, after_items-nil, after_items-none, fault_of_some-some, strict_whole, value-items}
+use Rattle.rlp_reading.proofs.Format.StrictLists.{after_items-next, after_items-nil, after_items-none, fault_of_some-some, some_bytes}
+use Rattle.rlp_reading.proofs.Format.StrictLists.{strict_not_begun, strict_not_whole, strict_whole, value-items}
 use Rattle.rlp_c.specs.declared.item.RlpItem.{RlpItem}
 use Rattle.rlp_c.specs.Rows.{ArePlaced, IsItemized, header_length, row, row_by, rows_at}
 use Rattle.rlp_c.specs.Status.{fault_status}
@@ -148,3 +149,7 @@ module _ (place : ℕ) (b q : List ℕ) (h : PayloadInfo) (kind : true ≡ begin
 pub not_itemized : (place : ℕ) (b : List ℕ) (old new : List RlpItem) (count status : ℕ) (e : DecoderError) → strict_list_fault b ≡ Some e
     → status ≡ fault_status e → IsItemized place b old new count count status (strict_list_fault b)
 not_itemized place b old new count status e fault is = subst (IsItemized place b old new count count status) (sym fault) (is, refl)
+
+pub ruleset payload_split = (splitting_none, splitting_fault, some_bytes)
+
+pub ruleset list_split = (not_itemized, strict_not_begun, strict_not_whole, strict_whole)

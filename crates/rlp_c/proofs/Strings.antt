@@ -44,3 +44,5 @@ no_row b d e fits stands found =
     let p = string_placed b d fits stands in
     let both : Err e ≡ Ok (payload_info p.h (length d)) = found ∙ p.has in
     absurd (let no : ⊥ = cc in no)
+
+pub ruleset rows_of_strings = (row_framed, row_there)

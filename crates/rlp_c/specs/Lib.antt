@@ -10,8 +10,8 @@ pub mod Flat
 pub mod Written
 -- the tree that rows describe
 pub mod Tree
--- the records of Ethereum
-pub mod Kinds
+-- readings that keep nothing
+pub mod Forgotten
 -- what the codecs of records read
 pub mod Fields
 -- the answers for transactions and headers

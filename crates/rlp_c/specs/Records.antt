@@ -5,12 +5,20 @@ use Rattle.rlp_codec.specs.Form.{Fault, custom, is_too_short}
 use Rattle.rlp_records.specs.Alone.{unknown_type}
 use Rattle.rlp_transactions.specs.Transaction.{transaction_alone}
 use Rattle.rlp_c.specs.declared.item.RlpItem.{RlpItem}
-use Rattle.rlp_c.specs.declared.records.kinds.Record.{Record}
-use Rattle.rlp_c.specs.declared.records.kinds.Record.TheVariants.{Legacy, AccessListPayload, FeeMarketPayload, BlobPayload, SetCodePayload}
+use Rattle.rlp_c.specs.declared.records.fields.Record.{Record}
+use Rattle.rlp_c.specs.declared.records.fields.Record.TheVariants.{Legacy, AccessListPayload, FeeMarketPayload, BlobPayload, SetCodePayload, Header}
 use Rattle.rlp_c.specs.Fields.{numbered}
-use Rattle.rlp_c.specs.Kinds.{most_fields}
 use Rattle.rlp_c.specs.Rows.{ArePlaced}
 use Rattle.rlp_c.specs.Status.{fault_number}
+
+-- the most fields that a record has
+abbrev pub most_fields : Record → ℕ
+most_fields Legacy = 9
+most_fields AccessListPayload = 11
+most_fields FeeMarketPayload = 12
+most_fields BlobPayload = 14
+most_fields SetCodePayload = 13
+most_fields Header = 21
 
 -- The number of the field that has a fault. If the number of fields is wrong, it is the number of the first that is missing, or of the first after the `most` fields
 -- that a record may have.

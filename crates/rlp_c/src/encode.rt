@@ -49,6 +49,7 @@ pub extern "C" fn rlp_encode_u64(number: u64, out: &mut [u8], count: &mut usize)
 
 /// Writes the encoding of a byte string.
 #[inline(always)]
+#[tactic(auto, using(rlp_reading::proofs::Trees::Needless::low_again, rlp_reading::proofs::Trees::Needless::high_written))]
 fn write_string(bytes: &[u8], out: &mut [u8], count: &mut usize) -> u32
     ensures { IsWritten (encoding (string bytes.now)) out.old out.new count.old count.new result }
 {

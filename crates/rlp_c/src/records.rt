@@ -1,5 +1,5 @@
 //! The records of Ethereum: where their fields are.
 
 mod calls;
-pub(crate) mod fields;
-mod kinds;
+mod fields;
+mod unkept;

@@ -24,6 +24,7 @@ pub extern "C" fn rlp_split(bytes: &[u8], out: &mut [RlpItem], count: &mut usize
 }
 
 /// Does what [`rlp_split`] does, for a list that begins at this place.
+#[tactic(auto, using(crate::proofs::Splitting::list_split))]
 pub(crate) fn split_list(bytes: &[u8], place: usize, out: &mut [RlpItem], count: &mut usize) -> u32
     requires { place + length bytes.now < 2 ^ 64 }
     ensures { IsItemized place bytes.now out.old out.new count.old count.new result
@@ -51,6 +52,7 @@ pub(crate) fn split_list(bytes: &[u8], place: usize, out: &mut [RlpItem], count:
 
 /// Writes a row for each item of a payload that begins at this place, and returns their number, or
 /// the fault of what follows the items.
+#[tactic(auto, using(crate::proofs::Splitting::payload_split))]
 fn split_payload(payload: &[u8], place: usize, out: &mut [RlpItem]) -> Result<usize, DecoderError>
     requires { place + length payload.now < 2 ^ 64 }
     ensures fault { MatchResult result (λ _. fault_of_some (after_items payload.now) ≡ None)

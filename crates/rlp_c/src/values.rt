@@ -1,17 +1,17 @@
 //! Values that are read from one string.
 
-ghost use Rattle.std.specs.Prelude.{◌≡◌};
+ghost use Rattle.std.specs.Prelude.{◌≡◌, Err, MatchResult, Ok, OnOk};
+ghost use Rattle.std.specs.Int.Digits.{number_from_digits};
 ghost use Rattle.rlp_reading.specs.Format.Framing.{IsString};
 ghost use Rattle.rlp_format.specs.Format.Encoding.{big_endian};
-ghost use Rattle.rlp_codec.specs.Form.{map_value, string_of};
+ghost use Rattle.rlp_codec.specs.Form.{fault_of, map_value, number_of, string_of};
 ghost use Rattle.rlp.specs.Codec.{number};
 ghost use Rattle.rlp_c.specs.Answers.{Answers, view_as};
 ghost use Rattle.rlp_c.specs.Rows.{IsRowOfString, payload_at};
 
 use crate::item::RlpItem;
-use crate::records::fields::check_number;
 use crate::status::{RLP_OK, status_of};
-use rlp::{Decodable, PayloadInfo, Rlp};
+use rlp::{Decodable, DecoderError, PayloadInfo, Rlp};
 use std::alloc::Global;
 
 /// A view of the bytes, strict or lenient.
@@ -43,6 +43,7 @@ pub extern "C" fn rlp_decode_u64(alloc: Global, bytes: &[u8], strict: bool, out:
 /// Finds the digits of a number of at most `width` bytes, the greatest first and without leading
 /// zeros: the row is the one that [`rlp_decode_bytes`] finds. If strict, nothing may follow it.
 #[unsafe(no_mangle)]
+#[tactic(auto, using(crate::proofs::Statuses::number_within))]
 pub extern "C" fn rlp_decode_uint(
     bytes: &[u8],
     strict: bool,
@@ -67,8 +68,31 @@ pub extern "C" fn rlp_decode_uint(
     }
 }
 
+/// Tests the digits of a number, which may have at most `most` bytes.
+#[tactic(auto, using(rlp_format::proofs::Lemmas::Digits::none_is_zero, rlp_reading::proofs::Lemmas::Numbers::leading_is_value))]
+fn check_number(digits: &[u8], most: usize) -> Result<(), DecoderError>
+    ensures number { MatchResult result
+        (λ _. number_of most digits.now ≡ Ok (number_from_digits 256 digits.now))
+        (λ e. number_of most digits.now ≡ Err (fault_of e)) }
+    ensures digits { OnOk result (big_endian (number_from_digits 256 digits.now) ≡ digits.now) }
+{
+    if digits.len() > most {
+        return Err(DecoderError::RlpIsTooBig);
+    }
+    match digits {
+        [] => Ok(()),
+        [first, ..] => {
+            if *first == 0 {
+                return Err(DecoderError::RlpInvalidIndirection);
+            }
+            Ok(())
+        }
+    }
+}
+
 /// Finds a byte string: the row is the one that `rlp_header` finds. If strict, nothing may follow it.
 #[unsafe(no_mangle)]
+#[tactic(auto, using(crate::proofs::Statuses::number_within))]
 pub extern "C" fn rlp_decode_bytes(bytes: &[u8], strict: bool, out: &mut RlpItem) -> u32
     ensures answer { Answers (λ r. payload_at bytes.now r) (string_of (view_as strict bytes.now))
         result out.old out.new }
@@ -84,6 +108,7 @@ pub extern "C" fn rlp_decode_bytes(bytes: &[u8], strict: bool, out: &mut RlpItem
 }
 
 /// The row of the string that the bytes begin with.
+#[tactic(auto, using(crate::proofs::Strings::rows_of_strings))]
 fn string_row(bytes: &[u8], string: &[u8]) -> RlpItem
     requires { IsString bytes.now string.now }
     ensures row { IsRowOfString bytes.now result }

@@ -22,3 +22,5 @@ pub mod KindLaws
 pub mod FirstItemLaws
 -- each view gives one value or has one fault
 pub mod Readings
+-- where readings have faults
+pub mod PathLaws

@@ -1,5 +1,5 @@
 -- How the values of types are written as items and read from views.
-use Rattle.std.specs.Prelude.{◌≡◌, ⊤, ℕ, zero, suc, ◌+◌, ◌-◌, ◌%◌, ◌==◌, ◌&&◌, ◌||◌, nat_lt, nat_le, Bool, true, false, if◌then◌else◌, All, IfSome, IsUtf8}
+use Rattle.std.specs.Prelude.{◌≡◌, ⊤, ℕ, zero, suc, ◌+◌, ◌-◌, ◌%◌, ◌==◌, ◌&&◌, ◌||◌, nat_lt, nat_le, Bool, true, false, if◌then◌else◌, All, IfSome, IsSomeAnd, IsUtf8}
 use Rattle.std.specs.Prelude.{List, [], ◌∷◌, ◌++◌, length, map, codes, Option, Some, None, option_map, Result, Ok, Err}
 use Rattle.std.specs.Str.{bytes_eq, is_utf8}
 use Rattle.std.specs.Int.Digits.{number_from_digits}
@@ -96,6 +96,24 @@ path_by (Err e) path next = path
 -- The answer that f gives for the value, or the answer a if a has a fault.
 abbrev pub go_on : {A B E : Type 0} → Answer A E → (A → Answer B E) → Answer B E
 go_on a f = record { result = and_then a.result (λ x. (f x).result); path = path_by a.result a.path (λ x. (f x).path) }
+
+-- The path, unless the result is a value.
+abbrev pub path_unless : {A E : Type 0} → Result A E → Path → Option Path
+path_unless (Ok x) path = None
+path_unless (Err e) path = Some path
+
+-- The path of the fault of an answer, or `None` for a value.
+abbrev pub fault_path : {M E : Type 0} → Answer M E → Option Path
+fault_path a = path_unless a.result a.path
+
+-- A list of places became the list with the path of the fault of the answer after it. If the answer is a value, the list may be anything.
+abbrev pub IsPlaced : {M E : Type 0} → Answer M E → Path → Path → Type 0
+IsPlaced a old new = IfSome (fault_path a) (λ path. new ≡ old ++ path)
+
+-- The answer has a fault or not, as the Bool says; and a list of places became the list with the path of the fault after it, or stayed as it was.
+abbrev pub IsFound : {M E : Type 0} → Bool → Answer M E → Path → Path → Type 0
+IsFound true a old new = IsSomeAnd (fault_path a) (λ path. new ≡ old ++ path)
+IsFound false a old new = (fault_path a ≡ None) × (new ≡ old)
 
 -- ---- what views give
 

@@ -4,7 +4,8 @@
 ghost use Rattle.rlp_eth.specs.Announcements.{new_block_hash, new_block_hashes, new_pooled_transaction_hashes, block_range_update, new_block, transactions};
 
 use rlp::{
-    Decodable, DecoderError, Each, Encodable, ListOf, Rlp, RlpStream, RoundTrip, StrictRead, Uint,
+    Decodable, DecodePlaced, DecoderError, Each, Encodable, ListField, ListOf, Rlp, RlpStream,
+    RoundTrip, StrictRead, Uint, put_list_path,
 };
 use rlp_ethereum::{AnyTransaction, Block, Hash};
 use std::alloc::{AllocError, Global};
@@ -36,6 +37,12 @@ impl Decodable for NewBlockHash {
     }
 }
 
+impl DecodePlaced for NewBlockHash {
+    fn put_path(alloc: Global, rlp: &Rlp<'_>, path: &mut Vec<usize>) -> Result<(), AllocError> {
+        rlp::put_struct_path!(alloc, rlp, path, Hash, u64)
+    }
+}
+
 impl RoundTrip for NewBlockHash {
     ghost round_trip = { new_block_hash.reads_back };
 }
@@ -64,6 +71,12 @@ impl Decodable for NewBlockHashes {
     fn decode(alloc: Global, rlp: &Rlp<'_>) -> Result<NewBlockHashes, DecoderError> {
         let blocks = rlp.as_list(alloc)?;
         Ok(NewBlockHashes(blocks))
+    }
+}
+
+impl DecodePlaced for NewBlockHashes {
+    fn put_path(alloc: Global, rlp: &Rlp<'_>, path: &mut Vec<usize>) -> Result<(), AllocError> {
+        put_list_path::<NewBlockHash>(alloc, rlp, path)
     }
 }
 
@@ -110,6 +123,12 @@ impl Decodable for NewPooledTransactionHashes {
                 hashes: [..]
             }
         )
+    }
+}
+
+impl DecodePlaced for NewPooledTransactionHashes {
+    fn put_path(alloc: Global, rlp: &Rlp<'_>, path: &mut Vec<usize>) -> Result<(), AllocError> {
+        rlp::put_struct_path!(alloc, rlp, path, Vec<u8>, ListField<u64>, ListField<Hash>)
     }
 }
 
@@ -164,6 +183,12 @@ impl Decodable for BlockRangeUpdate {
     }
 }
 
+impl DecodePlaced for BlockRangeUpdate {
+    fn put_path(alloc: Global, rlp: &Rlp<'_>, path: &mut Vec<usize>) -> Result<(), AllocError> {
+        rlp::put_struct_path!(alloc, rlp, path, u64, u64, Hash)
+    }
+}
+
 impl RoundTrip for BlockRangeUpdate {
     ghost round_trip = { block_range_update.reads_back };
 }
@@ -206,6 +231,12 @@ impl Decodable for NewBlock {
     }
 }
 
+impl DecodePlaced for NewBlock {
+    fn put_path(alloc: Global, rlp: &Rlp<'_>, path: &mut Vec<usize>) -> Result<(), AllocError> {
+        rlp::put_struct_path!(alloc, rlp, path, Block, Uint<32>)
+    }
+}
+
 impl RoundTrip for NewBlock {
     ghost round_trip = { new_block.reads_back };
 }
@@ -235,6 +266,12 @@ impl Decodable for Transactions {
     fn decode(alloc: Global, rlp: &Rlp<'_>) -> Result<Transactions, DecoderError> {
         let transactions = rlp.as_list(alloc)?;
         Ok(Transactions(transactions))
+    }
+}
+
+impl DecodePlaced for Transactions {
+    fn put_path(alloc: Global, rlp: &Rlp<'_>, path: &mut Vec<usize>) -> Result<(), AllocError> {
+        put_list_path::<AnyTransaction>(alloc, rlp, path)
     }
 }
 

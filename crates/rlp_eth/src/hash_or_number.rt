@@ -2,7 +2,9 @@
 
 ghost use Rattle.rlp_eth.specs.HashOrNumber.{hash_or_number};
 
-use rlp::{Decodable, DecoderError, Encodable, Rlp, RlpStream, RoundTrip, StrictRead};
+use rlp::{
+    Decodable, DecodePlaced, DecoderError, Encodable, Rlp, RlpStream, RoundTrip, StrictRead,
+};
 use rlp_ethereum::Hash;
 use std::alloc::{AllocError, Global};
 
@@ -42,6 +44,12 @@ impl Decodable for HashOrNumber {
             Ok(hash) => Ok(HashOrNumber::Hash(hash)),
             Err(_) => Ok(HashOrNumber::Number(rlp.as_val(alloc)?)),
         }
+    }
+}
+
+impl DecodePlaced for HashOrNumber {
+    fn put_path(_alloc: Global, _rlp: &Rlp<'_>, _path: &mut Vec<usize>) -> Result<(), AllocError> {
+        Ok(())
     }
 }
 

@@ -2,7 +2,10 @@
 
 ghost use Rattle.rlp_eth.specs.Receipts.{block_receipts, receipts};
 
-use rlp::{Decodable, DecoderError, Each, Encodable, Rlp, RlpStream, RoundTrip, StrictRead};
+use rlp::{
+    Decodable, DecodePlaced, DecoderError, Each, Encodable, Rlp, RlpStream, RoundTrip, StrictRead,
+    put_list_path,
+};
 use rlp_ethereum::TypedReceipt;
 use std::alloc::{AllocError, Global};
 
@@ -26,6 +29,12 @@ impl Decodable for BlockReceipts {
     fn decode(alloc: Global, rlp: &Rlp<'_>) -> Result<BlockReceipts, DecoderError> {
         let receipts = rlp.as_list(alloc)?;
         Ok(BlockReceipts(receipts))
+    }
+}
+
+impl DecodePlaced for BlockReceipts {
+    fn put_path(alloc: Global, rlp: &Rlp<'_>, path: &mut Vec<usize>) -> Result<(), AllocError> {
+        put_list_path::<TypedReceipt>(alloc, rlp, path)
     }
 }
 
@@ -58,6 +67,12 @@ impl Decodable for Receipts {
     fn decode(alloc: Global, rlp: &Rlp<'_>) -> Result<Receipts, DecoderError> {
         let blocks = rlp.as_list(alloc)?;
         Ok(Receipts(blocks))
+    }
+}
+
+impl DecodePlaced for Receipts {
+    fn put_path(alloc: Global, rlp: &Rlp<'_>, path: &mut Vec<usize>) -> Result<(), AllocError> {
+        put_list_path::<BlockReceipts>(alloc, rlp, path)
     }
 }
 

@@ -3,7 +3,8 @@
 ghost use Rattle.rlp_eth.specs.Receipts69.{block_receipts69, receipt69, receipts69};
 
 use rlp::{
-    Decodable, DecoderError, Each, Encodable, ListOf, Rlp, RlpStream, RoundTrip, StrictRead,
+    Decodable, DecodePlaced, DecoderError, Each, Encodable, ListField, ListOf, Rlp, RlpStream,
+    RoundTrip, StrictRead, put_list_path,
 };
 use rlp_ethereum::{Log, ReceiptStatus};
 use std::alloc::{AllocError, Global};
@@ -55,6 +56,12 @@ impl Decodable for Receipt69 {
     }
 }
 
+impl DecodePlaced for Receipt69 {
+    fn put_path(alloc: Global, rlp: &Rlp<'_>, path: &mut Vec<usize>) -> Result<(), AllocError> {
+        rlp::put_struct_path!(alloc, rlp, path, u8, ReceiptStatus, u64, ListField<Log>)
+    }
+}
+
 impl RoundTrip for Receipt69 {
     ghost round_trip = { receipt69.reads_back };
 }
@@ -83,6 +90,12 @@ impl Decodable for BlockReceipts69 {
     fn decode(alloc: Global, rlp: &Rlp<'_>) -> Result<BlockReceipts69, DecoderError> {
         let receipts = rlp.as_list(alloc)?;
         Ok(BlockReceipts69(receipts))
+    }
+}
+
+impl DecodePlaced for BlockReceipts69 {
+    fn put_path(alloc: Global, rlp: &Rlp<'_>, path: &mut Vec<usize>) -> Result<(), AllocError> {
+        put_list_path::<Receipt69>(alloc, rlp, path)
     }
 }
 
@@ -115,6 +128,12 @@ impl Decodable for Receipts69 {
     fn decode(alloc: Global, rlp: &Rlp<'_>) -> Result<Receipts69, DecoderError> {
         let blocks = rlp.as_list(alloc)?;
         Ok(Receipts69(blocks))
+    }
+}
+
+impl DecodePlaced for Receipts69 {
+    fn put_path(alloc: Global, rlp: &Rlp<'_>, path: &mut Vec<usize>) -> Result<(), AllocError> {
+        put_list_path::<BlockReceipts69>(alloc, rlp, path)
     }
 }
 

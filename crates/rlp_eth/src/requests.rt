@@ -3,7 +3,10 @@
 ghost use Rattle.rlp_eth.specs.Requests.{get_block_headers, block_headers, get_block_bodies, block_bodies, get_pooled_transactions, get_receipts, pooled_transactions};
 
 use crate::HashOrNumber;
-use rlp::{Decodable, DecoderError, Each, Encodable, Rlp, RlpStream, RoundTrip, StrictRead};
+use rlp::{
+    Decodable, DecodePlaced, DecoderError, Each, Encodable, Rlp, RlpStream, RoundTrip, StrictRead,
+    put_list_path,
+};
 use rlp_ethereum::{AnyTransaction, Body, Hash, Header};
 use std::alloc::{AllocError, Global};
 
@@ -47,6 +50,12 @@ impl Decodable for GetBlockHeaders {
     }
 }
 
+impl DecodePlaced for GetBlockHeaders {
+    fn put_path(alloc: Global, rlp: &Rlp<'_>, path: &mut Vec<usize>) -> Result<(), AllocError> {
+        rlp::put_struct_path!(alloc, rlp, path, HashOrNumber, u64, u64, bool)
+    }
+}
+
 impl RoundTrip for GetBlockHeaders {
     ghost round_trip = { get_block_headers.reads_back };
 }
@@ -75,6 +84,12 @@ impl Decodable for BlockHeaders {
     fn decode(alloc: Global, rlp: &Rlp<'_>) -> Result<BlockHeaders, DecoderError> {
         let headers = rlp.as_list(alloc)?;
         Ok(BlockHeaders(headers))
+    }
+}
+
+impl DecodePlaced for BlockHeaders {
+    fn put_path(alloc: Global, rlp: &Rlp<'_>, path: &mut Vec<usize>) -> Result<(), AllocError> {
+        put_list_path::<Header>(alloc, rlp, path)
     }
 }
 
@@ -109,6 +124,12 @@ impl Decodable for GetBlockBodies {
     }
 }
 
+impl DecodePlaced for GetBlockBodies {
+    fn put_path(alloc: Global, rlp: &Rlp<'_>, path: &mut Vec<usize>) -> Result<(), AllocError> {
+        put_list_path::<Hash>(alloc, rlp, path)
+    }
+}
+
 impl RoundTrip for GetBlockBodies {
     ghost round_trip = { get_block_bodies.reads_back };
 }
@@ -137,6 +158,12 @@ impl Decodable for BlockBodies {
     fn decode(alloc: Global, rlp: &Rlp<'_>) -> Result<BlockBodies, DecoderError> {
         let bodies = rlp.as_list(alloc)?;
         Ok(BlockBodies(bodies))
+    }
+}
+
+impl DecodePlaced for BlockBodies {
+    fn put_path(alloc: Global, rlp: &Rlp<'_>, path: &mut Vec<usize>) -> Result<(), AllocError> {
+        put_list_path::<Body>(alloc, rlp, path)
     }
 }
 
@@ -169,6 +196,12 @@ impl Decodable for GetPooledTransactions {
     fn decode(alloc: Global, rlp: &Rlp<'_>) -> Result<GetPooledTransactions, DecoderError> {
         let transactions = rlp.as_list(alloc)?;
         Ok(GetPooledTransactions(transactions))
+    }
+}
+
+impl DecodePlaced for GetPooledTransactions {
+    fn put_path(alloc: Global, rlp: &Rlp<'_>, path: &mut Vec<usize>) -> Result<(), AllocError> {
+        put_list_path::<Hash>(alloc, rlp, path)
     }
 }
 
@@ -205,6 +238,12 @@ impl Decodable for PooledTransactions {
     }
 }
 
+impl DecodePlaced for PooledTransactions {
+    fn put_path(alloc: Global, rlp: &Rlp<'_>, path: &mut Vec<usize>) -> Result<(), AllocError> {
+        put_list_path::<AnyTransaction>(alloc, rlp, path)
+    }
+}
+
 impl RoundTrip for PooledTransactions {
     ghost round_trip = { pooled_transactions.reads_back };
 }
@@ -233,6 +272,12 @@ impl Decodable for GetReceipts {
     fn decode(alloc: Global, rlp: &Rlp<'_>) -> Result<GetReceipts, DecoderError> {
         let blocks = rlp.as_list(alloc)?;
         Ok(GetReceipts(blocks))
+    }
+}
+
+impl DecodePlaced for GetReceipts {
+    fn put_path(alloc: Global, rlp: &Rlp<'_>, path: &mut Vec<usize>) -> Result<(), AllocError> {
+        put_list_path::<Hash>(alloc, rlp, path)
     }
 }
 

@@ -2,7 +2,9 @@
 
 ghost use Rattle.rlp_eth.specs.Status.{fork_hash, fork_id, status68, status69};
 
-use rlp::{Decodable, DecoderError, Encodable, Rlp, RlpStream, RoundTrip, StrictRead, Uint};
+use rlp::{
+    Decodable, DecodePlaced, DecoderError, Encodable, Rlp, RlpStream, RoundTrip, StrictRead, Uint,
+};
 use rlp_ethereum::Hash;
 use std::alloc::{AllocError, Global};
 
@@ -29,6 +31,12 @@ impl Decodable for ForkHash {
     fn decode(alloc: Global, rlp: &Rlp<'_>) -> Result<ForkHash, DecoderError> {
         let bytes = rlp.as_val(alloc)?;
         Ok(ForkHash(bytes))
+    }
+}
+
+impl DecodePlaced for ForkHash {
+    fn put_path(_alloc: Global, _rlp: &Rlp<'_>, _path: &mut Vec<usize>) -> Result<(), AllocError> {
+        Ok(())
     }
 }
 
@@ -71,6 +79,12 @@ impl Decodable for ForkId {
                 fork_next
             }
         )
+    }
+}
+
+impl DecodePlaced for ForkId {
+    fn put_path(alloc: Global, rlp: &Rlp<'_>, path: &mut Vec<usize>) -> Result<(), AllocError> {
+        rlp::put_struct_path!(alloc, rlp, path, ForkHash, u64)
     }
 }
 
@@ -133,6 +147,12 @@ impl Decodable for Status68 {
                 fork_id
             }
         )
+    }
+}
+
+impl DecodePlaced for Status68 {
+    fn put_path(alloc: Global, rlp: &Rlp<'_>, path: &mut Vec<usize>) -> Result<(), AllocError> {
+        rlp::put_struct_path!(alloc, rlp, path, u64, u64, Uint<32>, Hash, Hash, ForkId)
     }
 }
 
@@ -199,6 +219,12 @@ impl Decodable for Status69 {
                 latest_block_hash
             }
         )
+    }
+}
+
+impl DecodePlaced for Status69 {
+    fn put_path(alloc: Global, rlp: &Rlp<'_>, path: &mut Vec<usize>) -> Result<(), AllocError> {
+        rlp::put_struct_path!(alloc, rlp, path, u64, u64, Hash, ForkId, u64, u64, Hash)
     }
 }
 

@@ -6,7 +6,9 @@ ghost use Rattle.rlp.specs.Values.Value.{FitsBytes, number_item};
 ghost use Rattle.rlp.specs.Codec.{codec_of};
 ghost use Rattle.rlp_eth.specs.WithRequestId.{with_request_id, with_request_id_reading};
 
-use rlp::{Decodable, DecoderError, Encodable, Rlp, RlpStream, RoundTrip, StrictRead};
+use rlp::{
+    Decodable, DecodePlaced, DecoderError, Encodable, Rlp, RlpStream, RoundTrip, StrictRead,
+};
 use std::alloc::{AllocError, Global};
 
 /// A request or its answer, with the number that they share: the list of both fields, as in
@@ -42,6 +44,12 @@ impl<T: Decodable> Decodable for WithRequestId<T> {
                 content
             }
         )
+    }
+}
+
+impl<T: DecodePlaced> DecodePlaced for WithRequestId<T> {
+    fn put_path(alloc: Global, rlp: &Rlp<'_>, path: &mut Vec<usize>) -> Result<(), AllocError> {
+        rlp::put_struct_path!(alloc, rlp, path, u64, T)
     }
 }
 

@@ -3,7 +3,8 @@
 ghost use Rattle.rlp_ethereum.specs.Block.{block};
 
 use rlp::{
-    Decodable, DecoderError, Encodable, ListOf, Optional, Rlp, RlpStream, RoundTrip, StrictRead,
+    Decodable, DecodePlaced, DecoderError, Encodable, ListField, ListOf, Optional, OptionalField,
+    Rlp, RlpStream, RoundTrip, StrictRead,
 };
 use rlp_headers::{Header, Withdrawals};
 use rlp_transactions::AnyTransaction;
@@ -51,6 +52,15 @@ impl Decodable for Block {
                 ommers: [..],
                 withdrawals: ?
             }
+        )
+    }
+}
+
+impl DecodePlaced for Block {
+    fn put_path(alloc: Global, rlp: &Rlp<'_>, path: &mut Vec<usize>) -> Result<(), AllocError> {
+        rlp::put_struct_path!(
+            alloc, rlp, path, Header, ListField<AnyTransaction>, ListField<Header>;
+            OptionalField<Withdrawals>
         )
     }
 }

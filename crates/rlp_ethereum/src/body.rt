@@ -3,7 +3,8 @@
 ghost use Rattle.rlp_ethereum.specs.Body.{body};
 
 use rlp::{
-    Decodable, DecoderError, Encodable, ListOf, Optional, Rlp, RlpStream, RoundTrip, StrictRead,
+    Decodable, DecodePlaced, DecoderError, Encodable, ListField, ListOf, Optional, OptionalField,
+    Rlp, RlpStream, RoundTrip, StrictRead,
 };
 use rlp_headers::{Header, Withdrawals};
 use rlp_transactions::AnyTransaction;
@@ -47,6 +48,15 @@ impl Decodable for Body {
                 ommers: [..],
                 withdrawals: ?
             }
+        )
+    }
+}
+
+impl DecodePlaced for Body {
+    fn put_path(alloc: Global, rlp: &Rlp<'_>, path: &mut Vec<usize>) -> Result<(), AllocError> {
+        rlp::put_struct_path!(
+            alloc, rlp, path, ListField<AnyTransaction>, ListField<Header>;
+            OptionalField<Withdrawals>
         )
     }
 }

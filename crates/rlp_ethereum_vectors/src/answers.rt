@@ -3,7 +3,7 @@
 use crate::alone::Payload;
 use crate::fields::{fields, forks, london};
 use crate::reading::{Alone, Item, ways};
-use crate::{bounded, by_name, hashes, node_records, nodes, records, signing, unsigned};
+use crate::{bounded, by_name, hashes, node_records, nodes, places, records, signing, unsigned};
 use rlp_ethereum::{
     AccessListTransaction, AnyTransaction, Authorization, BlobTransaction, Block, Body, Branch,
     BranchChild, Child, Extension, FeeMarketTransaction, Hash, Header, Leaf, Log, NodeRecord,
@@ -83,6 +83,7 @@ fn tell_named(alloc: Global, call: &str, bytes: &[u8], out: &mut Line) -> fmt::R
         "at most" => bounded::tell(alloc, name, bytes, out),
         "node" => nodes::tell(alloc, name, bytes, out),
         "node record" => node_records::tell(alloc, name, bytes, out),
+        "place" => places::tell(alloc, name, bytes, out),
         _ => tell_node(alloc, call, bytes, out),
     }
 }

@@ -30,6 +30,8 @@ mod node_records;
 #[cfg(test)]
 mod nodes;
 #[cfg(test)]
+mod places;
+#[cfg(test)]
 mod proofs;
 #[cfg(test)]
 mod reading;

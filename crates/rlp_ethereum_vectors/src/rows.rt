@@ -2,13 +2,13 @@
 
 use crate::answers::tell;
 use crate::text::bytes_of;
-use crate::{bounded, by_name, hashes, node_records, nodes, records, signing, unsigned};
+use crate::{bounded, by_name, hashes, node_records, nodes, places, records, signing, unsigned};
 use rlp_rows::Line;
 use std::alloc::{AllocError, Global};
 use std::test::Fail;
 
 /// The tables.
-const TABLES: [&str; 9] = [
+const TABLES: [&str; 10] = [
     records::ROWS,
     by_name::ROWS,
     signing::ROWS,
@@ -18,6 +18,7 @@ const TABLES: [&str; 9] = [
     bounded::WITHOUT_MEMORY,
     nodes::ROWS,
     node_records::ROWS,
+    places::ROWS,
 ];
 
 /// Notes a row whose call tells something else. The answer `refused` is any fault.

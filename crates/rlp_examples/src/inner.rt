@@ -2,7 +2,9 @@
 
 ghost use Rattle.rlp_examples.specs.Inner.{inner};
 
-use rlp::{Decodable, DecoderError, Encodable, Rlp, RlpStream, RoundTrip, StrictRead};
+use rlp::{
+    Decodable, DecodePlaced, DecoderError, Encodable, Rlp, RlpStream, RoundTrip, StrictRead,
+};
 use std::alloc::{AllocError, Global};
 
 /// Two numbers, written as an unbounded list.
@@ -27,6 +29,12 @@ impl Decodable for Inner {
 
     fn decode(alloc: Global, rlp: &Rlp<'_>) -> Result<Inner, DecoderError> {
         rlp::decode_fields!(alloc, rlp, Inner(first, second))
+    }
+}
+
+impl DecodePlaced for Inner {
+    fn put_path(alloc: Global, rlp: &Rlp<'_>, path: &mut Vec<usize>) -> Result<(), AllocError> {
+        rlp::put_struct_path!(alloc, rlp, path, u64, u64)
     }
 }
 

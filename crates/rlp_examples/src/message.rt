@@ -2,7 +2,9 @@
 
 ghost use Rattle.rlp_examples.specs.Message.{message};
 
-use rlp::{Decodable, DecoderError, Encodable, Fields, Rlp, RlpStream, RoundTrip, StrictRead};
+use rlp::{
+    Decodable, DecodePlaced, DecoderError, Encodable, Fields, Rlp, RlpStream, RoundTrip, StrictRead,
+};
 use std::alloc::{AllocError, Global};
 
 /// A message between peers: the list of the number of its kind and its content.
@@ -41,6 +43,31 @@ impl Decodable for Message {
             1 => Ok(Message::Ping(content.as_val(alloc)?)),
             2 => Ok(Message::Data(content.as_val(alloc)?)),
             _ => Err(DecoderError::Custom("unknown message")),
+        }
+    }
+}
+
+impl DecodePlaced for Message {
+    fn put_path(alloc: Global, rlp: &Rlp<'_>, path: &mut Vec<usize>) -> Result<(), AllocError> {
+        let Ok(mut items) = Fields::of(rlp) else {
+            return Ok(());
+        };
+        let (Some(kind), Some(content), None) = (items.next(), items.next(), items.next()) else {
+            return Ok(());
+        };
+        match kind.as_val::<u8>(alloc) {
+            Ok(kind) => {
+                path.push(1)?;
+                match kind {
+                    1 => u64::put_path(alloc, &content, path),
+                    2 => Vec::<u8>::put_path(alloc, &content, path),
+                    _ => Ok(()),
+                }
+            }
+            Err(_) => {
+                path.push(0)?;
+                Ok(())
+            }
         }
     }
 }

@@ -7,7 +7,10 @@ ghost use Rattle.rlp.specs.Codec.{codec_of};
 ghost use Rattle.rlp.specs.Laws.{form_of};
 ghost use Rattle.rlp_examples.specs.Nest.{nest, nest_read_back, nest_reading};
 
-use rlp::{Decodable, DecoderError, Encodable, ListOf, Rlp, RlpStream, RoundTrip, StrictRead};
+use rlp::{
+    Decodable, DecodePlaced, DecoderError, Encodable, ListField, ListOf, Rlp, RlpStream, RoundTrip,
+    StrictRead,
+};
 use std::alloc::{AllocError, Global};
 
 /// A list whose one item is the list of the values.
@@ -29,6 +32,12 @@ impl<T: Decodable> Decodable for Nest<T> {
 
     fn decode(alloc: Global, rlp: &Rlp<'_>) -> Result<Nest<T>, DecoderError> {
         rlp::decode_fields!(alloc, rlp, Nest(values: [..]))
+    }
+}
+
+impl<T: DecodePlaced> DecodePlaced for Nest<T> {
+    fn put_path(alloc: Global, rlp: &Rlp<'_>, path: &mut Vec<usize>) -> Result<(), AllocError> {
+        rlp::put_struct_path!(alloc, rlp, path, ListField<T>)
     }
 }
 

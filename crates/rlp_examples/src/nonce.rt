@@ -3,7 +3,9 @@
 ghost use Rattle.rlp.specs.Values.Value.{FitsBytes, number_item};
 ghost use Rattle.rlp.specs.Codec.{newtype, number};
 
-use rlp::{Decodable, DecoderError, Encodable, Rlp, RlpStream, RoundTrip, StrictRead};
+use rlp::{
+    Decodable, DecodePlaced, DecoderError, Encodable, Rlp, RlpStream, RoundTrip, StrictRead,
+};
 use std::alloc::{AllocError, Global};
 
 /// The number of transactions that an account has sent.
@@ -28,6 +30,12 @@ impl Decodable for Nonce {
     fn decode(alloc: Global, rlp: &Rlp<'_>) -> Result<Nonce, DecoderError> {
         let sent = rlp.as_val(alloc)?;
         Ok(Nonce(sent))
+    }
+}
+
+impl DecodePlaced for Nonce {
+    fn put_path(_alloc: Global, _rlp: &Rlp<'_>, _path: &mut Vec<usize>) -> Result<(), AllocError> {
+        Ok(())
     }
 }
 

@@ -1,7 +1,7 @@
 //! A type that is only read, and has a fault of its own.
 
-use rlp::{Decodable, DecoderError, Rlp};
-use std::alloc::Global;
+use rlp::{Decodable, DecodePlaced, DecoderError, Rlp};
+use std::alloc::{AllocError, Global};
 
 /// A number that is odd.
 #[derive(Debug, PartialEq, Eq, Drop)]
@@ -19,5 +19,11 @@ impl Decodable for Odd {
             return Err(DecoderError::Custom("even"));
         }
         Ok(Odd(number))
+    }
+}
+
+impl DecodePlaced for Odd {
+    fn put_path(_alloc: Global, _rlp: &Rlp<'_>, _path: &mut Vec<usize>) -> Result<(), AllocError> {
+        Ok(())
     }
 }

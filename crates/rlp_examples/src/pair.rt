@@ -6,7 +6,8 @@ ghost use Rattle.rlp.specs.Format.Encoding.{BeginsWith, encoding};
 ghost use Rattle.rlp_examples.specs.Pair.{pair};
 
 use rlp::{
-    Decodable, DecoderError, Encodable, Fields, Rlp, RlpStream, RoundTrip, StrictRead, laws,
+    Decodable, DecodePlaced, DecoderError, Encodable, Fields, Rlp, RlpStream, RoundTrip,
+    StrictRead, laws,
 };
 use std::alloc::{AllocError, Global};
 
@@ -37,6 +38,12 @@ impl Decodable for Pair {
         let first = first.as_val(alloc)?;
         let second = second.as_val(alloc)?;
         Ok(Pair(first, second))
+    }
+}
+
+impl DecodePlaced for Pair {
+    fn put_path(alloc: Global, rlp: &Rlp<'_>, path: &mut Vec<usize>) -> Result<(), AllocError> {
+        rlp::put_struct_path!(alloc, rlp, path, u64, u64)
     }
 }
 

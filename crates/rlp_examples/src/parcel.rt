@@ -7,7 +7,8 @@ ghost use Rattle.rlp.specs.Format.Encoding.{IsSized};
 ghost use Rattle.rlp_examples.specs.Parcel.{parcel};
 
 use rlp::{
-    Decodable, DecoderError, Encodable, ListOf, Optional, Rlp, RlpStream, RoundTrip, StrictRead,
+    Decodable, DecodePlaced, DecoderError, Encodable, ListField, ListOf, Optional, OptionalField,
+    Rlp, RlpStream, RoundTrip, StrictRead,
 };
 use std::alloc::{AllocError, Global};
 
@@ -53,6 +54,14 @@ impl Decodable for Parcel {
                 weights: [..],
                 note: ?
             }
+        )
+    }
+}
+
+impl DecodePlaced for Parcel {
+    fn put_path(alloc: Global, rlp: &Rlp<'_>, path: &mut Vec<usize>) -> Result<(), AllocError> {
+        rlp::put_struct_path!(
+            alloc, rlp, path, u64, Vec<u8>, ListField<u64>; OptionalField<Vec<u8>>
         )
     }
 }

@@ -2,7 +2,9 @@
 
 ghost use Rattle.rlp_examples.specs.Row.{row};
 
-use rlp::{Decodable, DecoderError, Encodable, Rlp, RlpStream, RoundTrip, StrictRead};
+use rlp::{
+    Decodable, DecodePlaced, DecoderError, Encodable, Joined, Rlp, RlpStream, RoundTrip, StrictRead,
+};
 use std::alloc::{AllocError, Global};
 
 /// A row of a table with thirty-two columns. It shows a struct of many fields, which are read in
@@ -167,6 +169,18 @@ impl Decodable for Row {
                 column_32
             }
         )
+    }
+}
+
+// The types of four columns, and of those after them.
+type Four<Q> = (u64, ([u8; 32], (Vec<u8>, ([u8; 8], Q))));
+
+// The types of eight columns.
+type Eight = Four<Four<()>>;
+
+impl DecodePlaced for Row {
+    fn put_path(alloc: Global, rlp: &Rlp<'_>, path: &mut Vec<usize>) -> Result<(), AllocError> {
+        rlp::put_path_of::<Joined<Eight, Joined<Eight, Joined<Eight, Eight>>>>(alloc, rlp, path)
     }
 }
 

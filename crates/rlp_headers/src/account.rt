@@ -2,7 +2,9 @@
 
 ghost use Rattle.rlp_headers.specs.Account.{account};
 
-use rlp::{Decodable, DecoderError, Encodable, Rlp, RlpStream, RoundTrip, StrictRead, Uint};
+use rlp::{
+    Decodable, DecodePlaced, DecoderError, Encodable, Rlp, RlpStream, RoundTrip, StrictRead, Uint,
+};
 use rlp_records::Hash;
 use std::alloc::{AllocError, Global};
 
@@ -52,6 +54,12 @@ impl Decodable for Account {
                 code_hash
             }
         )
+    }
+}
+
+impl DecodePlaced for Account {
+    fn put_path(alloc: Global, rlp: &Rlp<'_>, path: &mut Vec<usize>) -> Result<(), AllocError> {
+        rlp::put_struct_path!(alloc, rlp, path, u64, Uint<32>, Hash, Hash)
     }
 }
 

@@ -2,7 +2,9 @@
 
 ghost use Rattle.rlp_headers.specs.Bloom.{bloom};
 
-use rlp::{Decodable, DecoderError, Encodable, Rlp, RlpStream, RoundTrip, StrictRead};
+use rlp::{
+    Decodable, DecodePlaced, DecoderError, Encodable, Rlp, RlpStream, RoundTrip, StrictRead,
+};
 use std::alloc::{AllocError, Global};
 
 /// The Bloom filter of logs: 256 bytes.
@@ -30,6 +32,12 @@ impl Decodable for Bloom {
     fn decode(alloc: Global, rlp: &Rlp<'_>) -> Result<Bloom, DecoderError> {
         let bytes = rlp.as_val(alloc)?;
         Ok(Bloom(bytes))
+    }
+}
+
+impl DecodePlaced for Bloom {
+    fn put_path(_alloc: Global, _rlp: &Rlp<'_>, _path: &mut Vec<usize>) -> Result<(), AllocError> {
+        Ok(())
     }
 }
 

@@ -11,8 +11,8 @@ mod forks;
 use crate::Bloom;
 pub use forks::{Cancun, London, Shanghai};
 use rlp::{
-    Decodable, DecoderError, Encodable, OptionalGroupOf, Rlp, RlpStream, RoundTrip, StrictRead,
-    Uint,
+    Decodable, DecodePlaced, DecoderError, Encodable, OptionalGroup, OptionalGroupOf, Rlp,
+    RlpStream, RoundTrip, StrictRead, Uint,
 };
 use rlp_records::{Address, Hash, encoding_hash};
 use std::alloc::{AllocError, Global};
@@ -134,6 +134,15 @@ impl Decodable for Header {
                 nonce,
                 since_london: (..)?
             }
+        )
+    }
+}
+
+impl DecodePlaced for Header {
+    fn put_path(alloc: Global, rlp: &Rlp<'_>, path: &mut Vec<usize>) -> Result<(), AllocError> {
+        rlp::put_struct_path!(
+            alloc, rlp, path, Hash, Hash, Address, Hash, Hash, Hash, Bloom, Uint<32>, u64, u64, u64,
+            u64, Vec<u8>, Hash, [u8; 8]; OptionalGroup<London>
         )
     }
 }

@@ -2,7 +2,10 @@
 
 ghost use Rattle.rlp_headers.specs.Log.{log};
 
-use rlp::{Decodable, DecoderError, Encodable, ListOf, Rlp, RlpStream, RoundTrip, StrictRead};
+use rlp::{
+    Decodable, DecodePlaced, DecoderError, Encodable, ListField, ListOf, Rlp, RlpStream, RoundTrip,
+    StrictRead,
+};
 use rlp_records::{Address, Hash};
 use std::alloc::{AllocError, Global};
 
@@ -43,6 +46,12 @@ impl Decodable for Log {
                 data
             }
         )
+    }
+}
+
+impl DecodePlaced for Log {
+    fn put_path(alloc: Global, rlp: &Rlp<'_>, path: &mut Vec<usize>) -> Result<(), AllocError> {
+        rlp::put_struct_path!(alloc, rlp, path, Address, ListField<Hash>, Vec<u8>)
     }
 }
 

@@ -3,7 +3,10 @@
 ghost use Rattle.rlp_headers.specs.Receipt.{receipt};
 
 use crate::{Bloom, Log, ReceiptStatus};
-use rlp::{Decodable, DecoderError, Encodable, ListOf, Rlp, RlpStream, RoundTrip, StrictRead};
+use rlp::{
+    Decodable, DecodePlaced, DecoderError, Encodable, ListField, ListOf, Rlp, RlpStream, RoundTrip,
+    StrictRead,
+};
 use std::alloc::{AllocError, Global};
 
 /// A receipt: the list of its four fields.
@@ -53,6 +56,12 @@ impl Decodable for Receipt {
                 logs: [..]
             }
         )
+    }
+}
+
+impl DecodePlaced for Receipt {
+    fn put_path(alloc: Global, rlp: &Rlp<'_>, path: &mut Vec<usize>) -> Result<(), AllocError> {
+        rlp::put_struct_path!(alloc, rlp, path, ReceiptStatus, u64, Bloom, ListField<Log>)
     }
 }
 

@@ -5,7 +5,9 @@ ghost use Rattle.rlp.specs.Form.{fault_of};
 ghost use Rattle.rlp_codec.specs.Kinds.{read_kind};
 ghost use Rattle.rlp_headers.specs.ReceiptStatus.{receipt_status, status_kind};
 
-use rlp::{Decodable, DecoderError, Encodable, Rlp, RlpStream, RoundTrip, StrictRead};
+use rlp::{
+    Decodable, DecodePlaced, DecoderError, Encodable, Rlp, RlpStream, RoundTrip, StrictRead,
+};
 use rlp_records::Hash;
 use std::alloc::{AllocError, Global};
 
@@ -43,6 +45,12 @@ impl Decodable for ReceiptStatus {
 
     fn decode(_alloc: Global, rlp: &Rlp<'_>) -> Result<ReceiptStatus, DecoderError> {
         status_of(rlp.decoder().string()?)
+    }
+}
+
+impl DecodePlaced for ReceiptStatus {
+    fn put_path(_alloc: Global, _rlp: &Rlp<'_>, _path: &mut Vec<usize>) -> Result<(), AllocError> {
+        Ok(())
     }
 }
 

@@ -4,15 +4,15 @@ ghost use Rattle.std.specs.Prelude.{◌≡◌, ◌⊎◌, IfErr, IfOk, Ok, Err, 
 ghost use Rattle.std.proofs.Common.{inr};
 ghost use Rattle.rlp.specs.DecoderError.TheVariants.{OutOfMemory};
 ghost use Rattle.rlp.specs.Views.View.{strict_view_of};
-ghost use Rattle.rlp.specs.Form.{fault_of, map_value};
+ghost use Rattle.rlp.specs.Form.{IsPlaced, fault_of, map_value};
 ghost use Rattle.rlp_records.specs.Alone.{bytes_alone};
 ghost use Rattle.rlp_headers.specs.TypedReceipt.{receipt_alone, typed_receipt, typed_receipts};
 
 use crate::Receipt;
 use bytes::BytesMut;
 use rlp::{
-    Decodable, DecoderError, Encodable, Envelope, Rlp, RlpStream, RoundTrip, StrictRead,
-    decode_strict, write_envelope,
+    Decodable, DecodePlaced, DecoderError, Encodable, Envelope, Rlp, RlpStream, RoundTrip,
+    StrictRead, decode_strict, write_envelope,
 };
 use rlp_records::{ACCESS_LIST_TYPE, BLOB_TYPE, FEE_MARKET_TYPE, SET_CODE_TYPE, to_envelope};
 use std::alloc::{AllocError, Global};
@@ -68,6 +68,26 @@ impl TypedReceipt {
     {
         read_alone(alloc, bytes)
     }
+
+    /// Appends the places that lead to the item at fault, as [`DecodePlaced::put_path`] does, for
+    /// bytes that [`TypedReceipt::from_bytes`] fails on. The path of a fault in an envelope is the
+    /// path in its payload.
+    pub fn put_path_alone(
+        alloc: Global,
+        bytes: &[u8],
+        path: &mut Vec<usize>,
+    ) -> Result<(), AllocError>
+        ensures { OnOk result (IsPlaced (receipt_alone bytes.now) path.old.items path.new.items) }
+    {
+        let view = Rlp::new_strict(bytes);
+        if view.is_list() {
+            return Receipt::put_path(alloc, &view, path);
+        }
+        match Envelope::split(bytes) {
+            Ok(envelope) => put_payload_path(alloc, &envelope, path),
+            Err(_) => Ok(()),
+        }
+    }
 }
 
 // Reads a receipt from its bytes. The clauses of `from_bytes` are about the receipt and its bytes.
@@ -101,6 +121,23 @@ fn decode_payload(alloc: Global, envelope: &Envelope<'_>) -> Result<TypedReceipt
     }
 }
 
+// Appends the path of the fault of a receipt of one of the types.
+fn put_payload_path(
+    alloc: Global,
+    envelope: &Envelope<'_>,
+    path: &mut Vec<usize>,
+) -> Result<(), AllocError>
+    ensures { OnOk result (IsPlaced (typed_receipts.cases.read envelope.now.tag
+        (strict_view_of envelope.now.payload.now)) path.old.items path.new.items) }
+{
+    match envelope.tag {
+        ACCESS_LIST_TYPE | FEE_MARKET_TYPE | BLOB_TYPE | SET_CODE_TYPE => {
+            Receipt::put_path(alloc, &Rlp::new_strict(envelope.payload), path)
+        }
+        _ => Ok(()),
+    }
+}
+
 impl Encodable for TypedReceipt {
     ghost item = { typed_receipt.item };
 
@@ -125,6 +162,18 @@ impl Decodable for TypedReceipt {
             return Ok(TypedReceipt::Legacy(rlp.as_val(alloc)?));
         }
         decode_payload(alloc, &Envelope::of(rlp)?)
+    }
+}
+
+impl DecodePlaced for TypedReceipt {
+    fn put_path(alloc: Global, rlp: &Rlp<'_>, path: &mut Vec<usize>) -> Result<(), AllocError> {
+        if rlp.is_list() {
+            return Receipt::put_path(alloc, rlp, path);
+        }
+        match Envelope::of(rlp) {
+            Ok(envelope) => put_payload_path(alloc, &envelope, path),
+            Err(_) => Ok(()),
+        }
     }
 }
 

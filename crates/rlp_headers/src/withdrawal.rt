@@ -2,7 +2,10 @@
 
 ghost use Rattle.rlp_headers.specs.Withdrawal.{withdrawal, withdrawals};
 
-use rlp::{Decodable, DecoderError, Each, Encodable, Rlp, RlpStream, RoundTrip, StrictRead};
+use rlp::{
+    Decodable, DecodePlaced, DecoderError, Each, Encodable, Rlp, RlpStream, RoundTrip, StrictRead,
+    put_list_path,
+};
 use rlp_records::Address;
 use std::alloc::{AllocError, Global};
 
@@ -52,6 +55,12 @@ impl Decodable for Withdrawal {
     }
 }
 
+impl DecodePlaced for Withdrawal {
+    fn put_path(alloc: Global, rlp: &Rlp<'_>, path: &mut Vec<usize>) -> Result<(), AllocError> {
+        rlp::put_struct_path!(alloc, rlp, path, u64, u64, Address, u64)
+    }
+}
+
 impl RoundTrip for Withdrawal {
     ghost round_trip = { withdrawal.reads_back };
 }
@@ -80,6 +89,12 @@ impl Decodable for Withdrawals {
     fn decode(alloc: Global, rlp: &Rlp<'_>) -> Result<Withdrawals, DecoderError> {
         let withdrawals = rlp.as_list(alloc)?;
         Ok(Withdrawals(withdrawals))
+    }
+}
+
+impl DecodePlaced for Withdrawals {
+    fn put_path(alloc: Global, rlp: &Rlp<'_>, path: &mut Vec<usize>) -> Result<(), AllocError> {
+        put_list_path::<Withdrawal>(alloc, rlp, path)
     }
 }
 

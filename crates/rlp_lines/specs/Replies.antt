@@ -1,19 +1,23 @@
 -- What is written for the lines of a text, by the answer to each line.
-use Rattle.std.specs.Prelude.{ℕ, Bool, nat_eq, nat_lt, if◌then◌else◌, List, [], ◌∷◌, ◌++◌, length, codes}
+use Rattle.std.specs.Prelude.{ℕ, Bool, nat_eq, nat_lt, ◌||◌, if◌then◌else◌, List, [], ◌∷◌, ◌++◌, length, codes}
 use Rattle.std.specs.List.{flat_map, list_any, starts_with}
 use Rattle.rlp_lines.specs.Lines.{lines}
 
--- the answer to any line, by the most bytes that a line may have without its newline, and the answer to a line that isn't longer
-unfoldable pub answer_by : ℕ → (List ℕ → List ℕ) → List ℕ → List ℕ
-answer_by longest within line = if nat_lt longest (length line) then codes "error long line" else within line
+-- the answer to any line, by the most bytes that a line may have without its newline, the answer to a longer line, and the answer to a line that isn't longer
+unfoldable pub answer_by : ℕ → List ℕ → (List ℕ → List ℕ) → List ℕ → List ℕ
+answer_by longest long within line = if nat_lt longest (length line) then long else within line
 
 -- the answer to a line, and a newline
 abbrev pub reply : (List ℕ → List ℕ) → List ℕ → List ℕ
 reply answer line = answer line ++ 10 ∷ []
 
+-- whether an answer says that its line is at fault: it begins with `error`, or is an object of JSON whose first key is `error`
+abbrev pub says_fault : List ℕ → Bool
+says_fault a = starts_with nat_eq a (codes "error") || starts_with nat_eq a (codes "{\"error\"")
+
 -- whether the answer to a line says that the line is at fault
 abbrev pub is_fault : (List ℕ → List ℕ) → List ℕ → Bool
-is_fault answer line = starts_with nat_eq (answer line) (codes "error")
+is_fault answer line = says_fault (answer line)
 
 -- whether one of some lines is at fault
 abbrev pub has_fault : (List ℕ → List ℕ) → List (List ℕ) → Bool

@@ -1,7 +1,7 @@
 //! The current line of the input.
 ghost use Rattle.std.specs.Prelude.{◌≡◌, ◌++◌, ◌≢◌, ◌==◌, ℕ, List, [], ◌∷◌, length, position, string_bytes, OnOk, OnErr, IsTrue, ◌↔◌, ◌||◌, false};
 ghost use Rattle.std.specs.Str.Lines.{strip_carriage_return};
-ghost use Rattle.rlp_lines.specs.Replies.{answer_by, has_fault, is_fault, reply, replies_to};
+ghost use Rattle.rlp_lines.specs.Replies.{answer_by, has_fault, is_fault, reply, replies_to, says_fault};
 ghost use Rattle.rlp_lines.specs.Lines.{last_piece, unended_line};
 ghost use Rattle.rlp_lines.specs.Progress.{IsOnePiece, IsLine, IsAfter};
 ghost use Rattle.rlp_lines.specs.Run.{AreRepliesBefore};
@@ -55,12 +55,12 @@ impl Line {
     #[tactic(auto, unfolding(crate::specs::Replies::answer_by))]
     fn put_answer<A: LineAnswers>(&mut self, alloc: Global, answers: &A) -> Result<(), AllocError>
         ensures reply { (begun : List ℕ) → IsLine A.longest self.old.bytes.items self.old.over begun
-            → OnOk result (string_bytes self.new.reply ≡ answer_by A.longest (A.answer_within answers.now) begun) }
+            → OnOk result (string_bytes self.new.reply ≡ answer_by A.longest (A.long_line answers.now) (A.answer_within answers.now) begun) }
         ensures kept { self.new.faulty ≡ self.old.faulty }
     {
         self.reply.clear();
         if self.over {
-            return self.reply.push_str("error long line");
+            return self.reply.push_str(answers.long_line());
         }
         answers.put_answer(alloc, self.bytes.as_slice(), &mut self.reply)
     }
@@ -74,14 +74,14 @@ impl Line {
     ) -> Result<(), AllocError>
         ensures ok { (begun : List ℕ) → IsLine A.longest self.old.bytes.items self.old.over begun
             → OnOk result (string_bytes out.new
-            ≡ string_bytes out.old ++ reply (answer_by A.longest (A.answer_within answers.now)) begun) }
+            ≡ string_bytes out.old ++ reply (answer_by A.longest (A.long_line answers.now) (A.answer_within answers.now)) begun) }
         ensures noted { (begun : List ℕ) → IsLine A.longest self.old.bytes.items self.old.over begun
             → OnOk result (self.new.faulty
-            ≡ (self.old.faulty || is_fault (answer_by A.longest (A.answer_within answers.now)) begun)) }
+            ≡ (self.old.faulty || is_fault (answer_by A.longest (A.long_line answers.now) (A.answer_within answers.now)) begun)) }
         ensures refused { OnErr result (string_bytes out.new ≡ string_bytes out.old) }
     {
         self.put_answer(alloc, answers)?;
-        self.faulty |= self.reply.as_str().starts_with("error");
+        self.faulty |= says_fault(self.reply.as_str());
         self.reply.push('\n')?;
         out.push_str(self.reply.as_str())
     }
@@ -117,10 +117,10 @@ impl Line {
         out: &mut String,
     ) -> Result<(), AllocError>
         ensures ok { (text written : List ℕ)
-            → IsAfter A.longest (answer_by A.longest (A.answer_within answers.now)) text written
+            → IsAfter A.longest (answer_by A.longest (A.long_line answers.now) (A.answer_within answers.now)) text written
             (string_bytes out.old) self.old.bytes.items self.old.over self.old.faulty
             → IsOnePiece run.now
-            → OnOk result (IsAfter A.longest (answer_by A.longest (A.answer_within answers.now))
+            → OnOk result (IsAfter A.longest (answer_by A.longest (A.long_line answers.now) (A.answer_within answers.now))
             (text ++ run.now ++ 10 ∷ []) written (string_bytes out.new)
             self.new.bytes.items self.new.over self.new.faulty) }
         ensures refused { OnErr result (string_bytes out.new ≡ string_bytes out.old) }
@@ -141,15 +141,15 @@ impl Line {
         out: &mut String,
     ) -> Result<(), AllocError>
         ensures ok { (text written : List ℕ)
-            → IsAfter A.longest (answer_by A.longest (A.answer_within answers.now)) text written
+            → IsAfter A.longest (answer_by A.longest (A.long_line answers.now) (A.answer_within answers.now)) text written
             (string_bytes out.old) self.old.bytes.items self.old.over self.old.faulty
-            → OnOk result (IsAfter A.longest (answer_by A.longest (A.answer_within answers.now))
+            → OnOk result (IsAfter A.longest (answer_by A.longest (A.long_line answers.now) (A.answer_within answers.now))
             (text ++ bytes.now) written (string_bytes out.new)
             self.new.bytes.items self.new.over self.new.faulty) }
         ensures refused { (text written : List ℕ)
-            → IsAfter A.longest (answer_by A.longest (A.answer_within answers.now)) text written
+            → IsAfter A.longest (answer_by A.longest (A.long_line answers.now) (A.answer_within answers.now)) text written
             (string_bytes out.old) self.old.bytes.items self.old.over self.old.faulty
-            → OnErr result (AreRepliesBefore (answer_by A.longest (A.answer_within answers.now)) text (text ++ bytes.now)
+            → OnErr result (AreRepliesBefore (answer_by A.longest (A.long_line answers.now) (A.answer_within answers.now)) text (text ++ bytes.now)
             (written ++ string_bytes out.new)) }
     {
         let mut rest = bytes;
@@ -172,10 +172,10 @@ impl Line {
         ensures ok { (text : List ℕ) → IsLine A.longest self.old.bytes.items self.old.over (last_piece text)
             → OnOk result (string_bytes out.new
             ≡ string_bytes out.old
-            ++ replies_to (answer_by A.longest (A.answer_within answers.now)) (unended_line text)) }
+            ++ replies_to (answer_by A.longest (A.long_line answers.now) (A.answer_within answers.now)) (unended_line text)) }
         ensures noted { (text : List ℕ) → IsLine A.longest self.old.bytes.items self.old.over (last_piece text)
             → OnOk result (self.new.faulty ≡ (self.old.faulty
-            || has_fault (answer_by A.longest (A.answer_within answers.now)) (unended_line text))) }
+            || has_fault (answer_by A.longest (A.long_line answers.now) (A.answer_within answers.now)) (unended_line text))) }
         ensures refused { (begun : List ℕ) → IsLine A.longest self.old.bytes.items self.old.over begun
             → OnErr result (begun ≢ []) }
     {
@@ -184,6 +184,14 @@ impl Line {
         }
         self.reply(alloc, answers, out)
     }
+}
+
+/// Whether an answer says that its line is at fault: it begins with `error`, or is an object of JSON
+/// whose first key is `error`.
+fn says_fault(answer: &str) -> bool
+    ensures { result ≡ says_fault answer.now }
+{
+    answer.starts_with("error") || answer.starts_with("{\"error\"")
 }
 
 /// The place of the first newline.

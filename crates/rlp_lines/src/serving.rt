@@ -94,15 +94,15 @@ fn serve<A: LineAnswers, W: Write>(
     bytes: &[u8],
 ) -> Result<(), RunFault>
     ensures ok { (start : Option (List ℕ)) (text : List ℕ)
-        → IsServed A.longest (answer_by A.longest (A.answer_within answers.now)) start
+        → IsServed A.longest (answer_by A.longest (A.long_line answers.now) (A.answer_within answers.now)) start
         (W.contents output.old.inner) text line.old.bytes.items line.old.over line.old.faulty
-        → OnOk result (IsServed A.longest (answer_by A.longest (A.answer_within answers.now)) start
+        → OnOk result (IsServed A.longest (answer_by A.longest (A.long_line answers.now) (A.answer_within answers.now)) start
         (W.contents output.new.inner) (text ++ bytes.now) line.new.bytes.items line.new.over line.new.faulty) }
     ensures kept { OnOk result (output.new.failed ≡ output.old.failed) }
     ensures stop { (start : Option (List ℕ)) (text : List ℕ)
-        → IsServed A.longest (answer_by A.longest (A.answer_within answers.now)) start
+        → IsServed A.longest (answer_by A.longest (A.long_line answers.now) (A.answer_within answers.now)) start
         (W.contents output.old.inner) text line.old.bytes.items line.old.over line.old.faulty
-        → IfErr result (λ fault. IsStop (answer_by A.longest (A.answer_within answers.now)) fault start
+        → IfErr result (λ fault. IsStop (answer_by A.longest (A.long_line answers.now) (A.answer_within answers.now)) fault start
         (W.contents output.new.inner) text (text ++ bytes.now) output.new.failed) }
 
     // The finished replies are written even if memory was refused after them.
@@ -128,21 +128,21 @@ fn finish<A: LineAnswers, W: Write>(
     output: &mut Noted<W>,
 ) -> Result<(), RunFault>
     ensures ok { (start : Option (List ℕ)) (text : List ℕ)
-        → IsServed A.longest (answer_by A.longest (A.answer_within answers.now)) start
+        → IsServed A.longest (answer_by A.longest (A.long_line answers.now) (A.answer_within answers.now)) start
         (W.contents output.old.inner) text line.old.bytes.items line.old.over line.old.faulty
         → OnOk result (Appends start (W.contents output.new.inner)
-        (replies (answer_by A.longest (A.answer_within answers.now)) text)) }
+        (replies (answer_by A.longest (A.long_line answers.now) (A.answer_within answers.now)) text)) }
     ensures noted { (start : Option (List ℕ)) (text : List ℕ)
-        → IsServed A.longest (answer_by A.longest (A.answer_within answers.now)) start
+        → IsServed A.longest (answer_by A.longest (A.long_line answers.now) (A.answer_within answers.now)) start
         (W.contents output.old.inner) text line.old.bytes.items line.old.over line.old.faulty
         → OnOk result (line.new.faulty
-        ≡ has_fault (answer_by A.longest (A.answer_within answers.now)) (lines text)) }
+        ≡ has_fault (answer_by A.longest (A.long_line answers.now) (A.answer_within answers.now)) (lines text)) }
     ensures kept { OnOk result (output.new.failed ≡ output.old.failed) }
     ensures flushed { OnOk result (output.new.flushed ≡ true) }
     ensures stop { (start : Option (List ℕ)) (text : List ℕ)
-        → IsServed A.longest (answer_by A.longest (A.answer_within answers.now)) start
+        → IsServed A.longest (answer_by A.longest (A.long_line answers.now) (A.answer_within answers.now)) start
         (W.contents output.old.inner) text line.old.bytes.items line.old.over line.old.faulty
-        → IfErr result (λ fault. IsStop (answer_by A.longest (A.answer_within answers.now)) fault start
+        → IfErr result (λ fault. IsStop (answer_by A.longest (A.long_line answers.now) (A.answer_within answers.now)) fault start
         (W.contents output.new.inner) text text output.new.failed) }
 {
     pending.clear();
@@ -152,9 +152,9 @@ fn finish<A: LineAnswers, W: Write>(
     }
 }
 
-/// Answers each line of the input as `answers` says, until its end. The answer to a line of more bytes than
-/// `A` takes is `error long line`. Returns whether the answer to a line begins with `error`, and fails
-/// with the [`RunFault`] that stopped it.
+/// Answers each line of the input as `answers` says, until its end. Returns whether an answer says
+/// that its line is at fault: it begins with `error`, or is an object of JSON whose first key is
+/// `error`. Fails with the [`RunFault`] that stopped it.
 pub fn answer_lines<A: LineAnswers, R: Read, W: Write>(
     alloc: Global,
     answers: &A,
@@ -163,9 +163,9 @@ pub fn answer_lines<A: LineAnswers, R: Read, W: Write>(
 ) -> Result<bool, RunFault>
     requires input { input.old.failed ≡ false }
     requires output { output.old.failed ≡ false }
-    ensures leaves { RunLeaves (answer_by A.longest (A.answer_within answers.now)) R.remaining W.contents
+    ensures leaves { RunLeaves (answer_by A.longest (A.long_line answers.now) (A.answer_within answers.now)) R.remaining W.contents
         input.old input.new output.old output.new result }
-    ensures faulty { IfOk result (TellsFault (answer_by A.longest (A.answer_within answers.now))
+    ensures faulty { IfOk result (TellsFault (answer_by A.longest (A.long_line answers.now) (A.answer_within answers.now))
         (R.remaining input.old.inner) (R.remaining input.new.inner)) }
 {
     let mut line = Line::new(alloc);
@@ -199,7 +199,7 @@ pub fn answer_text<A: LineAnswers, W: Write>(
     output: &mut Noted<W>,
 ) -> Result<bool, RunFault>
     requires { output.old.failed ≡ false }
-    ensures { TextLeaves (answer_by A.longest (A.answer_within answers.now)) text.now W.contents
+    ensures { TextLeaves (answer_by A.longest (A.long_line answers.now) (A.answer_within answers.now)) text.now W.contents
         output.old output.new result }
 {
     let mut line = Line::new(alloc);

@@ -9,6 +9,8 @@
 #[cfg(test)]
 mod answers;
 #[cfg(test)]
+mod bounds;
+#[cfg(test)]
 mod fields;
 #[cfg(test)]
 mod ids;
@@ -18,6 +20,8 @@ mod laws;
 mod messages;
 #[cfg(test)]
 mod named;
+#[cfg(test)]
+mod offsets;
 #[cfg(test)]
 mod reading;
 #[cfg(test)]

@@ -1,5 +1,5 @@
 -- How the messages of eth/68 are written and read.
-use Rattle.std.specs.Prelude.{ℕ, ◌⊎◌, List}
+use Rattle.std.specs.Prelude.{ℕ, ◌⊎◌, List, ◌∷◌}
 use Rattle.std.proofs.Common.{inl, inr}
 use Rattle.rlp.specs.Codec.{Cases, and_case}
 use Rattle.rlp_eth.specs.declared.receipts.Receipts.{Receipts}
@@ -7,7 +7,7 @@ use Rattle.rlp_eth.specs.declared.status.Status68.{Status68}
 use Rattle.rlp_messages.specs.declared.eth68_message.Eth68Message.{Eth68Message}
 use Rattle.rlp_messages.specs.declared.eth68_message.Eth68Message.TheVariants as message
 use Rattle.rlp_eth.specs.declared.with_request_id.WithRequestId.{WithRequestId}
-use Rattle.rlp_messages.specs.EthMessage.{EthBody, eth_messages}
+use Rattle.rlp_messages.specs.EthMessage.{EthBody, eth_messages, eth_numbers}
 use Rattle.rlp_p2p.specs.Message.{message_bytes}
 use Rattle.rlp_eth.specs.Receipts.{receipts}
 use Rattle.rlp_eth.specs.Status.{status68}
@@ -22,6 +22,10 @@ abbrev pub eth68_messages : Cases Eth68Body
 eth68_messages =
     and_case 0x00 status68 (
     and_case 0x10 (with_request_id receipts) eth_messages)
+
+-- the numbers of the messages of eth/68
+abbrev pub eth68_numbers : List ℕ
+eth68_numbers = 0x00 ∷ 0x10 ∷ eth_numbers
 
 -- the body of a message of eth/68
 abbrev pub eth68_body : Eth68Message → Eth68Body

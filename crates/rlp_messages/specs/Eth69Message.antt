@@ -1,5 +1,5 @@
 -- How the messages of eth/69 are written and read.
-use Rattle.std.specs.Prelude.{ℕ, ◌⊎◌, List}
+use Rattle.std.specs.Prelude.{ℕ, ◌⊎◌, List, ◌∷◌}
 use Rattle.std.proofs.Common.{inl, inr}
 use Rattle.rlp.specs.Codec.{Cases, and_case}
 use Rattle.rlp_eth.specs.declared.announcements.BlockRangeUpdate.{BlockRangeUpdate}
@@ -9,7 +9,7 @@ use Rattle.rlp_messages.specs.declared.eth69_message.Eth69Message.{Eth69Message}
 use Rattle.rlp_messages.specs.declared.eth69_message.Eth69Message.TheVariants as message
 use Rattle.rlp_eth.specs.declared.with_request_id.WithRequestId.{WithRequestId}
 use Rattle.rlp_eth.specs.Announcements.{block_range_update}
-use Rattle.rlp_messages.specs.EthMessage.{EthBody, eth_messages}
+use Rattle.rlp_messages.specs.EthMessage.{EthBody, eth_messages, eth_numbers}
 use Rattle.rlp_p2p.specs.Message.{message_bytes}
 use Rattle.rlp_eth.specs.Receipts69.{receipts69}
 use Rattle.rlp_eth.specs.Status.{status69}
@@ -25,6 +25,10 @@ eth69_messages =
     and_case 0x00 status69 (
     and_case 0x10 (with_request_id receipts69) (
     and_case 0x11 block_range_update eth_messages))
+
+-- the numbers of the messages of eth/69
+abbrev pub eth69_numbers : List ℕ
+eth69_numbers = 0x00 ∷ 0x10 ∷ 0x11 ∷ eth_numbers
 
 -- the body of a message of eth/69
 abbrev pub eth69_body : Eth69Message → Eth69Body

@@ -1,5 +1,5 @@
 -- The messages that eth/68 and eth/69 have in common.
-use Rattle.std.specs.Prelude.{◌⊎◌}
+use Rattle.std.specs.Prelude.{ℕ, ◌⊎◌, List, [], ◌∷◌}
 use Rattle.rlp.specs.Codec.{Cases, and_case, last_case}
 use Rattle.rlp_eth.specs.declared.announcements.NewBlock.{NewBlock}
 use Rattle.rlp_eth.specs.declared.announcements.NewBlockHashes.{NewBlockHashes}
@@ -46,3 +46,7 @@ eth_messages =
     and_case 0x09 (with_request_id get_pooled_transactions) (
     and_case 0x0a (with_request_id pooled_transactions) (
     last_case unknown_message 0x0f (with_request_id get_receipts)))))))))))
+
+-- the numbers of the messages that both versions have
+abbrev pub eth_numbers : List ℕ
+eth_numbers = 0x01 ∷ 0x02 ∷ 0x03 ∷ 0x04 ∷ 0x05 ∷ 0x06 ∷ 0x07 ∷ 0x08 ∷ 0x09 ∷ 0x0a ∷ 0x0f ∷ []

@@ -22,6 +22,10 @@ pub use Rattle.rlp_eth.specs.Receipts69
 pub use Rattle.rlp_eth.specs.WithRequestId
 -- messages with their ids
 pub use Rattle.rlp_p2p.specs.Message
+-- the ids of capabilities
+pub use Rattle.rlp_p2p.specs.Offsets
+-- bounds on messages
+pub use Rattle.rlp_p2p.specs.Bounds
 -- the messages of p2p
 pub use Rattle.rlp_p2p.specs.P2pMessage
 -- the messages that eth/68 and eth/69 have in common

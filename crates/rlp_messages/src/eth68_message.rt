@@ -1,10 +1,11 @@
 //! Messages of `eth/68`, with their ids.
 
-ghost use Rattle.std.specs.Prelude.{◌≡◌, ◌⊎◌, Err, IfErr, IfOk, Ok, OnOk};
+ghost use Rattle.std.specs.Prelude.{◌≡◌, ◌⊎◌, Err, IfErr, IfOk, None, Ok, OnOk, Some};
 ghost use Rattle.rlp.specs.DecoderError.TheVariants.{OutOfMemory};
 ghost use Rattle.rlp.specs.Form.{fault_of};
 ghost use Rattle.rlp.specs.Views.View.{strict_view_of};
-ghost use Rattle.rlp_messages.specs.Eth68Message.{FitsEth68, eth68_body, eth68_bytes, eth68_messages, seen_eth68};
+ghost use Rattle.rlp_messages.specs.Eth68Message.{FitsEth68, eth68_body, eth68_bytes, eth68_messages, eth68_numbers, seen_eth68};
+ghost use Rattle.rlp_p2p.specs.Bounds.{IsWithin, body_fault, message_at_most, message_fault};
 ghost use Rattle.rlp_p2p.specs.Message.{message_of};
 
 use crate::numbered::decode_numbered;
@@ -16,10 +17,18 @@ use crate::{
 use bytes::BytesMut;
 use rlp::DecoderError;
 use rlp_p2p::message::{Numbered, write};
+use rlp_p2p::{MessageBounds, Protocol};
 use std::alloc::{AllocError, Global};
 
-/// A message of `eth/68`. Clients agree on the capability's offset by their `Hello` messages; it is
-/// mostly 0x10.
+/// The capability `eth/68`, whose messages have the ids from 0x00 to 0x10.
+pub const ETH_68: Protocol<'static> = Protocol {
+    name: b"eth",
+    version: 68,
+    ids: 17,
+};
+
+/// A message of `eth/68`. The clients' `Hello` messages give the offset of [`ETH_68`] by
+/// [`Protocol::offset`]: it is 0x10, and more if a shared capability's name comes before `eth`.
 #[derive(Drop)]
 pub enum Eth68Message {
     /// 0x00.
@@ -116,22 +125,66 @@ impl Eth68Message {
             → IfErr result (λ e. e ≡ OutOfMemory) }
     {
         match Numbered::of(alloc, offset, bytes) {
-            Ok(message) => decode_body(alloc, &message),
+            Ok(message) => decode_body(alloc, &message, None),
+            Err(fault) => Err(fault),
+        }
+    }
+
+    /// Reads a message as [`Eth68Message::from_message`] does, if its bytes are within the bounds. It doesn't
+    /// allocate for bytes that this refuses.
+    ///
+    /// Fails with `Custom("too many bytes")` for more bytes than the bound, then by the id as
+    /// [`Eth68Message::from_message`] does, then by the body as `decode_at_most` of `rlp_records` does, as
+    /// with `Custom("too many items")`, and else with the strict fault of the body. For the bytes of a
+    /// message within the bounds it fails only if memory runs out.
+    pub fn from_message_at_most(
+        alloc: Global,
+        offset: u8,
+        bytes: &[u8],
+        most: MessageBounds,
+    ) -> Result<Eth68Message, DecoderError>
+        ensures whole { IfOk result (λ m. FitsEth68 m × (bytes.now ≡ eth68_bytes offset m)) }
+        ensures value { IfOk result
+            (λ m. (message_at_most offset most eth68_numbers eth68_messages.cases.read bytes.now).result
+            ≡ Ok (seen_eth68 m)) }
+        ensures fault { IfErr result
+            (λ e. ((message_at_most offset most eth68_numbers eth68_messages.cases.read bytes.now).result
+            ≡ Err (fault_of e))
+            ⊎ ((message_fault offset most eth68_numbers bytes.now ≡ None) × (e ≡ OutOfMemory))) }
+        ensures memory { (m : Eth68Message) → FitsEth68 m → bytes.now ≡ eth68_bytes offset m
+            → IsWithin most bytes.now (eth68_messages.cases.item (eth68_body m))
+            → IfErr result (λ e. e ≡ OutOfMemory) }
+    {
+        if bytes.len() > most.bytes {
+            return Err(DecoderError::Custom("too many bytes"));
+        }
+        match Numbered::of(alloc, offset, bytes) {
+            Ok(message) => decode_body(alloc, &message, Some(most.items)),
             Err(fault) => Err(fault),
         }
     }
 }
 
-// Reads the body of a message by its number.
-fn decode_body(alloc: Global, message: &Numbered<'_>) -> Result<Eth68Message, DecoderError>
+// Reads the body of a message by its number, with at most this number of items if there is one.
+fn decode_body(
+    alloc: Global,
+    message: &Numbered<'_>,
+    most: Option<usize>,
+) -> Result<Eth68Message, DecoderError>
     ensures value { IfOk result (λ m. (eth68_messages.cases.read message.now.number
         (strict_view_of message.now.body.now)).result ≡ Ok (seen_eth68 m)) }
-    ensures fault { IfErr result (λ e. ((eth68_messages.cases.read message.now.number
-        (strict_view_of message.now.body.now)).result ≡ Err (fault_of e)) ⊎ (e ≡ OutOfMemory)) }
+    ensures within { OnOk result
+        (body_fault most eth68_numbers message.now.number message.now.body.now ≡ None) }
+    ensures fault { IfErr result
+        (λ e. (body_fault most eth68_numbers message.now.number message.now.body.now ≡ Some (fault_of e))
+        ⊎ ((body_fault most eth68_numbers message.now.number message.now.body.now ≡ None)
+        × (((eth68_messages.cases.read message.now.number
+        (strict_view_of message.now.body.now)).result ≡ Err (fault_of e)) ⊎ (e ≡ OutOfMemory)))) }
 {
     decode_numbered!(
         alloc,
         message,
+        most,
         0x00 => Eth68Message::Status,
         0x01 => Eth68Message::NewBlockHashes,
         0x02 => Eth68Message::Transactions,

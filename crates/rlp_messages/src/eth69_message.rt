@@ -1,10 +1,11 @@
 //! Messages of `eth/69`, with their ids.
 
-ghost use Rattle.std.specs.Prelude.{◌≡◌, ◌⊎◌, Err, IfErr, IfOk, Ok, OnOk};
+ghost use Rattle.std.specs.Prelude.{◌≡◌, ◌⊎◌, Err, IfErr, IfOk, None, Ok, OnOk, Some};
 ghost use Rattle.rlp.specs.DecoderError.TheVariants.{OutOfMemory};
 ghost use Rattle.rlp.specs.Form.{fault_of};
 ghost use Rattle.rlp.specs.Views.View.{strict_view_of};
-ghost use Rattle.rlp_messages.specs.Eth69Message.{FitsEth69, eth69_body, eth69_bytes, eth69_messages, seen_eth69};
+ghost use Rattle.rlp_messages.specs.Eth69Message.{FitsEth69, eth69_body, eth69_bytes, eth69_messages, eth69_numbers, seen_eth69};
+ghost use Rattle.rlp_p2p.specs.Bounds.{IsWithin, body_fault, message_at_most, message_fault};
 ghost use Rattle.rlp_p2p.specs.Message.{message_of};
 
 use crate::numbered::decode_numbered;
@@ -16,10 +17,18 @@ use crate::{
 use bytes::BytesMut;
 use rlp::DecoderError;
 use rlp_p2p::message::{Numbered, write};
+use rlp_p2p::{MessageBounds, Protocol};
 use std::alloc::{AllocError, Global};
 
-/// A message of `eth/69`. Clients agree on the capability's offset by their `Hello` messages; it is
-/// mostly 0x10.
+/// The capability `eth/69`, whose messages have the ids from 0x00 to 0x11.
+pub const ETH_69: Protocol<'static> = Protocol {
+    name: b"eth",
+    version: 69,
+    ids: 18,
+};
+
+/// A message of `eth/69`. The clients' `Hello` messages give the offset of [`ETH_69`] by
+/// [`Protocol::offset`]: it is 0x10, and more if a shared capability's name comes before `eth`.
 #[derive(Drop)]
 pub enum Eth69Message {
     /// 0x00.
@@ -120,22 +129,66 @@ impl Eth69Message {
             → IfErr result (λ e. e ≡ OutOfMemory) }
     {
         match Numbered::of(alloc, offset, bytes) {
-            Ok(message) => decode_body(alloc, &message),
+            Ok(message) => decode_body(alloc, &message, None),
+            Err(fault) => Err(fault),
+        }
+    }
+
+    /// Reads a message as [`Eth69Message::from_message`] does, if its bytes are within the bounds. It doesn't
+    /// allocate for bytes that this refuses.
+    ///
+    /// Fails with `Custom("too many bytes")` for more bytes than the bound, then by the id as
+    /// [`Eth69Message::from_message`] does, then by the body as `decode_at_most` of `rlp_records` does, as
+    /// with `Custom("too many items")`, and else with the strict fault of the body. For the bytes of a
+    /// message within the bounds it fails only if memory runs out.
+    pub fn from_message_at_most(
+        alloc: Global,
+        offset: u8,
+        bytes: &[u8],
+        most: MessageBounds,
+    ) -> Result<Eth69Message, DecoderError>
+        ensures whole { IfOk result (λ m. FitsEth69 m × (bytes.now ≡ eth69_bytes offset m)) }
+        ensures value { IfOk result
+            (λ m. (message_at_most offset most eth69_numbers eth69_messages.cases.read bytes.now).result
+            ≡ Ok (seen_eth69 m)) }
+        ensures fault { IfErr result
+            (λ e. ((message_at_most offset most eth69_numbers eth69_messages.cases.read bytes.now).result
+            ≡ Err (fault_of e))
+            ⊎ ((message_fault offset most eth69_numbers bytes.now ≡ None) × (e ≡ OutOfMemory))) }
+        ensures memory { (m : Eth69Message) → FitsEth69 m → bytes.now ≡ eth69_bytes offset m
+            → IsWithin most bytes.now (eth69_messages.cases.item (eth69_body m))
+            → IfErr result (λ e. e ≡ OutOfMemory) }
+    {
+        if bytes.len() > most.bytes {
+            return Err(DecoderError::Custom("too many bytes"));
+        }
+        match Numbered::of(alloc, offset, bytes) {
+            Ok(message) => decode_body(alloc, &message, Some(most.items)),
             Err(fault) => Err(fault),
         }
     }
 }
 
-// Reads the body of a message by its number.
-fn decode_body(alloc: Global, message: &Numbered<'_>) -> Result<Eth69Message, DecoderError>
+// Reads the body of a message by its number, with at most this number of items if there is one.
+fn decode_body(
+    alloc: Global,
+    message: &Numbered<'_>,
+    most: Option<usize>,
+) -> Result<Eth69Message, DecoderError>
     ensures value { IfOk result (λ m. (eth69_messages.cases.read message.now.number
         (strict_view_of message.now.body.now)).result ≡ Ok (seen_eth69 m)) }
-    ensures fault { IfErr result (λ e. ((eth69_messages.cases.read message.now.number
-        (strict_view_of message.now.body.now)).result ≡ Err (fault_of e)) ⊎ (e ≡ OutOfMemory)) }
+    ensures within { OnOk result
+        (body_fault most eth69_numbers message.now.number message.now.body.now ≡ None) }
+    ensures fault { IfErr result
+        (λ e. (body_fault most eth69_numbers message.now.number message.now.body.now ≡ Some (fault_of e))
+        ⊎ ((body_fault most eth69_numbers message.now.number message.now.body.now ≡ None)
+        × (((eth69_messages.cases.read message.now.number
+        (strict_view_of message.now.body.now)).result ≡ Err (fault_of e)) ⊎ (e ≡ OutOfMemory)))) }
 {
     decode_numbered!(
         alloc,
         message,
+        most,
         0x00 => Eth69Message::Status,
         0x01 => Eth69Message::NewBlockHashes,
         0x02 => Eth69Message::Transactions,

@@ -1,4 +1,4 @@
-//! What holds of messages: their bytes tell them apart.
+//! What holds of messages: their bytes tell them apart, and both ends find the same offsets.
 
 ghost use Rattle.std.specs.Prelude.{◌≡◌, ◌<◌, ◌^◌, ℕ, length};
 ghost use Rattle.rlp_messages.specs.Eth68Message.{FitsEth68, eth68_bytes, seen_eth68};
@@ -7,6 +7,7 @@ ghost use Rattle.rlp_p2p.specs.P2pMessage.{FitsP2p, p2p_bytes, seen_p2p};
 
 use crate::{Eth68Message, Eth69Message};
 use rlp_p2p::P2pMessage;
+pub use rlp_p2p::laws::both_ends_agree;
 
 /// Two messages of one protocol that are written as the same bytes, fewer than 2^64, after one offset
 /// have the same number, and each of their fields is the same.

@@ -9,8 +9,8 @@ mod eth69_message;
 pub mod laws;
 mod numbered;
 
-pub use eth68_message::Eth68Message;
-pub use eth69_message::Eth69Message;
+pub use eth68_message::{ETH_68, Eth68Message};
+pub use eth69_message::{ETH_69, Eth69Message};
 pub use rlp_eth::{
     BlockBodies, BlockHeaders, BlockRangeUpdate, BlockReceipts, BlockReceipts69, ForkHash, ForkId,
     GetBlockBodies, GetBlockHeaders, GetPooledTransactions, GetReceipts, HashOrNumber, NewBlock,
@@ -18,5 +18,6 @@ pub use rlp_eth::{
     Receipts, Receipts69, Status68, Status69, Transactions, WithRequestId,
 };
 pub use rlp_p2p::{
-    Capability, Disconnect, DisconnectReason, FurtherItem, Hello, NodeId, P2pMessage, Ping, Pong,
+    Capability, Disconnect, DisconnectReason, FurtherItem, Hello, MessageBounds, NodeId, Numbered,
+    P2pMessage, Ping, Pong, Protocol,
 };

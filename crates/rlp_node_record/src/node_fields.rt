@@ -6,8 +6,9 @@ ghost use Rattle.rlp_node_record.specs.NodeFields.{pair_fields, node_fields};
 
 use bytes::BytesMut;
 use rlp::{
-    AppendFields, Decodable, DecodeFields, DecoderError, Encodable, Fields, FixedFields, Flattened,
-    RawItem, Rlp, RlpStream, RoundTrip, StrictRead,
+    AppendFields, Decodable, DecodeFields, DecodeFieldsPlaced, DecodePlaced, DecoderError,
+    Encodable, Fields, FixedFields, Flattened, Groups, RawItem, Rlp, RlpStream, RoundTrip,
+    StrictRead,
 };
 use std::alloc::{AllocError, Global};
 
@@ -61,6 +62,17 @@ impl DecodeFields for NodePair {
     }
 }
 
+impl DecodeFieldsPlaced for NodePair {
+    fn put_path(
+        alloc: Global,
+        count: usize,
+        fields: &mut Fields<'_>,
+        path: &mut Vec<usize>,
+    ) -> Result<bool, AllocError> {
+        <(Vec<u8>, (RawItem, ())) as DecodeFieldsPlaced>::put_path(alloc, count, fields, path)
+    }
+}
+
 impl FixedFields for NodePair {
     fn width() -> Option<usize> {
         Some(2)
@@ -95,6 +107,12 @@ impl Decodable for NodeFields {
                 pairs: [(..)]
             }
         )
+    }
+}
+
+impl DecodePlaced for NodeFields {
+    fn put_path(alloc: Global, rlp: &Rlp<'_>, path: &mut Vec<usize>) -> Result<(), AllocError> {
+        rlp::put_struct_path!(alloc, rlp, path, Vec<u8>, u64; Groups<NodePair>)
     }
 }
 

@@ -4,7 +4,7 @@ ghost use Rattle.std.specs.Prelude.{◌≡◌, ◌⊎◌, ◌↔◌, Ok, Err, If
 ghost use Rattle.std.specs.Vec.{vec_items};
 ghost use Rattle.rlp.specs.DecoderError.TheVariants.{OutOfMemory};
 ghost use Rattle.rlp.specs.Format.Encoding.{encoding};
-ghost use Rattle.rlp.specs.Form.{fault_of};
+ghost use Rattle.rlp.specs.Form.{IsPlaced, fault_of};
 ghost use Rattle.rlp_node_record.specs.NodeFields.{node_fields, signed_item};
 ghost use Rattle.rlp_node_record.specs.NodeRecord.{AreInOrder, AreRecordKeys, IsNodeRecord, keys_of, keys_rise, read_record, test_fields, test_keys};
 ghost use Rattle.rlp_node_record.specs.NodeLaws.{node_record};
@@ -13,8 +13,8 @@ use crate::lookup::has_id;
 use crate::node_fields::{NodeFields, NodePair};
 use bytes::BytesMut;
 use rlp::{
-    Decodable, DecoderError, Encodable, Flattened, Rlp, RlpStream, RoundTrip, StrictRead,
-    write_struct,
+    Decodable, DecodePlaced, DecoderError, Encodable, Flattened, Rlp, RlpStream, RoundTrip,
+    StrictRead, write_struct,
 };
 use std::alloc::{AllocError, Global};
 use std::cmp::Ordering;
@@ -149,6 +149,21 @@ fn record_fields(alloc: Global, bytes: &[u8]) -> Result<NodeFields, DecoderError
     }
 }
 
+/// Appends the path of the fault of bytes that are one item. The tests of the size and of the keys
+/// are of the whole.
+fn put_record_path(alloc: Global, bytes: &[u8], path: &mut Vec<usize>) -> Result<(), AllocError>
+    ensures { OnOk result (IsPlaced (read_record bytes.now) path.old.items path.new.items) }
+{
+    if NodeRecord::MAX_LEN < bytes.len() {
+        return Ok(());
+    }
+    match rlp::decode_strict::<NodeFields>(alloc, bytes) {
+        Ok(_) => Ok(()),
+        Err(DecoderError::OutOfMemory) => Err(AllocError),
+        Err(_) => NodeFields::put_path(alloc, &Rlp::new_strict(bytes), path),
+    }
+}
+
 impl Encodable for NodeRecord {
     ghost item = { node_record.item };
 
@@ -172,6 +187,15 @@ impl Decodable for NodeRecord {
         let (item, _) = rlp.split_first()?;
         let fields = record_fields(alloc, item.as_raw())?;
         Ok(NodeRecord { fields })
+    }
+}
+
+impl DecodePlaced for NodeRecord {
+    fn put_path(alloc: Global, rlp: &Rlp<'_>, path: &mut Vec<usize>) -> Result<(), AllocError> {
+        match rlp.split_first() {
+            Ok((item, _)) => put_record_path(alloc, item.as_raw(), path),
+            Err(_) => Ok(()),
+        }
     }
 }
 

@@ -34,10 +34,10 @@ module _ {B : Type 0} (offset : ℕ) (messages : Cases B) where
 
   module _ (small : AreSmall messages.cases.tag) (low : offset < 0x100) (d : List ℕ) (fits : length d < 2 ^ 64) (x : B) (fit : messages.cases.Fits x)
       (is : d ≡ message_bytes offset messages.cases x) where
-    id_fits : FitsBytes 8 (offset + messages.cases.tag x)
+    pub id_fits : FitsBytes 8 (offset + messages.cases.tag x)
     id_fits = omega (arith, small.below x, low)
 
-    body_sized : IsSized (messages.cases.item x)
+    pub body_sized : IsSized (messages.cases.item x)
     body_sized =
         omega (arith, fits, ap length is, length-append (encoding (number_item (offset + messages.cases.tag x))) (encoding (messages.cases.item x)))
 
@@ -80,19 +80,20 @@ module _ {B : Type 0} (offset : ℕ) (messages : Cases B) where
   pub id_fails : (d : List ℕ) (e : DecoderError) → numbered_of offset d ≡ Err (fault_of e) → (message_of offset messages.cases.read d).result ≡ Err (fault_of e)
   id_fails d e is = ap (λ r. and_then r (λ (m : ℕ × List ℕ). (messages.cases.read m.0 (strict_view_of m.1)).result)) is
 
-  module _ {R : Type 0} (body : R → B) (d : List ℕ) (r : Result R DecoderError) where
-    -- what the body of the message gives is what the message gives
-    module _ (m : ℕ × List ℕ) (is : numbered_of offset d ≡ Ok m) where
-      same_read : (message_of offset messages.cases.read d).result ≡ (messages.cases.read m.0 (strict_view_of m.1)).result
-      same_read = ap (λ r. and_then r (λ (m : ℕ × List ℕ). (messages.cases.read m.0 (strict_view_of m.1)).result)) is
+  -- what the body of the message gives is what the message gives
+  pub same_read : (d : List ℕ) (m : ℕ × List ℕ) → numbered_of offset d ≡ Ok m
+      → (message_of offset messages.cases.read d).result ≡ (messages.cases.read m.0 (strict_view_of m.1)).result
+  same_read d m is = ap (λ r. and_then r (λ (m : ℕ × List ℕ). (messages.cases.read m.0 (strict_view_of m.1)).result)) is
 
+  module _ {R : Type 0} (body : R → B) (d : List ℕ) (r : Result R DecoderError) where
+    module _ (m : ℕ × List ℕ) (is : numbered_of offset d ≡ Ok m) where
       pub body_value : IfOk r (λ x. (messages.cases.read m.0 (strict_view_of m.1)).result ≡ Ok (messages.cases.seen (body x)))
           → IfOk r (λ x. (message_of offset messages.cases.read d).result ≡ Ok (messages.cases.seen (body x)))
-      body_value value = subst (λ a. IfOk r (λ x. a ≡ Ok (messages.cases.seen (body x)))) (sym same_read) value
+      body_value value = subst (λ a. IfOk r (λ x. a ≡ Ok (messages.cases.seen (body x)))) (sym (same_read d m is)) value
 
       pub body_fault : IfErr r (λ e. ((messages.cases.read m.0 (strict_view_of m.1)).result ≡ Err (fault_of e)) ⊎ (e ≡ OutOfMemory))
           → IfErr r (λ e. ((message_of offset messages.cases.read d).result ≡ Err (fault_of e)) ⊎ (e ≡ OutOfMemory))
-      body_fault fault = subst (λ a. IfErr r (λ e. (a ≡ Err (fault_of e)) ⊎ (e ≡ OutOfMemory))) (sym same_read) fault
+      body_fault fault = subst (λ a. IfErr r (λ e. (a ≡ Err (fault_of e)) ⊎ (e ≡ OutOfMemory))) (sym (same_read d m is)) fault
 
     -- a message is read only from its bytes
     pub message_whole : AreBytes d → length d < 2 ^ 64 → IfOk r (λ x. (message_of offset messages.cases.read d).result ≡ Ok (messages.cases.seen (body x)))

@@ -8,5 +8,9 @@ pub mod Session
 pub mod Disconnect
 -- messages with their ids
 pub mod Message
+-- bounds on messages
+pub mod Bounds
+-- the ids of capabilities
+pub mod Offsets
 -- the messages of p2p
 pub mod P2pMessage

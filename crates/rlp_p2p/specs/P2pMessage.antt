@@ -1,5 +1,5 @@
 -- How the messages of `p2p` are written and read.
-use Rattle.std.specs.Prelude.{ℕ, ◌⊎◌, List}
+use Rattle.std.specs.Prelude.{ℕ, ◌⊎◌, List, [], ◌∷◌}
 use Rattle.std.proofs.Common.{inl, inr}
 use Rattle.rlp.specs.Codec.{Cases, and_case, last_case}
 use Rattle.rlp_p2p.specs.declared.disconnect.Disconnect.{Disconnect}
@@ -24,6 +24,10 @@ p2p_messages =
     and_case 0x01 disconnect (
     and_case 0x02 ping (
     last_case unknown_message 0x03 pong)))
+
+-- the numbers of the messages of p2p
+abbrev pub p2p_numbers : List ℕ
+p2p_numbers = 0x00 ∷ 0x01 ∷ 0x02 ∷ 0x03 ∷ []
 
 -- the body of a message of p2p
 abbrev pub p2p_body : P2pMessage → P2pBody

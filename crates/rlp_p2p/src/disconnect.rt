@@ -3,7 +3,9 @@
 ghost use Rattle.std.specs.Prelude.{◌≡◌};
 ghost use Rattle.rlp_p2p.specs.Disconnect.{NamedIfPossible, disconnect, reason, reason_number, told_reason};
 
-use rlp::{Decodable, DecoderError, Encodable, Rlp, RlpStream, RoundTrip, StrictRead};
+use rlp::{
+    Decodable, DecodePlaced, DecoderError, Encodable, Rlp, RlpStream, RoundTrip, StrictRead,
+};
 use std::alloc::{AllocError, Global};
 
 /// Why a client ends a connection: a number of one byte, by its name in RLPx.
@@ -107,6 +109,12 @@ impl Decodable for DisconnectReason {
     }
 }
 
+impl DecodePlaced for DisconnectReason {
+    fn put_path(_alloc: Global, _rlp: &Rlp<'_>, _path: &mut Vec<usize>) -> Result<(), AllocError> {
+        Ok(())
+    }
+}
+
 impl RoundTrip for DisconnectReason {
     ghost round_trip = { reason.reads_back };
 }
@@ -168,6 +176,15 @@ impl Decodable for Disconnect {
         }
         let reason = rlp.as_val(alloc)?;
         Ok(Disconnect::Bare(reason))
+    }
+}
+
+impl DecodePlaced for Disconnect {
+    fn put_path(alloc: Global, rlp: &Rlp<'_>, path: &mut Vec<usize>) -> Result<(), AllocError> {
+        if rlp.is_list() {
+            return rlp::put_struct_path!(alloc, rlp, path, DisconnectReason);
+        }
+        DisconnectReason::put_path(alloc, rlp, path)
     }
 }
 

@@ -3,8 +3,9 @@
 ghost use Rattle.rlp_p2p.specs.Hello.{node_id, capability, further_fields, hello};
 
 use rlp::{
-    AppendFields, Decodable, DecodeFields, DecoderError, Encodable, Fields, FixedFields, Flattened,
-    ListOf, RawItem, Rlp, RlpStream, RoundTrip, StrictRead,
+    AppendFields, Decodable, DecodeFields, DecodeFieldsPlaced, DecodePlaced, DecoderError,
+    Encodable, Fields, FixedFields, Flattened, Groups, ListField, ListOf, RawItem, Rlp, RlpStream,
+    RoundTrip, StrictRead,
 };
 use std::alloc::{AllocError, Global};
 
@@ -31,6 +32,12 @@ impl Decodable for NodeId {
     fn decode(alloc: Global, rlp: &Rlp<'_>) -> Result<NodeId, DecoderError> {
         let bytes = rlp.as_val(alloc)?;
         Ok(NodeId(bytes))
+    }
+}
+
+impl DecodePlaced for NodeId {
+    fn put_path(_alloc: Global, _rlp: &Rlp<'_>, _path: &mut Vec<usize>) -> Result<(), AllocError> {
+        Ok(())
     }
 }
 
@@ -67,6 +74,12 @@ impl Decodable for Capability {
 
     fn decode(alloc: Global, rlp: &Rlp<'_>) -> Result<Capability, DecoderError> {
         rlp::decode_fields!(alloc, rlp, Capability { name, version })
+    }
+}
+
+impl DecodePlaced for Capability {
+    fn put_path(alloc: Global, rlp: &Rlp<'_>, path: &mut Vec<usize>) -> Result<(), AllocError> {
+        rlp::put_struct_path!(alloc, rlp, path, Vec<u8>, u64)
     }
 }
 
@@ -108,6 +121,17 @@ impl DecodeFields for FurtherItem {
 
     fn decode_fields(alloc: Global, fields: &mut Fields<'_>) -> Result<FurtherItem, DecoderError> {
         rlp::decode_fields!(fields alloc, fields, FurtherItem { item })
+    }
+}
+
+impl DecodeFieldsPlaced for FurtherItem {
+    fn put_path(
+        alloc: Global,
+        count: usize,
+        fields: &mut Fields<'_>,
+        path: &mut Vec<usize>,
+    ) -> Result<bool, AllocError> {
+        <(RawItem, ()) as DecodeFieldsPlaced>::put_path(alloc, count, fields, path)
     }
 }
 
@@ -172,6 +196,14 @@ impl Decodable for Hello {
                 node_id,
                 further: [(..)]
             }
+        )
+    }
+}
+
+impl DecodePlaced for Hello {
+    fn put_path(alloc: Global, rlp: &Rlp<'_>, path: &mut Vec<usize>) -> Result<(), AllocError> {
+        rlp::put_struct_path!(
+            alloc, rlp, path, u64, Vec<u8>, ListField<Capability>, u64, NodeId; Groups<FurtherItem>
         )
     }
 }

@@ -1,14 +1,17 @@
 //! Messages with their ids: the encoding of the id, and then the encoding of the body.
 
-ghost use Rattle.std.specs.Prelude.{◌≡◌, ◌+◌, ◌++◌, Err, IfErr, IfOk, Ok, OnOk};
+ghost use Rattle.std.specs.Prelude.{◌≡◌, ◌+◌, ◌++◌, ◌⊎◌, Err, IfErr, IfOk, None, Ok, OnOk, Some};
+ghost use Rattle.rlp.specs.DecoderError.TheVariants.{OutOfMemory};
 ghost use Rattle.rlp.specs.Format.Encoding.{encoding};
 ghost use Rattle.rlp.specs.Values.Value.{number_item};
 ghost use Rattle.rlp.specs.Form.{Gives, fault_of, number};
-ghost use Rattle.rlp.specs.Views.View.{view_of};
+ghost use Rattle.rlp.specs.Views.View.{strict_view_of, view_of};
+ghost use Rattle.rlp_p2p.specs.Bounds.{items_fault};
 ghost use Rattle.rlp_p2p.specs.Message.{numbered_of};
 
 use bytes::BytesMut;
-use rlp::{DecoderError, Encodable, Rlp, RlpStream};
+use rlp::{DecoderError, Encodable, Rlp, RlpStream, StrictRead};
+use rlp_records::decode_at_most;
 use std::alloc::{AllocError, Global};
 
 /// Returns the bytes of a message: the encoding of its id, which is the number after the offset,
@@ -39,7 +42,8 @@ pub struct Numbered<'a> {
 }
 
 impl<'a> Numbered<'a> {
-    /// Reads the id that the bytes begin with. It doesn't allocate.
+    /// Reads the id that the bytes begin with. It doesn't allocate. After the offset 0 the number is
+    /// the id itself, which tells the capability of a message.
     ///
     /// Fails as reading a `u64` does, and with `Custom("unknown message")` for an id below the
     /// offset.
@@ -67,16 +71,41 @@ impl<'a> Numbered<'a> {
     }
 }
 
-/// Reads the body of a message by its number. The arguments are the allocator, the message, and
-/// then for each number the variant that holds the body. It is the whole body of a function.
+/// Reads the body of a message strictly, with at most this number of items if there is one. It
+/// doesn't allocate for bytes that the number refuses.
 ///
-/// Fails with `Custom("unknown message")` for another number, and else with the strict fault of the
-/// body.
+/// Fails as `decode_at_most` of `rlp_records` does if there is a number, and else with the strict
+/// fault of the body.
+pub fn decode_within<R: StrictRead>(
+    alloc: Global,
+    bytes: &[u8],
+    most: Option<usize>,
+) -> Result<R, DecoderError>
+    ensures value { IfOk result
+        (λ w. (R.reading.read (strict_view_of bytes.now)).result ≡ Ok (R.reading.seen w)) }
+    ensures within { OnOk result (items_fault most bytes.now ≡ None) }
+    ensures fault { IfErr result (λ e. (items_fault most bytes.now ≡ Some (fault_of e))
+        ⊎ ((items_fault most bytes.now ≡ None)
+        × (((R.reading.read (strict_view_of bytes.now)).result ≡ Err (fault_of e))
+        ⊎ (e ≡ OutOfMemory)))) }
+{
+    match most {
+        None => rlp::decode_strict(alloc, bytes),
+        Some(most) => decode_at_most(alloc, bytes, most),
+    }
+}
+
+/// Reads the body of a message by its number. The arguments are the allocator, the message, the
+/// greatest number of items or `None`, and then for each number the variant that holds the body. It is
+/// the whole body of a function.
+///
+/// Fails with `Custom("unknown message")` for another number, and else as
+/// [`decode_within`](crate::message::decode_within) does.
 #[macro_export]
 macro_rules! decode_numbered {
-    ($alloc:expr, $message:expr, $($number:literal => $variant:path),+ $(,)?) => {
+    ($alloc:expr, $message:expr, $most:expr, $($number:literal => $variant:path),+ $(,)?) => {
         match $message.number {
-            $($number => match rlp::decode_strict($alloc, $message.body) {
+            $($number => match $crate::message::decode_within($alloc, $message.body, $most) {
                 Ok(body) => Ok($variant(body)),
                 Err(fault) => Err(fault),
             },)+

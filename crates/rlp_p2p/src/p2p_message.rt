@@ -1,14 +1,15 @@
 //! Messages of the capability `p2p` of RLPx, with their ids.
 
-ghost use Rattle.std.specs.Prelude.{◌≡◌, ◌⊎◌, Err, IfErr, IfOk, Ok, OnOk};
+ghost use Rattle.std.specs.Prelude.{◌≡◌, ◌⊎◌, Err, IfErr, IfOk, None, Ok, OnOk, Some};
 ghost use Rattle.rlp.specs.DecoderError.TheVariants.{OutOfMemory};
 ghost use Rattle.rlp.specs.Form.{fault_of};
 ghost use Rattle.rlp.specs.Views.View.{strict_view_of};
+ghost use Rattle.rlp_p2p.specs.Bounds.{IsWithin, body_fault, message_at_most, message_fault};
 ghost use Rattle.rlp_p2p.specs.Message.{message_of};
-ghost use Rattle.rlp_p2p.specs.P2pMessage.{FitsP2p, p2p_body, p2p_bytes, p2p_messages, seen_p2p};
+ghost use Rattle.rlp_p2p.specs.P2pMessage.{FitsP2p, p2p_body, p2p_bytes, p2p_messages, p2p_numbers, seen_p2p};
 
 use crate::message::{Numbered, write};
-use crate::{Disconnect, Hello, Ping, Pong};
+use crate::{Disconnect, Hello, MessageBounds, Ping, Pong};
 use bytes::BytesMut;
 use rlp::DecoderError;
 use std::alloc::{AllocError, Global};
@@ -70,22 +71,66 @@ impl P2pMessage {
             → IfErr result (λ e. e ≡ OutOfMemory) }
     {
         match Numbered::of(alloc, offset, bytes) {
-            Ok(message) => decode_body(alloc, &message),
+            Ok(message) => decode_body(alloc, &message, None),
+            Err(fault) => Err(fault),
+        }
+    }
+
+    /// Reads a message as [`P2pMessage::from_message`] does, if its bytes are within the bounds. It
+    /// doesn't allocate for bytes that this refuses.
+    ///
+    /// Fails with `Custom("too many bytes")` for more bytes than the bound, then by the id as
+    /// [`P2pMessage::from_message`] does, then by the body as `decode_at_most` of `rlp_records` does,
+    /// as with `Custom("too many items")`, and else with the strict fault of the body. For the bytes of
+    /// a message within the bounds it fails only if memory runs out.
+    pub fn from_message_at_most(
+        alloc: Global,
+        offset: u8,
+        bytes: &[u8],
+        most: MessageBounds,
+    ) -> Result<P2pMessage, DecoderError>
+        ensures whole { IfOk result (λ m. FitsP2p m × (bytes.now ≡ p2p_bytes offset m)) }
+        ensures value { IfOk result
+            (λ m. (message_at_most offset most p2p_numbers p2p_messages.cases.read bytes.now).result
+            ≡ Ok (seen_p2p m)) }
+        ensures fault { IfErr result
+            (λ e. ((message_at_most offset most p2p_numbers p2p_messages.cases.read bytes.now).result
+            ≡ Err (fault_of e))
+            ⊎ ((message_fault offset most p2p_numbers bytes.now ≡ None) × (e ≡ OutOfMemory))) }
+        ensures memory { (m : P2pMessage) → FitsP2p m → bytes.now ≡ p2p_bytes offset m
+            → IsWithin most bytes.now (p2p_messages.cases.item (p2p_body m))
+            → IfErr result (λ e. e ≡ OutOfMemory) }
+    {
+        if bytes.len() > most.bytes {
+            return Err(DecoderError::Custom("too many bytes"));
+        }
+        match Numbered::of(alloc, offset, bytes) {
+            Ok(message) => decode_body(alloc, &message, Some(most.items)),
             Err(fault) => Err(fault),
         }
     }
 }
 
-// Reads the body of a message by its number.
-fn decode_body(alloc: Global, message: &Numbered<'_>) -> Result<P2pMessage, DecoderError>
+// Reads the body of a message by its number, with at most this number of items if there is one.
+fn decode_body(
+    alloc: Global,
+    message: &Numbered<'_>,
+    most: Option<usize>,
+) -> Result<P2pMessage, DecoderError>
     ensures value { IfOk result (λ m. (p2p_messages.cases.read message.now.number
         (strict_view_of message.now.body.now)).result ≡ Ok (seen_p2p m)) }
-    ensures fault { IfErr result (λ e. ((p2p_messages.cases.read message.now.number
-        (strict_view_of message.now.body.now)).result ≡ Err (fault_of e)) ⊎ (e ≡ OutOfMemory)) }
+    ensures within { OnOk result
+        (body_fault most p2p_numbers message.now.number message.now.body.now ≡ None) }
+    ensures fault { IfErr result
+        (λ e. (body_fault most p2p_numbers message.now.number message.now.body.now ≡ Some (fault_of e))
+        ⊎ ((body_fault most p2p_numbers message.now.number message.now.body.now ≡ None)
+        × (((p2p_messages.cases.read message.now.number
+        (strict_view_of message.now.body.now)).result ≡ Err (fault_of e)) ⊎ (e ≡ OutOfMemory)))) }
 {
     crate::decode_numbered!(
         alloc,
         message,
+        most,
         0x00 => P2pMessage::Hello,
         0x01 => P2pMessage::Disconnect,
         0x02 => P2pMessage::Ping,

@@ -2,7 +2,9 @@
 
 ghost use Rattle.rlp_p2p.specs.Session.{ping, pong};
 
-use rlp::{Decodable, DecoderError, Encodable, Rlp, RlpStream, RoundTrip, StrictRead};
+use rlp::{
+    Decodable, DecodePlaced, DecoderError, Encodable, Rlp, RlpStream, RoundTrip, StrictRead,
+};
 use std::alloc::{AllocError, Global};
 
 /// Asks for a [`Pong`], message 0x02 of `p2p`: the list of no items.
@@ -29,6 +31,12 @@ impl Decodable for Ping {
             Ok(()) => Ok(Ping),
             Err(fault) => Err(fault.fault),
         }
+    }
+}
+
+impl DecodePlaced for Ping {
+    fn put_path(alloc: Global, rlp: &Rlp<'_>, path: &mut Vec<usize>) -> Result<(), AllocError> {
+        rlp::put_path_of::<()>(alloc, rlp, path)
     }
 }
 
@@ -64,6 +72,12 @@ impl Decodable for Pong {
             Ok(()) => Ok(Pong),
             Err(fault) => Err(fault.fault),
         }
+    }
+}
+
+impl DecodePlaced for Pong {
+    fn put_path(alloc: Global, rlp: &Rlp<'_>, path: &mut Vec<usize>) -> Result<(), AllocError> {
+        rlp::put_path_of::<()>(alloc, rlp, path)
     }
 }
 

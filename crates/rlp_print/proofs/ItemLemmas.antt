@@ -1,10 +1,11 @@
 -- Lists are taken item by item, and items by what their bytes begin with.
-use Rattle.std.proofs.Common.{◌≡◌, ◌≢◌, ◌<◌, ◌-◌, ℕ, zero, suc, Bool, true, false, List, [], ◌∷◌, length, map, refl, ap, ◌∙◌, arith, Ok, Err}
-use Rattle.rlp.specs.Views.View.{item_views, view_of}
-use Rattle.rlp.specs.{DecoderError.DecoderError, Format.Framing.read_string, Values.RawItem.string_or_none}
-use Rattle.rlp_print.specs.Items.{item_shown, items_shown, node_shown, shown_within}
+use Rattle.std.proofs.Common.{◌≡◌, ◌≢◌, ◌<◌, ◌-◌, ℕ, zero, suc, Bool, true, false, List, [], ◌∷◌, length, map, refl, ap, ◌∙◌, arith, None, Ok, Err}
+use Rattle.rlp.specs.{Views.View.item_views, Views.View.view_of, DecoderError.DecoderError, Format.Framing.read_string, Values.RawItem.string_or_none}
+use Rattle.rlp_trie.specs.{TrieNodeLaws.trie_node, declared.trie_node.TrieNode.TrieNode}
+use Rattle.rlp_trie.specs.declared.trie_node.TrieNode.TheVariants as node
+use Rattle.rlp_print.specs.Items.{hashed_node, item_shown, items_shown, node_bytes, node_shown, shown_within, whole_node}
 use Rattle.rlp_print.specs.Value.{Steps, Value, after, after_items, array, bytes, content, values_of}
-use Rattle.rlp_print.specs.declared.{sink.Bracket.TheVariants.Square, sink.BytesKind.TheVariants.Any}
+use Rattle.rlp_print.specs.{declared.sink.Bracket.TheVariants.Square, declared.sink.BytesKind.TheVariants.Any}
 use Rattle.rlp_print.specs.NodeRecords.{key_value, key_value_by, string_content}
 
 -- ---- lists
@@ -44,13 +45,20 @@ list_shown (suc most) false b e is some kind =
     ap (item_shown (shown_within most) false b) is ∙ ap (λ n. items_shown (shown_within n) false (item_views (view_of b))) same
 
 pub nodes_shown : (most : ℕ) (is_node : Bool) (b : List ℕ) (e : DecoderError) → read_string b ≡ Err e → most ≢ 0 → is_node ≡ true
-    → shown_within most is_node b ≡ node_shown (shown_within (most - 1)) (item_views (view_of b))
+    → shown_within most is_node b ≡ node_shown (shown_within (most - 1)) None (item_views (view_of b))
 unfolding shown_within
 nodes_shown zero is_node b e is some kind = absurd (some refl)
 nodes_shown (suc most) true b e is some kind =
     let same : most ≡ suc most - 1 = omega arith in
-    ap (item_shown (shown_within most) true b) is ∙ ap (λ n. node_shown (shown_within n) (item_views (view_of b))) same
+    ap (item_shown (shown_within most) true b) is ∙ ap (λ n. node_shown (shown_within n) None (item_views (view_of b))) same
 nodes_shown (suc most) false b e is some kind = absurd cc
+
+-- nodes by themselves
+pub other_nodes : (n : TrieNode) → n ≢ node.Empty → whole_node (trie_node.reading.seen n) ≡ hashed_node (node_bytes (trie_node.reading.seen n))
+other_nodes node.Empty other = absurd (other refl)
+other_nodes (node.Leaf l) other = refl
+other_nodes (node.Extension e) other = refl
+other_nodes (node.Branch b) other = refl
 
 pub ruleset items_by_bytes = (string_shown, none_shown, list_shown, nodes_shown)
 

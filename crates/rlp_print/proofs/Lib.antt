@@ -3,4 +3,3 @@ pub mod ItemLemmas
 pub mod DumpLemmas
 pub mod WordLemmas
 pub mod Written
-pub mod Given

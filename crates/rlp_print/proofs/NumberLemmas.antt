@@ -1,7 +1,6 @@
 -- What `v` says, and which digits are those of zero.
 use Rattle.std.proofs.Common.{◌≡◌, ◌≢◌, ◌==◌, ◌||◌, ◌∙◌, ℕ, zero, suc, ◌+◌, ◌-◌, ◌*◌, ◌/◌, ◌%◌, ◌^◌, ◌<◌, ◌≤◌, ◌⊎◌, inl, inr, Bool, true, false, nat_lt, Option, Some, None, List, [], ◌∷◌, refl, ap, arith, ⊎_elim, ne_eqb, sym}
-use Rattle.std.specs.Prelude.{◌&&◌}
-use Rattle.std.specs.{Int.Digits.number_from_digits_after, List.list_all}
+use Rattle.std.specs.{Prelude.◌&&◌, Int.Digits.number_from_digits_after, List.list_all}
 use Rattle.std.proofs.lemmas.Bool.{cases_lt, cond-true, cond-false}
 use Rattle.std.proofs.{lemmas.Bool.Decides.nat_tests, lemmas.Nat.div-mul-add, lemmas.Nat.mod-mul-add}
 use Rattle.rlp.specs.Values.Value.{bit}

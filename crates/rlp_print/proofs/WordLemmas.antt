@@ -1,10 +1,7 @@
 -- Words are text.
-use Rattle.std.specs.List.{list_all}
-use Rattle.std.specs.Str.{IsAscii}
-use Rattle.std.specs.Prelude.{◌&&◌}
+use Rattle.std.specs.{List.list_all, Str.IsAscii, Prelude.◌&&◌}
 use Rattle.std.proofs.Common.{◌≡◌, List, ℕ, zero, suc, [], ◌∷◌, IsUtf8, Bool, true, false, refl, arith}
-use Rattle.std.proofs.lemmas.Bool.Decides.{nat_tests}
-use Rattle.std.proofs.lemmas.Str.{IsUtf8-from_ascii}
+use Rattle.std.proofs.{lemmas.Bool.Decides.nat_tests, lemmas.Str.IsUtf8-from_ascii}
 use Rattle.rlp_print.specs.Lines.{begins_with_letter, is_word, is_word_byte}
 
 ascii : (d : List ℕ) → list_all is_word_byte d ≡ true → IsAscii d

@@ -2,16 +2,15 @@
 use Rattle.std.proofs.Common.{◌≡◌, ◌∙◌, List, ℕ, [], ◌∷◌, Bool, length, map, refl, sym, ap}
 use Rattle.keccak.specs.Keccak.{keccak256}
 use Rattle.rlp.specs.Format.Encoding.{encoding}
-use Rattle.rlp_records.specs.Alone.{bytes_alone}
-use Rattle.rlp_records.specs.declared.hash.Hash.{Hash}
-use Rattle.rlp_headers.specs.Header.{header}
-use Rattle.rlp_headers.specs.declared.header.Header.{Header}
+use Rattle.rlp_records.specs.{Alone.bytes_alone, declared.hash.Hash.Hash}
+use Rattle.rlp_headers.specs.{Header.header, declared.header.Header.Header}
 use Rattle.rlp_transactions.specs.declared.{any_transaction.AnyTransaction.AnyTransaction, blob_transaction.BlobTransaction.BlobTransaction}
 use Rattle.rlp_transactions.specs.declared.{signed.Signed.Signed, unsigned_legacy_transaction.UnsignedLegacyTransaction.UnsignedLegacyTransaction, unsigned_transaction.UnsignedTransaction.UnsignedTransaction}
 use Rattle.rlp_transactions.specs.{AnyTransaction.any_transaction, BlobTransaction.signed_blob_transaction, LegacyTransaction.legacy_transaction_fields}
 use Rattle.rlp_transactions.specs.{UnsignedLegacyTransaction.unsigned_legacy_transaction, UnsignedTransaction.unsigned_transaction}
-use Rattle.rlp_ethereum.specs.Block.{block}
-use Rattle.rlp_ethereum.specs.declared.block.Block.{Block}
+use Rattle.rlp_trie.specs.{TrieNodeLaws.trie_node, declared.trie_node.TrieNode.TrieNode}
+use Rattle.rlp_ethereum.specs.{Block.block, declared.block.Block.Block}
+use Rattle.rlp_print.specs.Items.{node_bytes}
 use Rattle.rlp_print.specs.Blocks.{block_size, header_hash, seen_hash}
 use Rattle.rlp_print.specs.Transactions.{blob_hash, legacy_hash, payload_hash, transaction_hash}
 
@@ -29,6 +28,10 @@ hashes_seen (h ∷ hs) = cc (hashes_seen hs)
 pub block_written : (b : Block) (n : ℕ) → n ≡ length (encoding (block.item b)) → n ≡ block_size (block.reading.seen b)
 unfolding block_size
 block_written b n is = is ∙ ap (λ x. length (encoding x)) (sym (block.reads_strictly.told.written b))
+
+pub node_written : (n : TrieNode) (d : List ℕ) → d ≡ encoding (trie_node.item n) → d ≡ node_bytes (trie_node.reading.seen n)
+unfolding node_bytes
+node_written n d is = is ∙ ap encoding (sym (trie_node.reads_strictly.told.written n))
 
 pub transaction_written : (t : AnyTransaction) (d : List ℕ) → d ≡ keccak256 (bytes_alone (any_transaction.item t)) → d ≡ transaction_hash (any_transaction.reading.seen t)
 unfolding transaction_hash

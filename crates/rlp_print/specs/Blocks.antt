@@ -3,13 +3,11 @@ use Rattle.std.specs.Prelude.{codes, ℕ, List, length, map}
 use Rattle.keccak.specs.Keccak.{keccak256}
 use Rattle.rlp.specs.Format.Encoding.{encoding}
 use Rattle.rlp_records.specs.declared.hash.Hash.{Hash}
-use Rattle.rlp_headers.specs.Header.{header}
-use Rattle.rlp_headers.specs.declared.header.Header.{Header}
+use Rattle.rlp_headers.specs.{Header.header, declared.header.Header.Header}
 use Rattle.rlp_headers.specs.Forks.{cancun_fields, london_fields, shanghai_fields}
 use Rattle.rlp_ethereum.specs.{Block.block, Body.body}
-use Rattle.rlp_print.specs.Display.{Display, Fields, a_list, a_number, a_string, after_derived, an_object, bytes_as, derived, end, field, if_there, in_forms, in_order, one, one_if, through}
-use Rattle.rlp_print.specs.Records.{hash_entries, withdrawal_display}
-use Rattle.rlp_print.specs.Transactions.{any_transaction_display}
+use Rattle.rlp_print.specs.Display.{Display, Fields, a_list, a_number, a_string, after_derived, an_object, bytes_as, derived, end, field, if_there, in_forms, in_order, one, one_if, same, through}
+use Rattle.rlp_print.specs.{Records.hash_entries, Records.withdrawal_display, Transactions.any_transaction_display}
 use Rattle.rlp_print.specs.declared.sink.BytesKind.TheVariants.{Sparse}
 
 -- ---- headers
@@ -17,8 +15,7 @@ use Rattle.rlp_print.specs.declared.sink.BytesKind.TheVariants.{Sparse}
 -- what forks added
 abbrev pub cancun_display : Fields cancun_fields.reading.M
 cancun_display =
-    field (codes "blob_gas_used") (codes "blobGasUsed") a_number (
-    field (codes "excess_blob_gas") (codes "excessBlobGas") a_number (
+    field (codes "blob_gas_used") (codes "blobGasUsed") a_number (field (codes "excess_blob_gas") (codes "excessBlobGas") a_number (
     field (codes "parent_beacon_block_root") (codes "parentBeaconBlockRoot") a_string (
     one_if (codes "requests_hash") (codes "requestsHash") a_string)))
 
@@ -31,21 +28,13 @@ london_display = field (codes "base_fee_per_gas") (codes "baseFeePerGas") a_numb
 -- the fields of a header
 abbrev pub header_fields_display : Fields header.reading.M
 header_fields_display =
-    field (codes "parent_hash") (codes "parentHash") a_string (
-    field (codes "ommers_hash") (codes "sha3Uncles") a_string (
-    field (codes "beneficiary") (codes "miner") a_string (
-    field (codes "state_root") (codes "stateRoot") a_string (
-    field (codes "transactions_root") (codes "transactionsRoot") a_string (
-    field (codes "receipts_root") (codes "receiptsRoot") a_string (
-    field (codes "logs_bloom") (codes "logsBloom") (bytes_as Sparse) (
-    field (codes "difficulty") (codes "difficulty") a_number (
-    field (codes "number") (codes "number") a_number (
-    field (codes "gas_limit") (codes "gasLimit") a_number (
-    field (codes "gas_used") (codes "gasUsed") a_number (
-    field (codes "timestamp") (codes "timestamp") a_number (
-    field (codes "extra_data") (codes "extraData") a_string (
-    field (codes "mix_hash") (codes "mixHash") a_string (
-    field (codes "nonce") (codes "nonce") a_string (if_there london_display)))))))))))))))
+    field (codes "parent_hash") (codes "parentHash") a_string (field (codes "ommers_hash") (codes "sha3Uncles") a_string (
+    field (codes "beneficiary") (codes "miner") a_string (field (codes "state_root") (codes "stateRoot") a_string (
+    field (codes "transactions_root") (codes "transactionsRoot") a_string (field (codes "receipts_root") (codes "receiptsRoot") a_string (
+    field (codes "logs_bloom") (codes "logsBloom") (bytes_as Sparse) (same (codes "difficulty") a_number (same (codes "number") a_number (
+    field (codes "gas_limit") (codes "gasLimit") a_number (field (codes "gas_used") (codes "gasUsed") a_number (same (codes "timestamp") a_number (
+    field (codes "extra_data") (codes "extraData") a_string (field (codes "mix_hash") (codes "mixHash") a_string (
+    same (codes "nonce") a_string (if_there london_display)))))))))))))))
 
 -- the hash of a header
 unfoldable pub header_hash : header.reading.M → List ℕ
@@ -66,8 +55,7 @@ header_display = an_object hashed_header_display
 -- the fields of a body, which also stand in a block
 abbrev pub body_fields_display : Fields body.reading.M
 body_fields_display =
-    field (codes "transactions") (codes "transactions") (a_list any_transaction_display) (
-    field (codes "ommers") (codes "ommers") (a_list header_display) (
+    same (codes "transactions") (a_list any_transaction_display) (same (codes "ommers") (a_list header_display) (
     one_if (codes "withdrawals") (codes "withdrawals") (a_list withdrawal_display)))
 
 -- the number of bytes of a block
@@ -76,7 +64,7 @@ block_size b = length (encoding (block.reading.item b))
 
 -- what JSON has besides, as in the execution API: the hashes of the ommers, and the number of bytes of the block
 abbrev pub more_of_block : Fields block.reading.M
-more_of_block = derived (λ b. (field (codes "uncles") (codes "uncles") (a_list a_string) (one (codes "size") (codes "size") a_number)).shown (map header_hash b.1.1.0, block_size b))
+more_of_block = derived (λ b. (same (codes "uncles") (a_list a_string) (one (codes "size") (codes "size") a_number)).shown (map header_hash b.1.1.0, block_size b))
 
 -- In JSON the fields of the header stand in the block itself.
 abbrev pub block_display : Display block.reading.M

@@ -177,6 +177,10 @@ after_derived {M} shown f = through (λ (m : M). (m, m)) (in_order (derived show
 abbrev pub field : {M N : Type 0} → List ℕ → List ℕ → Display M → Fields N → Fields (M × N)
 field name json d more = in_order (one name json d) more
 
+-- a field that has this name in both forms, before others
+abbrev pub same : {M N : Type 0} → List ℕ → Display M → Fields N → Fields (M × N)
+same name d more = field name name d more
+
 -- a field that may be missing, before others
 abbrev pub field_if : {M N : Type 0} → List ℕ → List ℕ → Display M → Fields N → Fields (Option M × N)
 field_if name json d more = in_order (one_if name json d) more

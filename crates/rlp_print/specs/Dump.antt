@@ -5,8 +5,7 @@ use Rattle.hex.specs.Hex.{encode_lower}
 use Rattle.rlp.specs.{DecoderError.DecoderError, Format.Encoding.encoding, Format.Framing.begins_as_list, PayloadInfo.PayloadInfo, Values.Value.number_item, Views.View.begins_as_data}
 use Rattle.rlp.specs.{Format.Framing.framing, Format.Encoding.string}
 use Rattle.rlp_print.specs.Value.{Steps, after, Content, Value, number, type_byte, bytes, text, empty_list}
-use Rattle.rlp_print.specs.declared.{sink.NumberKind.TheVariants.Place, sink.BytesKind.TheVariants.Payload}
-use Rattle.rlp_print.specs.Lines.{line}
+use Rattle.rlp_print.specs.{declared.sink.NumberKind.TheVariants.Place, declared.sink.BytesKind.TheVariants.Payload, Lines.line}
 
 -- The rows so far, the number of bytes of the encoding, and the bytes that have no row yet.
 pub record Dump : Type 0 where

@@ -4,10 +4,9 @@ use Rattle.std.proofs.Common.{inl, inr}
 use Rattle.rlp_p2p.specs.{Disconnect.disconnect, Hello.capability, Hello.further_fields, Hello.hello}
 use Rattle.rlp_eth.specs.Announcements.{block_range_update, new_block, new_block_hash, new_pooled_transaction_hashes}
 use Rattle.rlp_eth.specs.{HashOrNumber.hash_or_number, Receipts69.receipt69, Requests.get_block_headers, Status.fork_id, Status.status68, Status.status69}
-use Rattle.rlp_print.specs.Display.{Display, Fields, a_bit, a_content, a_list, a_number, a_string, an_object, bytes_as, end, field, in_order, one, one_if, through}
+use Rattle.rlp_print.specs.Display.{Display, Fields, a_bit, a_content, a_list, a_number, a_string, an_object, bytes_as, end, field, in_order, one, one_if, same, through}
 use Rattle.rlp_print.specs.Value.{Content, bytes, number}
-use Rattle.rlp_print.specs.Records.{log_display, status_fields}
-use Rattle.rlp_print.specs.{Blocks.block_display, Items.raw_item_display}
+use Rattle.rlp_print.specs.{Records.log_display, Records.status_fields, Blocks.block_display, Items.raw_item_display}
 use Rattle.rlp_print.specs.declared.{sink.NumberKind.TheVariants.Decimal, sink.BytesKind.TheVariants.Any, sink.BytesKind.TheVariants.Word}
 
 -- the reason in a list, or the reason alone, which are shown alike
@@ -21,9 +20,7 @@ disconnect_display = an_object (through reason_of (one (codes "reason") (codes "
 -- ---- greetings
 
 abbrev pub capability_display : Display capability.reading.M
-capability_display = an_object (
-    field (codes "name") (codes "name") (bytes_as Word) (
-    field (codes "version") (codes "version") a_number end))
+capability_display = an_object (same (codes "name") (bytes_as Word) (same (codes "version") a_number end))
 
 -- the items of a list, if it has items
 abbrev pub if_some : {A : Type 0} → List A → Option (List A)
@@ -41,59 +38,44 @@ further_display = through if_some (one_if (codes "further") (codes "further") (a
 -- the fields, and then the items after them
 abbrev pub hello_display : Display hello.reading.M
 hello_display = an_object (
-    field (codes "protocol_version") (codes "protocolVersion") a_number (
-    field (codes "client_id") (codes "clientId") a_string (
-    field (codes "capabilities") (codes "capabilities") (a_list capability_display) (
-    field (codes "listen_port") (codes "listenPort") a_number (
+    field (codes "protocol_version") (codes "protocolVersion") a_number (field (codes "client_id") (codes "clientId") a_string (
+    same (codes "capabilities") (a_list capability_display) (field (codes "listen_port") (codes "listenPort") a_number (
     field (codes "node_id") (codes "nodeId") a_string further_display)))))
 
 -- ---- what a client knows of the chain
 
 abbrev pub fork_id_display : Display fork_id.reading.M
-fork_id_display = an_object (
-    field (codes "fork_hash") (codes "forkHash") a_string (
-    field (codes "fork_next") (codes "forkNext") a_number end))
+fork_id_display = an_object (field (codes "fork_hash") (codes "forkHash") a_string (field (codes "fork_next") (codes "forkNext") a_number end))
 
 abbrev pub status68_display : Display status68.reading.M
 status68_display = an_object (
-    field (codes "version") (codes "version") a_number (
-    field (codes "network_id") (codes "networkId") a_number (
-    field (codes "total_difficulty") (codes "totalDifficulty") a_number (
-    field (codes "block_hash") (codes "blockHash") a_string (
-    field (codes "genesis_hash") (codes "genesisHash") a_string (
-    field (codes "fork_id") (codes "forkId") fork_id_display end))))))
+    same (codes "version") a_number (field (codes "network_id") (codes "networkId") a_number (
+    field (codes "total_difficulty") (codes "totalDifficulty") a_number (field (codes "block_hash") (codes "blockHash") a_string (
+    field (codes "genesis_hash") (codes "genesisHash") a_string (field (codes "fork_id") (codes "forkId") fork_id_display end))))))
 
 -- the blocks that a client has, which also stand in its status
 abbrev pub range_display : Fields block_range_update.reading.M
 range_display =
-    field (codes "earliest_block") (codes "earliestBlock") a_number (
-    field (codes "latest_block") (codes "latestBlock") a_number (
+    field (codes "earliest_block") (codes "earliestBlock") a_number (field (codes "latest_block") (codes "latestBlock") a_number (
     field (codes "latest_block_hash") (codes "latestBlockHash") a_string end))
 
 abbrev pub status69_display : Display status69.reading.M
 status69_display = an_object (
-    field (codes "version") (codes "version") a_number (
-    field (codes "network_id") (codes "networkId") a_number (
+    same (codes "version") a_number (field (codes "network_id") (codes "networkId") a_number (
     field (codes "genesis_hash") (codes "genesisHash") a_string (
     field (codes "fork_id") (codes "forkId") fork_id_display range_display))))
 
 -- ---- announcements
 
 abbrev pub new_block_hash_display : Display new_block_hash.reading.M
-new_block_hash_display = an_object (
-    field (codes "hash") (codes "hash") a_string (
-    field (codes "number") (codes "number") a_number end))
+new_block_hash_display = an_object (same (codes "hash") a_string (same (codes "number") a_number end))
 
 abbrev pub new_pooled_transaction_hashes_display : Display new_pooled_transaction_hashes.reading.M
 new_pooled_transaction_hashes_display = an_object (
-    field (codes "types") (codes "types") a_string (
-    field (codes "sizes") (codes "sizes") (a_list a_number) (
-    field (codes "hashes") (codes "hashes") (a_list a_string) end)))
+    same (codes "types") a_string (same (codes "sizes") (a_list a_number) (same (codes "hashes") (a_list a_string) end)))
 
 abbrev pub new_block_display : Display new_block.reading.M
-new_block_display = an_object (
-    field (codes "block") (codes "block") block_display (
-    field (codes "total_difficulty") (codes "totalDifficulty") a_number end))
+new_block_display = an_object (same (codes "block") block_display (field (codes "total_difficulty") (codes "totalDifficulty") a_number end))
 
 -- ---- requests and their answers
 
@@ -118,10 +100,8 @@ hash_or_number_display = a_content hash_or_number_content hash_or_number_apart
 
 abbrev pub get_block_headers_display : Display get_block_headers.reading.M
 get_block_headers_display = an_object (
-    field (codes "start_block") (codes "startBlock") hash_or_number_display (
-    field (codes "limit") (codes "limit") a_number (
-    field (codes "skip") (codes "skip") a_number (
-    field (codes "reverse") (codes "reverse") a_bit end))))
+    field (codes "start_block") (codes "startBlock") hash_or_number_display (same (codes "limit") a_number (
+    same (codes "skip") a_number (same (codes "reverse") a_bit end))))
 
 -- ---- receipts of blocks
 
@@ -130,5 +110,4 @@ abbrev pub receipt69_display : Display receipt69.reading.M
 receipt69_display = an_object (
     field (codes "transaction_type") (codes "transactionType") a_number (
     in_order status_fields (
-    field (codes "cumulative_gas_used") (codes "cumulativeGasUsed") a_number (
-    field (codes "logs") (codes "logs") (a_list log_display) end))))
+    field (codes "cumulative_gas_used") (codes "cumulativeGasUsed") a_number (same (codes "logs") (a_list log_display) end))))

@@ -4,7 +4,7 @@ use Rattle.std.specs.{Int.Digits.number_from_digits, Str.bytes_eq}
 use Rattle.std.proofs.Common.{ap, inl, inr}
 use Rattle.rlp.specs.{DecoderError.DecoderError, Form.begins_with_zero, Format.Encoding.Item, Format.Framing.read_string, Values.RawItem.raw_item_of}
 use Rattle.rlp_node_record.specs.NodeFields.{node_fields, pair_fields}
-use Rattle.rlp_print.specs.Display.{Display, a_list, a_number, a_string, an_object, bytes_as, content_same, field, one, through}
+use Rattle.rlp_print.specs.Display.{Display, a_list, a_number, a_string, an_object, bytes_as, content_same, one, same, through}
 use Rattle.rlp_print.specs.Value.{Content, Value, content, bytes, number}
 use Rattle.rlp_print.specs.Items.{item_shown, raw_apart, shown_within}
 use Rattle.rlp_print.specs.declared.{sink.NumberKind.TheVariants.Decimal, sink.BytesKind.TheVariants.Any, sink.BytesKind.TheVariants.Ip, sink.BytesKind.TheVariants.Word}
@@ -48,7 +48,7 @@ by_strings : (key other b c : List ℕ) (r s : Result (List ℕ) DecoderError) �
     → key_value_by key b r ≡ key_value_by other c s → key_told_by key b r ≡ key_told_by other c s
 unfolding shown_within
 by_strings key other b c (Ok d) (Ok e) first second is = ap inl (content_same is)
-by_strings key other b c (Err d) (Err e) first second is = ap inr (raw_apart false b c is)
+by_strings key other b c (Err d) (Err e) first second is = ap inr (raw_apart b c is)
 by_strings key other b c (Ok d) (Err e) first second is = let items = ap (item_shown (shown_within 255) false c) second in absurd cc
 by_strings key other b c (Err d) (Ok e) first second is = let items = ap (item_shown (shown_within 255) false b) first in absurd cc
 
@@ -68,9 +68,9 @@ key_value_display = record {
 
 abbrev pub node_pair_display : Display pair_fields.reading.M
 node_pair_display = an_object (through (λ p. (p.0, (p.0, p.1.0))) (
-    field (codes "key") (codes "key") (bytes_as Word) (one (codes "value") (codes "value") key_value_display)))
+    same (codes "key") (bytes_as Word) (one (codes "value") (codes "value") key_value_display)))
 
 abbrev pub node_fields_display : Display node_fields.reading.M
 node_fields_display = an_object (
-    field (codes "signature") (codes "signature") a_string (
-    field (codes "sequence") (codes "sequence") a_number (one (codes "pairs") (codes "pairs") (a_list node_pair_display))))
+    same (codes "signature") a_string (
+    same (codes "sequence") a_number (one (codes "pairs") (codes "pairs") (a_list node_pair_display))))

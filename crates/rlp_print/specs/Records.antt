@@ -1,7 +1,7 @@
 -- What is shown of withdrawals, accounts, logs and receipts, and of the fault of a record.
 use Rattle.std.specs.Prelude.{codes, refl, ℕ, List, ◌≡◌, Option, Some, None}
 use Rattle.rlp_headers.specs.{Account.account, Log.log, Receipt.receipt_fields, ReceiptStatus.receipt_status, TypedReceipt.typed_receipt, Withdrawal.withdrawal}
-use Rattle.rlp_print.specs.Display.{Display, Fields, a_bit, a_list, a_number, a_string, a_text, after_derived, an_object, bytes_as, end, field, field_if, in_order, number_as, one}
+use Rattle.rlp_print.specs.Display.{Display, Fields, a_bit, a_list, a_number, a_string, a_text, after_derived, an_object, bytes_as, end, field, field_if, in_order, number_as, one, same}
 use Rattle.rlp_print.specs.Value.{Entries, bytes, content, entry, by_form}
 use Rattle.rlp_print.specs.Types.{and_type, last_type, no_type_entries, of_type}
 use Rattle.rlp_print.specs.declared.{sink.NumberKind.TheVariants.Place, sink.BytesKind.TheVariants.Any, sink.BytesKind.TheVariants.Sparse}
@@ -10,7 +10,7 @@ use Rattle.rlp_print.specs.declared.{sink.NumberKind.TheVariants.Place, sink.Byt
 abbrev pub fault_display : Display (Option ℕ × (List ℕ × List ℕ))
 fault_display = an_object (one (codes "error") (codes "error") (an_object (
     field_if (codes "field") (codes "field") (number_as Place) (
-    field (codes "name") (codes "name") a_text (one (codes "fault") (codes "fault") a_text)))))
+    same (codes "name") a_text (one (codes "fault") (codes "fault") a_text)))))
 
 -- the hash that names a record
 abbrev pub hash_entries : List ℕ → Entries
@@ -18,23 +18,16 @@ hash_entries hash = entry (codes "hash") (codes "hash") (content (bytes Any hash
 
 abbrev pub withdrawal_display : Display withdrawal.reading.M
 withdrawal_display = an_object (
-    field (codes "index") (codes "index") a_number (
-    field (codes "validator_index") (codes "validatorIndex") a_number (
-    field (codes "address") (codes "address") a_string (
-    field (codes "amount") (codes "amount") a_number end))))
+    same (codes "index") a_number (field (codes "validator_index") (codes "validatorIndex") a_number (
+    same (codes "address") a_string (same (codes "amount") a_number end))))
 
 abbrev pub account_display : Display account.reading.M
 account_display = an_object (
-    field (codes "nonce") (codes "nonce") a_number (
-    field (codes "balance") (codes "balance") a_number (
-    field (codes "storage_root") (codes "storageHash") a_string (
-    field (codes "code_hash") (codes "codeHash") a_string end))))
+    same (codes "nonce") a_number (same (codes "balance") a_number (
+    field (codes "storage_root") (codes "storageHash") a_string (field (codes "code_hash") (codes "codeHash") a_string end))))
 
 abbrev pub log_display : Display log.reading.M
-log_display = an_object (
-    field (codes "address") (codes "address") a_string (
-    field (codes "topics") (codes "topics") (a_list a_string) (
-    field (codes "data") (codes "data") a_string end)))
+log_display = an_object (same (codes "address") a_string (same (codes "topics") (a_list a_string) (same (codes "data") a_string end)))
 
 -- ---- receipts
 
@@ -57,8 +50,7 @@ abbrev pub receipt_display : Fields receipt_fields.reading.M
 receipt_display =
     in_order status_fields (
     field (codes "cumulative_gas_used") (codes "cumulativeGasUsed") a_number (
-    field (codes "logs_bloom") (codes "logsBloom") (bytes_as Sparse) (
-    field (codes "logs") (codes "logs") (a_list log_display) end)))
+    field (codes "logs_bloom") (codes "logsBloom") (bytes_as Sparse) (same (codes "logs") (a_list log_display) end)))
 
 -- receipts of all types
 abbrev pub typed_receipt_display : Display typed_receipt.reading.M

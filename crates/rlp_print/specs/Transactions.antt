@@ -1,23 +1,20 @@
 -- What is shown of transactions of all types, with their signatures and without, and as they are sent with their blobs.
-use Rattle.std.specs.Prelude.{ℕ, List, codes, refl, ◌≡◌, ◌==◌, ◌&&◌, if◌then◌else◌, Bool, true, false, ◌∷◌, Option, Some, None, option_map, drop, ◌⊎◌, ⊤}
+use Rattle.std.specs.Prelude.{ℕ, List, codes, refl, ◌≡◌, ◌==◌, ◌&&◌, if◌then◌else◌, Bool, true, false, ◌∷◌, Option, Some, None, option_map, drop, ⊤}
 use Rattle.std.proofs.Common.{inl, inr, ap, sym, ◌∙◌}
 use Rattle.keccak.specs.Keccak.{keccak256}
-use Rattle.rlp.specs.{Format.Encoding.encoding, Format.Encoding.list_of}
-use Rattle.rlp.specs.Form.{FieldsReading}
-use Rattle.rlp.specs.Sums.{sum_map}
+use Rattle.rlp.specs.{Format.Encoding.encoding, Format.Encoding.list_of, Form.FieldsReading}
 use Rattle.rlp_records.specs.Alone.{bytes_alone}
-use Rattle.rlp_transactions.specs.declared.eip155.Eip155.{Eip155}
+use Rattle.rlp_transactions.specs.{declared.eip155.Eip155.Eip155, Signatures.number_of, UnsignedTransaction.unsigned_transaction}
+use Rattle.rlp_transactions.specs.declared.signed.Signed.{Signed}
 use Rattle.rlp_transactions.specs.{Access.access_list, Access.access_list_item, AccessListTransaction.access_list_transaction_fields, AnyTransaction.any_transaction, Authorization.authorization_fields}
 use Rattle.rlp_transactions.specs.{Authorization.signed_authorization, BlobTransaction.blob_transaction_fields, BlobTransaction.signed_blob_transaction, Recipient.recipient}
 use Rattle.rlp_transactions.specs.{BlobWrapper.with_cell_proofs, BlobWrapper.with_proofs, FeeMarketTransaction.fee_market_transaction_fields, Transaction.transaction}
 use Rattle.rlp_transactions.specs.{LegacyTransaction.legacy_transaction_fields, LegacyTransaction.signed_legacy_transaction, OtherTransaction.other_type}
 use Rattle.rlp_transactions.specs.{SetCodeTransaction.set_code_transaction_fields, UnsignedLegacyTransaction.chain_fields, UnsignedLegacyTransaction.unsigned_legacy_transaction}
-use Rattle.rlp_transactions.specs.{Signatures.number_of, UnsignedTransaction.unsigned_transaction, declared.signed.Signed.Signed}
-use Rattle.rlp_print.specs.Display.{Display, Fields, a_bit, a_content, a_list, a_number, a_quantity, a_string, a_type, after_derived, an_object, bytes_as, derived, end, field, field_if, if_there, in_order, one, one_if, through}
-use Rattle.rlp_print.specs.{Lines.said_by, Records.hash_entries}
+use Rattle.rlp_print.specs.Display.{Display, Fields, a_bit, a_content, a_list, a_number, a_quantity, a_string, a_type, after_derived, an_object, bytes_as, derived, end, field, field_if, if_there, in_order, one, one_if, same, through}
+use Rattle.rlp_print.specs.{Lines.said_by, Records.hash_entries, declared.sink.NumberKind.TheVariants.Decimal, declared.sink.NumberKind.TheVariants.LegacyV}
 use Rattle.rlp_print.specs.Value.{Content, Entries, both, by_form, bytes, content, entries_if, entry, nothing, number}
-use Rattle.rlp_print.specs.Types.{and_type, last_type, no_type_entries, of_type, on_either}
-use Rattle.rlp_print.specs.declared.{sink.NumberKind.TheVariants.Decimal, sink.NumberKind.TheVariants.LegacyV}
+use Rattle.rlp_print.specs.Types.{and_type, either, last_type, no_type_entries, of_type}
 use Rattle.rlp_print.specs.declared.sink.BytesKind.TheVariants.{Any, Null, Payload, Sparse}
 
 -- the bytes of an account, or none for a transaction that creates a contract
@@ -35,65 +32,48 @@ recipient_display = a_content recipient_content recipient_apart
 
 abbrev pub access_list_item_display : Display access_list_item.reading.M
 access_list_item_display = an_object (
-    field (codes "address") (codes "address") a_string (
-    field (codes "storage_keys") (codes "storageKeys") (a_list a_string) end))
+    same (codes "address") a_string (field (codes "storage_keys") (codes "storageKeys") (a_list a_string) end))
 
 abbrev pub access_list_display : Display access_list.reading.M
 access_list_display = a_list access_list_item_display
 
--- ---- the fields before the signature
+-- ---- the fields before the signature, of which several types have the same
+
+abbrev pub chain_and_nonce : {M : Type 0} → Fields M → Fields (ℕ × (ℕ × M))
+chain_and_nonce more = field (codes "chain_id") (codes "chainId") a_number (same (codes "nonce") a_number more)
+
+-- the fees for gas since EIP-1559
+abbrev pub fees : {M : Type 0} → Fields M → Fields (ℕ × (ℕ × M))
+fees more =
+    field (codes "max_priority_fee_per_gas") (codes "maxPriorityFeePerGas") a_number (field (codes "max_fee_per_gas") (codes "maxFeePerGas") a_number more)
+
+-- the gas, the account that is called, under this name in lines, the value and the data
+abbrev pub call : {A M : Type 0} → List ℕ → Display A → Fields M → Fields (ℕ × (A × (ℕ × (List ℕ × M))))
+call name account more =
+    field (codes "gas_limit") (codes "gas") a_number (field name (codes "to") account (
+    same (codes "value") a_number (field (codes "data") (codes "input") a_string more)))
+
+abbrev pub access : {M : Type 0} → Fields M → Fields (access_list.reading.M × M)
+access more = field (codes "access_list") (codes "accessList") access_list_display more
 
 abbrev pub legacy_display : Fields legacy_transaction_fields.reading.M
-legacy_display =
-    field (codes "nonce") (codes "nonce") a_number (
-    field (codes "gas_price") (codes "gasPrice") a_number (
-    field (codes "gas_limit") (codes "gas") a_number (
-    field (codes "to") (codes "to") recipient_display (
-    field (codes "value") (codes "value") a_number (
-    field (codes "data") (codes "input") a_string end)))))
+legacy_display = same (codes "nonce") a_number (field (codes "gas_price") (codes "gasPrice") a_number (call (codes "to") recipient_display end))
 
 abbrev pub access_list_transaction_display : Fields access_list_transaction_fields.reading.M
 access_list_transaction_display =
-    field (codes "chain_id") (codes "chainId") a_number (
-    field (codes "nonce") (codes "nonce") a_number (
-    field (codes "gas_price") (codes "gasPrice") a_number (
-    field (codes "gas_limit") (codes "gas") a_number (
-    field (codes "to") (codes "to") recipient_display (
-    field (codes "value") (codes "value") a_number (
-    field (codes "data") (codes "input") a_string (
-    field (codes "access_list") (codes "accessList") access_list_display end)))))))
+    chain_and_nonce (field (codes "gas_price") (codes "gasPrice") a_number (call (codes "to") recipient_display (access end)))
 
 abbrev pub fee_market_display : Fields fee_market_transaction_fields.reading.M
-fee_market_display =
-    field (codes "chain_id") (codes "chainId") a_number (
-    field (codes "nonce") (codes "nonce") a_number (
-    field (codes "max_priority_fee_per_gas") (codes "maxPriorityFeePerGas") a_number (
-    field (codes "max_fee_per_gas") (codes "maxFeePerGas") a_number (
-    field (codes "gas_limit") (codes "gas") a_number (
-    field (codes "to") (codes "to") recipient_display (
-    field (codes "value") (codes "value") a_number (
-    field (codes "data") (codes "input") a_string (
-    field (codes "access_list") (codes "accessList") access_list_display end))))))))
+fee_market_display = chain_and_nonce (fees (call (codes "to") recipient_display (access end)))
 
 abbrev pub blob_display : Fields blob_transaction_fields.reading.M
-blob_display =
-    field (codes "chain_id") (codes "chainId") a_number (
-    field (codes "nonce") (codes "nonce") a_number (
-    field (codes "max_priority_fee_per_gas") (codes "maxPriorityFeePerGas") a_number (
-    field (codes "max_fee_per_gas") (codes "maxFeePerGas") a_number (
-    field (codes "gas_limit") (codes "gas") a_number (
-    field (codes "to") (codes "to") a_string (
-    field (codes "value") (codes "value") a_number (
-    field (codes "data") (codes "input") a_string (
-    field (codes "access_list") (codes "accessList") access_list_display (
+blob_display = chain_and_nonce (fees (call (codes "to") a_string (access (
     field (codes "max_fee_per_blob_gas") (codes "maxFeePerBlobGas") a_number (
-    field (codes "blob_versioned_hashes") (codes "blobVersionedHashes") (a_list a_string) end))))))))))
+    field (codes "blob_versioned_hashes") (codes "blobVersionedHashes") (a_list a_string) end)))))
 
 abbrev pub authorization_display : Fields authorization_fields.reading.M
 authorization_display =
-    field (codes "chain_id") (codes "chainId") a_number (
-    field (codes "address") (codes "address") a_string (
-    field (codes "nonce") (codes "nonce") a_number end))
+    field (codes "chain_id") (codes "chainId") a_number (same (codes "address") a_string (same (codes "nonce") a_number end))
 
 -- the hash that is signed
 abbrev pub signing_entries : List ℕ → Entries
@@ -105,7 +85,7 @@ signing_hash tag r m = keccak256 (tag ∷ encoding (list_of (r.items m)))
 
 -- the two numbers of a signature, before other fields
 abbrev pub signature_before : {M : Type 0} → Fields M → Fields (ℕ × (ℕ × M))
-signature_before more = field (codes "r") (codes "r") a_quantity (field (codes "s") (codes "s") a_quantity more)
+signature_before more = same (codes "r") a_quantity (same (codes "s") a_quantity more)
 
 -- ---- transactions of a type of EIP-2718
 
@@ -132,17 +112,8 @@ signed_authorization_display = an_object (through (λ m. (m.0, (m.1.0, (m.1.1.0,
     signature_before (derived (λ m. signing_entries (signing_hash 5 authorization_fields.reading m)))))))
 
 abbrev pub set_code_display : Fields set_code_transaction_fields.reading.M
-set_code_display =
-    field (codes "chain_id") (codes "chainId") a_number (
-    field (codes "nonce") (codes "nonce") a_number (
-    field (codes "max_priority_fee_per_gas") (codes "maxPriorityFeePerGas") a_number (
-    field (codes "max_fee_per_gas") (codes "maxFeePerGas") a_number (
-    field (codes "gas_limit") (codes "gas") a_number (
-    field (codes "destination") (codes "to") a_string (
-    field (codes "value") (codes "value") a_number (
-    field (codes "data") (codes "input") a_string (
-    field (codes "access_list") (codes "accessList") access_list_display (
-    field (codes "authorization_list") (codes "authorizationList") (a_list signed_authorization_display) end)))))))))
+set_code_display = chain_and_nonce (fees (call (codes "destination") a_string (access (
+    field (codes "authorization_list") (codes "authorizationList") (a_list signed_authorization_display) end))))
 
 -- ---- transactions without a type
 
@@ -185,7 +156,7 @@ legacy_signing_hash t (Some x) = Some (legacy_hash t x.chain_id)
 abbrev pub signed_legacy_display : Fields signed_legacy_transaction.reading.M
 signed_legacy_display = through (λ m. (m.0, (v_seen m, (m, (m.1.1.0, (m.1.1.1.0, m)))))) (after_derived (λ m. no_type_entries) (
     in_order legacy_display (
-    field (codes "v") (codes "v") (a_content v_content v_apart) (
+    same (codes "v") (a_content v_content v_apart) (
     in_order (derived (λ m. by_form nothing (entries_if said_display.shown (option_map said_seen (said_of m))))) (
     signature_before (derived (λ m. (one_if (codes "signing_hash") (codes "signingHash") a_string).shown (legacy_signing_hash m.0 (said_of m)))))))))
 
@@ -201,7 +172,7 @@ transaction_display = (
 -- a transaction of a type that isn't known: the number of the type, and the payload
 abbrev pub other_display : Fields (List ℕ)
 other_display = through (λ d. (other_type d, drop 1 d)) (
-    field (codes "type") (codes "type") a_type (one (codes "payload") (codes "payload") (bytes_as Payload)))
+    same (codes "type") a_type (one (codes "payload") (codes "payload") (bytes_as Payload)))
 
 -- a known type isn't shown as another: only of another is the second of two fields the last
 abbrev ends_second : Entries → Bool
@@ -215,25 +186,12 @@ goes_on (inr (inr (inl t))) = refl
 goes_on (inr (inr (inr (inl t)))) = refl
 goes_on (inr (inr (inr (inr t)))) = refl
 
-known_apart : (t : transaction.reading.M) (d : List ℕ) → transaction_display.shown t ≡ other_display.shown d → ⊥
+pub known_apart : (t : transaction.reading.M) (d : List ℕ) → transaction_display.shown t ≡ other_display.shown d → ⊥
 known_apart t d is = let both : false ≡ true = sym (goes_on t) ∙ ap ends_second is in cc
-
--- transactions that are shown alike are both of a known type, or both of one that isn't known
-pub any_apart : (s t : any_transaction.reading.M) → on_either transaction_display.shown other_display.shown s
-    ≡ on_either transaction_display.shown other_display.shown t → sum_map transaction_display.told other_display.told s ≡ sum_map transaction_display.told other_display.told t
-any_apart (inl t) (inl u) is = ap inl (transaction_display.apart t u is)
-any_apart (inl t) (inr d) is = absurd (known_apart t d is)
-any_apart (inr d) (inl t) is = absurd (known_apart t d (sym is))
-any_apart (inr d) (inr e) is = ap inr (other_display.apart d e is)
 
 -- transactions of all types: of one that isn't known, the number of the type and the payload
 abbrev pub by_type_display : Fields any_transaction.reading.M
-by_type_display = record {
-  shown = on_either transaction_display.shown other_display.shown;
-  Told = transaction_display.Told ⊎ other_display.Told;
-  told = sum_map transaction_display.told other_display.told;
-  apart = any_apart;
-}
+by_type_display = either transaction_display other_display known_apart
 
 -- the hash of a transaction
 unfoldable pub transaction_hash : any_transaction.reading.M → List ℕ
@@ -251,7 +209,7 @@ unsigned_legacy_display = after_derived (λ t. no_type_entries) (
 
 -- the number of a type, and the fields of a payload
 abbrev pub after_type : {M : Type 0} → Fields M → Fields (ℕ × M)
-after_type f = field (codes "type") (codes "type") a_type f
+after_type f = same (codes "type") a_type f
 
 abbrev pub payload_display : Fields unsigned_transaction.reading.M
 payload_display = (
@@ -281,15 +239,13 @@ without_blobs_display = after_derived (λ t. hash_entries (blob_hash t)) (typed_
 abbrev pub with_proofs_display : Display with_proofs.reading.M
 with_proofs_display = an_object (
     in_order without_blobs_display (
-    field (codes "blobs") (codes "blobs") (a_list (bytes_as Sparse)) (
-    field (codes "commitments") (codes "commitments") (a_list a_string) (
-    field (codes "proofs") (codes "proofs") (a_list a_string) end))))
+    same (codes "blobs") (a_list (bytes_as Sparse)) (same (codes "commitments") (a_list a_string) (
+    same (codes "proofs") (a_list a_string) end))))
 
 -- EIP-7594, with the version of the list
 abbrev pub with_cell_proofs_display : Display with_cell_proofs.reading.M
 with_cell_proofs_display = an_object (
     in_order without_blobs_display (
     in_order (derived (λ version. entry (codes "wrapper_version") (codes "wrapperVersion") (content (number Decimal 1)))) (
-    field (codes "blobs") (codes "blobs") (a_list (bytes_as Sparse)) (
-    field (codes "commitments") (codes "commitments") (a_list a_string) (
+    same (codes "blobs") (a_list (bytes_as Sparse)) (same (codes "commitments") (a_list a_string) (
     field (codes "cell_proofs") (codes "proofs") (a_list a_string) end)))))

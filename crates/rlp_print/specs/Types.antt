@@ -21,45 +21,40 @@ abbrev pub shown_type : Entries → ℕ
 shown_type (both (entry name json (content (type_byte n))) more) = n
 shown_type es = 0
 
--- the fields of a value that is one of two
-abbrev pub on_either : {M N : Type 0} → (M → Entries) → (N → Entries) → M ⊎ N → Entries
-on_either first second (inl m) = first m
-on_either first second (inr n) = second n
+module _ {M N : Type 0} (f : Fields M) (g : Fields N) where
+  -- the fields of a value that is one of two
+  abbrev pub on_either : M ⊎ N → Entries
+  on_either (inl m) = f.shown m
+  on_either (inr n) = g.shown n
+
+  pub either_apart : ((m : M) (n : N) → f.shown m ≡ g.shown n → ⊥) → (s t : M ⊎ N) → on_either s ≡ on_either t
+      → sum_map f.told g.told s ≡ sum_map f.told g.told t
+  either_apart differ (inl m) (inl n) same = ap inl (f.apart m n same)
+  either_apart differ (inl m) (inr n) same = absurd (differ m n same)
+  either_apart differ (inr m) (inl n) same = absurd (differ n m (sym same))
+  either_apart differ (inr m) (inr n) same = ap inr (g.apart m n same)
+
+-- values of two types that are shown in different ways
+abbrev pub either : {M N : Type 0} (f : Fields M) (g : Fields N) → ((m : M) (n : N) → f.shown m ≡ g.shown n → ⊥) → Fields (M ⊎ N)
+either f g differ = record { shown = on_either f g; Told = f.Told ⊎ g.Told; told = sum_map f.told g.told; apart = either_apart f g differ }
 
 -- The fields of the types of a sum from the type with this number on. They begin with the number of the type, which the fields are told apart by.
 pub record Types (least : ℕ) (M : Type 0) : Type 1 where
   pub fields : Fields M
   pub above : (m : M) → least ≤ shown_type (fields.shown m)
 
-module _ {M N : Type 0} (tag : ℕ) (f : Fields M) (is : (m : M) → shown_type (f.shown m) ≡ tag) (more : Types (suc tag) N) where
-  abbrev shown : M ⊎ N → Entries
-  shown = on_either f.shown more.fields.shown
-
-  differ : (m : M) (n : N) → f.shown m ≡ more.fields.shown n → ⊥
-  differ m n same = omega (arith, ap shown_type same, is m, more.above n)
-
-  pub all_above : (s : M ⊎ N) → tag ≤ shown_type (shown s)
-  all_above (inl m) = omega (arith, is m)
-  all_above (inr n) = omega (arith, more.above n)
-
-  pub all_apart : (s t : M ⊎ N) → shown s ≡ shown t → sum_map f.told more.fields.told s ≡ sum_map f.told more.fields.told t
-  all_apart (inl m) (inl n) same = ap inl (f.apart m n same)
-  all_apart (inl m) (inr n) same = absurd (differ m n same)
-  all_apart (inr m) (inl n) same = absurd (differ n m (sym same))
-  all_apart (inr m) (inr n) same = ap inr (more.fields.apart m n same)
-
 -- the last type; that fields begin with its number is proved by `λ m. refl`
 abbrev pub last_type : {M : Type 0} (tag : ℕ) (f : Fields M) → ((m : M) → shown_type (f.shown m) ≡ tag) → Types tag M
 last_type tag f is = record { fields = f; above = λ m. omega (arith, is m) }
 
--- a type before the types with greater numbers
-abbrev pub and_type : {M N : Type 0} (tag : ℕ) (f : Fields M) → ((m : M) → shown_type (f.shown m) ≡ tag) → Types (suc tag) N → Types tag (M ⊎ N)
-and_type tag f is more = record {
-  fields = record {
-    shown = on_either f.shown more.fields.shown;
-    Told = f.Told ⊎ more.fields.Told;
-    told = sum_map f.told more.fields.told;
-    apart = all_apart tag f is more;
-  };
-  above = all_above tag f is more;
-}
+module _ {M N : Type 0} (tag : ℕ) (f : Fields M) (is : (m : M) → shown_type (f.shown m) ≡ tag) (more : Types (suc tag) N) where
+  pub differ : (m : M) (n : N) → f.shown m ≡ more.fields.shown n → ⊥
+  differ m n same = omega (arith, ap shown_type same, is m, more.above n)
+
+  pub all_above : (s : M ⊎ N) → tag ≤ shown_type (on_either f more.fields s)
+  all_above (inl m) = omega (arith, is m)
+  all_above (inr n) = omega (arith, more.above n)
+
+  -- a type before the types with greater numbers
+  abbrev pub and_type : Types tag (M ⊎ N)
+  and_type = record { fields = either f more.fields differ; above = all_above }

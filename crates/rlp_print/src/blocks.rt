@@ -21,9 +21,8 @@ impl ShowFields for Cancun {
 
     fn give<S: Sink>(&self, alloc: Global, name: &str, sink: &mut S) -> Result<(), AllocError> {
         give_fields!(alloc, name, sink;
-            "blob_gas_used" "blobGasUsed" &self.blob_gas_used;
-            "excess_blob_gas" "excessBlobGas" &self.excess_blob_gas;
-            "parent_beacon_block_root" "parentBeaconBlockRoot" &self.parent_beacon_block_root;
+            self.blob_gas_used "blobGasUsed"; self.excess_blob_gas "excessBlobGas";
+            self.parent_beacon_block_root "parentBeaconBlockRoot";
             "requests_hash" "requestsHash" ? &self.requests_hash
         )
     }
@@ -33,10 +32,7 @@ impl ShowFields for Shanghai {
     ghost fields = { seen_as shanghai_fields.reading.seen shanghai_display };
 
     fn give<S: Sink>(&self, alloc: Global, name: &str, sink: &mut S) -> Result<(), AllocError> {
-        give_fields!(alloc, name, sink;
-            "withdrawals_root" "withdrawalsRoot" &self.withdrawals_root;
-            &self.since_cancun
-        )
+        give_fields!(alloc, name, sink; self.withdrawals_root "withdrawalsRoot"; &self.since_cancun)
     }
 }
 
@@ -44,10 +40,7 @@ impl ShowFields for London {
     ghost fields = { seen_as london_fields.reading.seen london_display };
 
     fn give<S: Sink>(&self, alloc: Global, name: &str, sink: &mut S) -> Result<(), AllocError> {
-        give_fields!(alloc, name, sink;
-            "base_fee_per_gas" "baseFeePerGas" &self.base_fee_per_gas;
-            &self.since_shanghai
-        )
+        give_fields!(alloc, name, sink; self.base_fee_per_gas "baseFeePerGas"; &self.since_shanghai)
     }
 }
 
@@ -66,21 +59,13 @@ impl ShowFields for Header {
         let hash = hash_of(alloc, self)?;
         give_fields!(alloc, name, sink;
             "hash" "hash" &hash;
-            "parent_hash" "parentHash" &self.parent_hash;
-            "ommers_hash" "sha3Uncles" &self.ommers_hash;
-            "beneficiary" "miner" &self.beneficiary.0;
-            "state_root" "stateRoot" &self.state_root;
-            "transactions_root" "transactionsRoot" &self.transactions_root;
-            "receipts_root" "receiptsRoot" &self.receipts_root;
+            self.parent_hash "parentHash"; self.ommers_hash "sha3Uncles";
+            self.beneficiary "miner"; self.state_root "stateRoot";
+            self.transactions_root "transactionsRoot"; self.receipts_root "receiptsRoot";
             "logs_bloom" "logsBloom" Shown::Bytes(BytesKind::Sparse, &self.logs_bloom.0);
-            "difficulty" "difficulty" &self.difficulty;
-            "number" "number" &self.number;
-            "gas_limit" "gasLimit" &self.gas_limit;
-            "gas_used" "gasUsed" &self.gas_used;
-            "timestamp" "timestamp" &self.timestamp;
-            "extra_data" "extraData" &self.extra_data;
-            "mix_hash" "mixHash" &self.mix_hash;
-            "nonce" "nonce" &self.nonce;
+            self.difficulty "difficulty"; self.number "number";
+            self.gas_limit "gasLimit"; self.gas_used "gasUsed"; self.timestamp "timestamp";
+            self.extra_data "extraData"; self.mix_hash "mixHash"; self.nonce "nonce";
             &self.since_london
         )
     }

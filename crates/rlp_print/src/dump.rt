@@ -3,8 +3,7 @@
 ghost use Rattle.std.specs.Prelude.{◌≡◌, ◌+◌, ◌≤◌, ◌++◌, [], length, string_bytes, IfOk, OnOk};
 ghost use Rattle.rlp.specs.Format.Framing.{framing};
 ghost use Rattle.rlp_print.specs.Dump.{Dump as DumpSeen, content_header, dump_of, dump_steps, encoded_bytes, enter, enter_envelope, enter_lists, header_before, part_text, row};
-ghost use Rattle.rlp_print.specs.Display.{shown_of};
-ghost use Rattle.rlp_print.specs.Value.{content_of};
+ghost use Rattle.rlp_print.specs.{Display.shown_of, Value.content_of};
 
 use crate::lines::put_line;
 use crate::show::Show;

@@ -1,20 +1,22 @@
 //! Items of any kind, and nodes of the trie.
 
-ghost use Rattle.std.specs.Prelude.{◌≡◌, IfOk, not, OnOk, true, false};
-ghost use Rattle.rlp.specs.Codec.{raw_item};
-ghost use Rattle.rlp.specs.Views.View.{item_views};
-ghost use Rattle.rlp_trie.specs.{BranchChild.branch_child, ChildLaws.child};
+ghost use Rattle.std.specs.Prelude.{◌≡◌, IfOk, not, OnOk, true, false, option_map};
+ghost use Rattle.rlp.specs.{Codec.raw_item, Views.View.item_views};
+ghost use Rattle.rlp_trie.specs.TrieNodeLaws.{trie_node};
 ghost use Rattle.rlp_print.specs.Display.{seen_as};
-ghost use Rattle.rlp_print.specs.Items.{branch_entries, child_display, items_shown, key_of, kind_of, node_display, node_hash, node_parts, node_shown, pair_entries, path_fields, place_display, raw_item_display, shown_within, string_at};
+ghost use Rattle.rlp_print.specs.Items.{branch_entries, items_shown, key_of, kind_of, node_bytes, node_display, node_shown, pair_entries, raw_item_display, shown_within, string_at};
 ghost use Rattle.rlp_print.specs.Value.{after, object, values_of};
 
 use crate::show::{
-    ByForm, Show, ShowFields, Slice, field, fields, give_fields, inside, place_in, show_fields,
+    ByForm, Show, ShowFields, field, fields, give_fields, inside, place_in, show_fields,
 };
 use crate::sink::{Bracket, BytesKind, Shown, Sink, bytes};
 use crate::texts::put_digits;
+use bytes::BytesMut;
+use keccak::keccak256;
 use rlp::{RawItem, Rlp};
-use rlp_trie::{BranchChild, Child, TrieNode, ends_in_leaf};
+use rlp_records::Hash;
+use rlp_trie::{TrieNode, ends_in_leaf};
 use std::alloc::{AllocError, Global};
 
 impl Show for RawItem {
@@ -28,23 +30,6 @@ impl Show for RawItem {
             RawItem::MAX_DEPTH,
             false,
             sink,
-        )
-    }
-}
-
-/// An encoded path, and in JSON its nibbles too.
-#[derive(Clone, Copy)]
-pub(crate) struct PathFields<'a>(pub(crate) &'a [u8]);
-
-impl ShowFields for PathFields<'_> {
-    ghost fields = { seen_as (λ p. p.0.now) path_fields };
-
-    fn give<S: Sink>(&self, alloc: Global, name: &str, sink: &mut S) -> Result<(), AllocError> {
-        let mut digits = String::new(alloc);
-        put_digits(self.0, &mut digits)?;
-        give_fields!(alloc, name, sink;
-            "path" "path" Shown::Bytes(BytesKind::Path, self.0);
-            ByForm((), field!("nibbles" "nibbles" Shown::Text(digits.as_str())))
         )
     }
 }
@@ -94,7 +79,7 @@ pub(crate) fn show_item<S: Sink>(
     }
     let items = items_in(alloc, &item)?;
     if is_node {
-        return show_node(alloc, name, items.as_slice(), most - 1, sink);
+        return show_node(alloc, name, None, items.as_slice(), most - 1, sink);
     }
     show_items(alloc, name, items.as_slice(), most - 1, false, sink)
 }
@@ -128,27 +113,31 @@ fn show_items<S: Sink>(
     sink.finish(Bracket::Square)
 }
 
-/// Gives a list of items to a sink as a node: a leaf, an extension or a branch, or else the list.
+/// Gives a list of items to a sink as a node: a leaf, an extension or a branch, which begins with the
+/// hash, if there is one, or else the list.
 #[cycle(items)]
 fn show_node<S: Sink>(
     alloc: Global,
     name: &str,
+    hash: Option<Hash>,
     items: &[Rlp<'_>],
     most: usize,
     sink: &mut S,
 ) -> Result<(), AllocError>
     ensures { OnOk result (S.seen sink.new ≡ after S.steps name.now
-        (node_shown (shown_within most) items.now) (S.seen sink.old)) }
+        (node_shown (shown_within most) (option_map (λ h. h.0) hash) items.now) (S.seen sink.old)) }
 {
     if items.len() == 17 {
-        return show_branch(alloc, name, &items[..16], items[16].as_raw(), most, sink);
+        let value = items[16].as_raw();
+        return show_branch(alloc, name, hash, &items[..16], value, most, sink);
     }
     let [first, second] = items else {
         return show_items(alloc, name, items, most, false, sink);
     };
     let path = string_in(first.as_raw());
+    let raw = second.as_raw();
     match ends_in_leaf(path) {
-        Some(is_leaf) => show_pair(alloc, name, is_leaf, path, second.as_raw(), most, sink),
+        Some(is_leaf) => show_pair(alloc, name, hash, is_leaf, path, raw, most, sink),
         None => show_items(alloc, name, items, most, false, sink),
     }
 }
@@ -169,6 +158,7 @@ fn names_of(is_leaf: bool) -> (&'static str, &'static str)
 fn show_pair<S: Sink>(
     alloc: Global,
     name: &str,
+    hash: Option<Hash>,
     is_leaf: bool,
     path: &[u8],
     raw: &[u8],
@@ -176,13 +166,20 @@ fn show_pair<S: Sink>(
     sink: &mut S,
 ) -> Result<(), AllocError>
     ensures { OnOk result (S.seen sink.new ≡ after S.steps name.now
-        (object (pair_entries is_leaf path.now (shown_within most (not is_leaf) raw.now)))
-        (S.seen sink.old)) }
+        (object (pair_entries (option_map (λ h. h.0) hash) is_leaf path.now
+        (shown_within most (not is_leaf) raw.now))) (S.seen sink.old)) }
 {
     let (kind, key) = names_of(is_leaf);
     let field = inside(alloc, name, key)?;
+    let mut digits = String::new(alloc);
+    put_digits(path, &mut digits)?;
     sink.begin(Bracket::Brace)?;
-    give_fields!(alloc, name, sink; "node" "node" Shown::Text(kind); PathFields(path))?;
+    give_fields!(alloc, name, sink;
+        "hash" "hash" ? &hash;
+        "node" "node" Shown::Text(kind);
+        "path" "path" Shown::Bytes(BytesKind::Path, path);
+        ByForm((), field!("nibbles" "nibbles" Shown::Text(digits.as_str())))
+    )?;
     sink.key(key)?;
     show_item(alloc, field.as_str(), raw, most, !is_leaf, sink)?;
     sink.finish(Bracket::Brace)
@@ -193,19 +190,24 @@ fn show_pair<S: Sink>(
 fn show_branch<S: Sink>(
     alloc: Global,
     name: &str,
+    hash: Option<Hash>,
     children: &[Rlp<'_>],
     raw: &[u8],
     most: usize,
     sink: &mut S,
 ) -> Result<(), AllocError>
     ensures { OnOk result (S.seen sink.new ≡ after S.steps name.now
-        (object (branch_entries (values_of (λ v. shown_within most true v.bytes) children.now)
+        (object (branch_entries (option_map (λ h. h.0) hash)
+        (values_of (λ v. shown_within most true v.bytes) children.now)
         (shown_within most false raw.now))) (S.seen sink.old)) }
 {
     let children_name = inside(alloc, name, "children")?;
     let value_name = inside(alloc, name, "value")?;
     sink.begin(Bracket::Brace)?;
-    field!("node" "node" Shown::Text("branch")).give(alloc, name, sink)?;
+    give_fields!(alloc, name, sink;
+        "hash" "hash" ? &hash;
+        "node" "node" Shown::Text("branch")
+    )?;
     sink.key("children")?;
     show_items(alloc, children_name.as_str(), children, most, true, sink)?;
     sink.key("value")?;
@@ -213,62 +215,30 @@ fn show_branch<S: Sink>(
     sink.finish(Bracket::Brace)
 }
 
-/// The hash in hexadecimal, or the fields of a node that is kept in its parent.
-impl Show for Child {
-    ghost display = { seen_as child.reading.seen child_display };
-
-    fn show<S: Sink>(&self, alloc: Global, name: &str, sink: &mut S) -> Result<(), AllocError> {
-        match self {
-            Child::Node(hash) => sink.put(name, bytes(&hash.0)),
-            Child::Inline(node) => {
-                let item = node.item.as_bytes();
-                show_item(alloc, name, item, RawItem::MAX_DEPTH, true, sink)
-            }
-        }
-    }
-}
-
-/// The child, or no bytes if there is none.
-impl Show for BranchChild {
-    ghost display = { seen_as branch_child.reading.seen place_display };
-
-    fn show<S: Sink>(&self, alloc: Global, name: &str, sink: &mut S) -> Result<(), AllocError> {
-        match &self.0 {
-            Some(child) => child.show(alloc, name, sink),
-            None => sink.put(name, bytes(&[])),
-        }
-    }
+/// Returns the encoding of a node.
+#[tactic(auto, using(crate::proofs::Written::node_written))]
+fn node_bytes(alloc: Global, node: &TrieNode) -> Result<BytesMut, AllocError>
+    ensures { IfOk result (λ b. b.items ≡ node_bytes (trie_node.reading.seen node.now)) }
+{
+    rlp::encode(alloc, node)
 }
 
 /// The hash of the node, its kind and its fields.
 impl Show for TrieNode {
-    ghost display = { seen_as (λ n. (node_hash n, node_parts n)) node_display };
+    ghost display = { seen_as trie_node.reading.seen node_display };
 
+    #[tactic(auto, using(crate::proofs::ItemLemmas::other_nodes))]
     fn show<S: Sink>(&self, alloc: Global, name: &str, sink: &mut S) -> Result<(), AllocError> {
-        let hash = self.hash(alloc)?;
-        match self {
-            TrieNode::Empty => show_fields!(alloc, name, sink;
-                "hash" "hash" &hash;
+        let bytes = node_bytes(alloc, self)?;
+        let hash = Some(Hash(keccak256(bytes.as_slice())));
+        if let TrieNode::Empty = self {
+            return show_fields!(alloc, name, sink;
+                "hash" "hash" ? &hash;
                 "node" "node" Shown::Text("empty")
-            ),
-            TrieNode::Leaf(leaf) => show_fields!(alloc, name, sink;
-                "hash" "hash" &hash;
-                "node" "node" Shown::Text("leaf");
-                PathFields(leaf.path.bytes.as_slice());
-                "value" "value" &leaf.value
-            ),
-            TrieNode::Extension(extension) => show_fields!(alloc, name, sink;
-                "hash" "hash" &hash;
-                "node" "node" Shown::Text("extension");
-                PathFields(extension.path.bytes.as_slice());
-                "child" "child" &extension.child
-            ),
-            TrieNode::Branch(branch) => show_fields!(alloc, name, sink;
-                "hash" "hash" &hash;
-                "node" "node" Shown::Text("branch");
-                "children" "children" Slice(branch.children.as_slice());
-                "value" "value" &branch.value
-            ),
+            );
         }
+        let items = items_in(alloc, &Rlp::new(bytes.as_slice()))?;
+        let most = RawItem::MAX_DEPTH;
+        show_node(alloc, name, hash, items.as_slice(), most, sink)
     }
 }

@@ -2,8 +2,7 @@
 
 ghost use Rattle.std.specs.Prelude.{◌≡◌, ◌++◌, [], true, string_bytes, OnOk, IfOk};
 ghost use Rattle.rlp_print.specs.Json.{Json as JsonSeen, comma, content_json, json_steps, json_of};
-ghost use Rattle.rlp_print.specs.Display.{shown_of};
-ghost use Rattle.rlp_print.specs.Value.{content_of};
+ghost use Rattle.rlp_print.specs.{Display.shown_of, Value.content_of};
 
 use crate::show::Show;
 use crate::sink::{Bracket, BytesKind, NumberKind, Shown, Sink};

@@ -22,5 +22,5 @@ pub use dump::dump_of;
 pub use json::{Json, json_of};
 pub use lines::{Lines, lines_of};
 pub use records::{Fault, Place};
-pub use show::{ByForm, Items, Named, NamedIf, Object, Show, ShowFields, Slice};
+pub use show::{ByForm, Items, Named, NamedIf, Object, Show, ShowFields};
 pub use sink::{Bracket, BytesKind, NumberKind, Shown, Sink};

@@ -2,8 +2,7 @@
 
 ghost use Rattle.std.specs.Prelude.{◌≡◌, ◌++◌, [], List, ℕ, string_bytes, OnOk, IfOk};
 ghost use Rattle.rlp_print.specs.Lines.{content_text, line, line_steps, lines};
-ghost use Rattle.rlp_print.specs.Display.{shown_of};
-ghost use Rattle.rlp_print.specs.Value.{content_of};
+ghost use Rattle.rlp_print.specs.{Display.shown_of, Value.content_of};
 
 use crate::show::Show;
 use crate::sink::{Bracket, BytesKind, NumberKind, Shown, Sink};

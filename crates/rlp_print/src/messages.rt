@@ -1,14 +1,12 @@
 //! Messages between clients: bodies of messages of `eth`, and messages of `p2p`.
 
-ghost use Rattle.std.specs.Prelude.{map};
-ghost use Rattle.std.specs.Vec.{vec_items};
+ghost use Rattle.std.specs.{Prelude.map, Vec.vec_items};
 ghost use Rattle.rlp_p2p.specs.{Disconnect.disconnect, Hello.capability, Hello.further_fields, Hello.hello};
 ghost use Rattle.rlp_eth.specs.Announcements.{block_range_update, new_block, new_block_hash, new_pooled_transaction_hashes};
 ghost use Rattle.rlp_eth.specs.{HashOrNumber.hash_or_number, Receipts.block_receipts, Receipts69.block_receipts69, Receipts69.receipt69, Requests.get_block_headers, Status.fork_id, Status.status68, Status.status69};
 ghost use Rattle.rlp_print.specs.Display.{a_list, an_object, end, seen_as};
 ghost use Rattle.rlp_print.specs.Records.{typed_receipt_display};
-ghost use Rattle.rlp_print.specs.Messages.{capability_display, disconnect_display, fork_id_display, further_display, further_item_display, get_block_headers_display, hash_or_number_display, hello_display};
-ghost use Rattle.rlp_print.specs.Messages.{new_block_display, new_block_hash_display, new_pooled_transaction_hashes_display, range_display, receipt69_display, status68_display, status69_display, with_request_id_display};
+ghost use Rattle.rlp_print.specs.Messages as shown;
 
 use crate::show::{Items, Object, Show, ShowFields, field, fields, show_fields};
 use crate::sink::{BytesKind, Shown, Sink, bytes, number};
@@ -23,55 +21,47 @@ use std::alloc::{AllocError, Global};
 // ---- what a client knows of the chain
 
 impl Show for ForkId {
-    ghost display = { seen_as fork_id.reading.seen fork_id_display };
+    ghost display = { seen_as fork_id.reading.seen shown.fork_id_display };
 
     fn show<S: Sink>(&self, alloc: Global, name: &str, sink: &mut S) -> Result<(), AllocError> {
         show_fields!(alloc, name, sink;
-            "fork_hash" "forkHash" &self.fork_hash.0;
-            "fork_next" "forkNext" &self.fork_next;
+            "fork_hash" "forkHash" &self.fork_hash.0; self.fork_next "forkNext";
         )
     }
 }
 
 impl Show for Status68 {
-    ghost display = { seen_as status68.reading.seen status68_display };
+    ghost display = { seen_as status68.reading.seen shown.status68_display };
 
     fn show<S: Sink>(&self, alloc: Global, name: &str, sink: &mut S) -> Result<(), AllocError> {
         show_fields!(alloc, name, sink;
-            "version" "version" &self.version;
-            "network_id" "networkId" &self.network_id;
-            "total_difficulty" "totalDifficulty" &self.total_difficulty;
-            "block_hash" "blockHash" &self.block_hash;
-            "genesis_hash" "genesisHash" &self.genesis_hash;
-            "fork_id" "forkId" &self.fork_id;
+            self.version "version"; self.network_id "networkId";
+            self.total_difficulty "totalDifficulty"; self.block_hash "blockHash";
+            self.genesis_hash "genesisHash"; self.fork_id "forkId";
         )
     }
 }
 
 impl Show for Status69 {
-    ghost display = { seen_as status69.reading.seen status69_display };
+    ghost display = { seen_as status69.reading.seen shown.status69_display };
 
     fn show<S: Sink>(&self, alloc: Global, name: &str, sink: &mut S) -> Result<(), AllocError> {
         show_fields!(alloc, name, sink;
-            "version" "version" &self.version;
-            "network_id" "networkId" &self.network_id;
-            "genesis_hash" "genesisHash" &self.genesis_hash;
-            "fork_id" "forkId" &self.fork_id;
-            "earliest_block" "earliestBlock" &self.earliest_block;
-            "latest_block" "latestBlock" &self.latest_block;
-            "latest_block_hash" "latestBlockHash" &self.latest_block_hash;
+            self.version "version"; self.network_id "networkId";
+            self.genesis_hash "genesisHash"; self.fork_id "forkId";
+            self.earliest_block "earliestBlock"; self.latest_block "latestBlock";
+            self.latest_block_hash "latestBlockHash";
         )
     }
 }
 
 impl Show for BlockRangeUpdate {
-    ghost display = { seen_as block_range_update.reading.seen (an_object range_display) };
+    ghost display = { seen_as block_range_update.reading.seen (an_object shown.range_display) };
 
     fn show<S: Sink>(&self, alloc: Global, name: &str, sink: &mut S) -> Result<(), AllocError> {
         show_fields!(alloc, name, sink;
-            "earliest_block" "earliestBlock" &self.earliest_block;
-            "latest_block" "latestBlock" &self.latest_block;
-            "latest_block_hash" "latestBlockHash" &self.latest_block_hash;
+            self.earliest_block "earliestBlock"; self.latest_block "latestBlock";
+            self.latest_block_hash "latestBlockHash";
         )
     }
 }
@@ -79,36 +69,31 @@ impl Show for BlockRangeUpdate {
 // ---- announcements
 
 impl Show for NewBlockHash {
-    ghost display = { seen_as new_block_hash.reading.seen new_block_hash_display };
+    ghost display = { seen_as new_block_hash.reading.seen shown.new_block_hash_display };
 
     fn show<S: Sink>(&self, alloc: Global, name: &str, sink: &mut S) -> Result<(), AllocError> {
-        show_fields!(alloc, name, sink;
-            "hash" "hash" &self.hash;
-            "number" "number" &self.number;
-        )
+        show_fields!(alloc, name, sink; self.hash "hash"; self.number "number";)
     }
 }
 
 impl Show for NewPooledTransactionHashes {
     ghost display = { seen_as new_pooled_transaction_hashes.reading.seen
-        new_pooled_transaction_hashes_display };
+        shown.new_pooled_transaction_hashes_display };
 
     fn show<S: Sink>(&self, alloc: Global, name: &str, sink: &mut S) -> Result<(), AllocError> {
         show_fields!(alloc, name, sink;
-            "types" "types" &self.types;
-            "sizes" "sizes" Items(&self.sizes);
+            self.types "types"; "sizes" "sizes" Items(&self.sizes);
             "hashes" "hashes" Items(&self.hashes);
         )
     }
 }
 
 impl Show for NewBlock {
-    ghost display = { seen_as new_block.reading.seen new_block_display };
+    ghost display = { seen_as new_block.reading.seen shown.new_block_display };
 
     fn show<S: Sink>(&self, alloc: Global, name: &str, sink: &mut S) -> Result<(), AllocError> {
         show_fields!(alloc, name, sink;
-            "block" "block" &self.block;
-            "total_difficulty" "totalDifficulty" &self.total_difficulty;
+            self.block "block"; self.total_difficulty "totalDifficulty";
         )
     }
 }
@@ -117,18 +102,15 @@ impl Show for NewBlock {
 
 impl<T: Show> Show for WithRequestId<T> {
     ghost display = { seen_as (λ w. (w.request_id, T.display.seen w.content))
-        (with_request_id_display T.display.form) };
+        (shown.with_request_id_display T.display.form) };
 
     fn show<S: Sink>(&self, alloc: Global, name: &str, sink: &mut S) -> Result<(), AllocError> {
-        show_fields!(alloc, name, sink;
-            "request_id" "requestId" &self.request_id;
-            "content" "content" &self.content
-        )
+        show_fields!(alloc, name, sink; self.request_id "requestId"; self.content "content")
     }
 }
 
 impl Show for HashOrNumber {
-    ghost display = { seen_as hash_or_number.reading.seen hash_or_number_display };
+    ghost display = { seen_as hash_or_number.reading.seen shown.hash_or_number_display };
 
     fn show<S: Sink>(&self, _alloc: Global, name: &str, sink: &mut S) -> Result<(), AllocError> {
         match self {
@@ -139,13 +121,11 @@ impl Show for HashOrNumber {
 }
 
 impl Show for GetBlockHeaders {
-    ghost display = { seen_as get_block_headers.reading.seen get_block_headers_display };
+    ghost display = { seen_as get_block_headers.reading.seen shown.get_block_headers_display };
 
     fn show<S: Sink>(&self, alloc: Global, name: &str, sink: &mut S) -> Result<(), AllocError> {
         show_fields!(alloc, name, sink;
-            "start_block" "startBlock" &self.start_block;
-            "limit" "limit" &self.limit;
-            "skip" "skip" &self.skip;
+            self.start_block "startBlock"; self.limit "limit"; self.skip "skip";
             "reverse" "reverse" number(self.reverse as u64);
         )
     }
@@ -162,20 +142,20 @@ impl Show for BlockReceipts {
 }
 
 impl Show for Receipt69 {
-    ghost display = { seen_as receipt69.reading.seen receipt69_display };
+    ghost display = { seen_as receipt69.reading.seen shown.receipt69_display };
 
     fn show<S: Sink>(&self, alloc: Global, name: &str, sink: &mut S) -> Result<(), AllocError> {
         show_fields!(alloc, name, sink;
-            "transaction_type" "transactionType" &self.transaction_type;
+            self.transaction_type "transactionType";
             &self.status_or_state_root;
-            "cumulative_gas_used" "cumulativeGasUsed" &self.cumulative_gas_used;
+            self.cumulative_gas_used "cumulativeGasUsed";
             "logs" "logs" Items(&self.logs);
         )
     }
 }
 
 impl Show for BlockReceipts69 {
-    ghost display = { seen_as block_receipts69.reading.seen (a_list receipt69_display) };
+    ghost display = { seen_as block_receipts69.reading.seen (a_list shown.receipt69_display) };
 
     fn show<S: Sink>(&self, alloc: Global, name: &str, sink: &mut S) -> Result<(), AllocError> {
         Items(&self.0).show(alloc, name, sink)
@@ -204,7 +184,7 @@ impl Show for Pong {
 
 /// The reason, in either form.
 impl Show for Disconnect {
-    ghost display = { seen_as disconnect.reading.seen disconnect_display };
+    ghost display = { seen_as disconnect.reading.seen shown.disconnect_display };
 
     fn show<S: Sink>(&self, alloc: Global, name: &str, sink: &mut S) -> Result<(), AllocError> {
         match self {
@@ -217,18 +197,18 @@ impl Show for Disconnect {
 }
 
 impl Show for Capability {
-    ghost display = { seen_as capability.reading.seen capability_display };
+    ghost display = { seen_as capability.reading.seen shown.capability_display };
 
     fn show<S: Sink>(&self, alloc: Global, name: &str, sink: &mut S) -> Result<(), AllocError> {
         show_fields!(alloc, name, sink;
             "name" "name" Shown::Bytes(BytesKind::Word, self.name.as_slice());
-            "version" "version" &self.version;
+            self.version "version";
         )
     }
 }
 
 impl Show for FurtherItem {
-    ghost display = { seen_as further_fields.reading.seen further_item_display };
+    ghost display = { seen_as further_fields.reading.seen shown.further_item_display };
 
     fn show<S: Sink>(&self, alloc: Global, name: &str, sink: &mut S) -> Result<(), AllocError> {
         self.item.show(alloc, name, sink)
@@ -241,7 +221,7 @@ struct Further<'a>(&'a Vec<FurtherItem>);
 
 impl ShowFields for Further<'_> {
     ghost fields = { seen_as (λ f. map further_fields.reading.seen (vec_items f.0.now))
-        further_display };
+        shown.further_display };
 
     fn give<S: Sink>(&self, alloc: Global, name: &str, sink: &mut S) -> Result<(), AllocError> {
         match self.0.as_slice() {
@@ -252,14 +232,13 @@ impl ShowFields for Further<'_> {
 }
 
 impl Show for Hello {
-    ghost display = { seen_as hello.reading.seen hello_display };
+    ghost display = { seen_as hello.reading.seen shown.hello_display };
 
     fn show<S: Sink>(&self, alloc: Global, name: &str, sink: &mut S) -> Result<(), AllocError> {
         show_fields!(alloc, name, sink;
-            "protocol_version" "protocolVersion" &self.protocol_version;
-            "client_id" "clientId" &self.client_id;
+            self.protocol_version "protocolVersion"; self.client_id "clientId";
             "capabilities" "capabilities" Items(&self.capabilities);
-            "listen_port" "listenPort" &self.listen_port;
+            self.listen_port "listenPort";
             "node_id" "nodeId" &self.node_id.0;
             Further(&self.further)
         )

@@ -2,8 +2,7 @@
 
 ghost use Rattle.std.specs.Prelude.{◌≡◌};
 ghost use Rattle.rlp_node_record.specs.NodeFields.{node_fields, pair_fields};
-ghost use Rattle.rlp_print.specs.Display.{seen_as};
-ghost use Rattle.rlp_print.specs.Value.{content_of};
+ghost use Rattle.rlp_print.specs.{Display.seen_as, Value.content_of};
 ghost use Rattle.rlp_print.specs.NodeRecords.{is_ip, is_port_key, key_value_display, node_fields_display, node_pair_display, port_content, string_content};
 
 use crate::show::{Items, Show, show_fields};
@@ -96,8 +95,7 @@ impl Show for NodeFields {
 
     fn show<S: Sink>(&self, alloc: Global, name: &str, sink: &mut S) -> Result<(), AllocError> {
         show_fields!(alloc, name, sink;
-            "signature" "signature" &self.signature;
-            "sequence" "sequence" &self.sequence;
+            self.signature "signature"; self.sequence "sequence";
             "pairs" "pairs" Items(&self.pairs)
         )
     }

@@ -1,7 +1,6 @@
 //! Numbers and strings, withdrawals, accounts, logs, receipts, and faults of records.
 
-ghost use Rattle.std.specs.Prelude.{option_map};
-ghost use Rattle.std.specs.Vec.{vec_items};
+ghost use Rattle.std.specs.{Prelude.option_map, Vec.vec_items};
 ghost use Rattle.rlp.specs.Codec.{uint};
 ghost use Rattle.rlp_headers.specs.{Account.account, Log.log, Receipt.receipt, ReceiptStatus.receipt_status, TypedReceipt.typed_receipt, Withdrawal.withdrawal, Withdrawal.withdrawals};
 ghost use Rattle.rlp_print.specs.Display.{a_list, a_number, a_string, number_as, seen_as};
@@ -14,7 +13,7 @@ use crate::show::{
 use crate::sink::{BytesKind, NumberKind, Shown, Sink, bytes, number};
 use rlp::Uint;
 use rlp_headers::{Account, Log, Receipt, ReceiptStatus, TypedReceipt, Withdrawal, Withdrawals};
-use rlp_records::Hash;
+use rlp_records::{Address, Hash};
 use std::alloc::{AllocError, Global};
 
 impl Show for u8 {
@@ -65,15 +64,21 @@ impl Show for Hash {
     }
 }
 
+impl Show for Address {
+    ghost display = { seen_as (λ a. a.0) a_string };
+
+    fn show<S: Sink>(&self, _alloc: Global, name: &str, sink: &mut S) -> Result<(), AllocError> {
+        sink.put(name, bytes(&self.0))
+    }
+}
+
 impl Show for Withdrawal {
     ghost display = { seen_as withdrawal.reading.seen withdrawal_display };
 
     fn show<S: Sink>(&self, alloc: Global, name: &str, sink: &mut S) -> Result<(), AllocError> {
         show_fields!(alloc, name, sink;
-            "index" "index" &self.index;
-            "validator_index" "validatorIndex" &self.validator_index;
-            "address" "address" &self.address.0;
-            "amount" "amount" &self.amount;
+            self.index "index"; self.validator_index "validatorIndex";
+            self.address "address"; self.amount "amount";
         )
     }
 }
@@ -91,10 +96,8 @@ impl Show for Account {
 
     fn show<S: Sink>(&self, alloc: Global, name: &str, sink: &mut S) -> Result<(), AllocError> {
         show_fields!(alloc, name, sink;
-            "nonce" "nonce" &self.nonce;
-            "balance" "balance" &self.balance;
-            "storage_root" "storageHash" &self.storage_root;
-            "code_hash" "codeHash" &self.code_hash;
+            self.nonce "nonce"; self.balance "balance";
+            self.storage_root "storageHash"; self.code_hash "codeHash";
         )
     }
 }
@@ -104,9 +107,7 @@ impl Show for Log {
 
     fn show<S: Sink>(&self, alloc: Global, name: &str, sink: &mut S) -> Result<(), AllocError> {
         show_fields!(alloc, name, sink;
-            "address" "address" &self.address.0;
-            "topics" "topics" Items(&self.topics);
-            "data" "data" &self.data;
+            self.address "address"; "topics" "topics" Items(&self.topics); self.data "data";
         )
     }
 }
@@ -134,7 +135,7 @@ impl ShowFields for Receipt {
     fn give<S: Sink>(&self, alloc: Global, name: &str, sink: &mut S) -> Result<(), AllocError> {
         give_fields!(alloc, name, sink;
             &self.status_or_state_root;
-            "cumulative_gas_used" "cumulativeGasUsed" &self.cumulative_gas_used;
+            self.cumulative_gas_used "cumulativeGasUsed";
             "logs_bloom" "logsBloom" Shown::Bytes(BytesKind::Sparse, &self.logs_bloom.0);
             "logs" "logs" Items(&self.logs);
         )

@@ -176,25 +176,13 @@ impl<T: Show> Show for Items<'_, T> {
     ghost display = { seen_as (λ v. map T.display.seen (vec_items v.0.now))
         (a_list T.display.form) };
 
-    fn show<S: Sink>(&self, alloc: Global, name: &str, sink: &mut S) -> Result<(), AllocError> {
-        Slice(self.0.as_slice()).show(alloc, name, sink)
-    }
-}
-
-/// The values of a slice.
-#[derive(Clone, Copy)]
-pub struct Slice<'a, T>(pub &'a [T]);
-
-impl<T: Show> Show for Slice<'_, T> {
-    ghost display = { seen_as (λ s. map T.display.seen s.0.now) (a_list T.display.form) };
-
     #[tactic(auto, using(crate::proofs::ItemLemmas::seen_taken))]
     fn show<S: Sink>(&self, alloc: Global, name: &str, sink: &mut S) -> Result<(), AllocError> {
-        if self.0.is_empty() {
+        let mut rest = self.0.as_slice();
+        if rest.is_empty() {
             return sink.put(name, Shown::EmptyList);
         }
         sink.begin(Bracket::Square)?;
-        let mut rest = self.0;
         let mut index = 0;
         while let Some((first, others)) = rest.split_first() {
             let place = place_in(alloc, name, index)?;
@@ -238,14 +226,18 @@ macro_rules! field {
     ($name:literal $json:literal ? $value:expr) => {
         $crate::show::NamedIf { name: $name, json: $json, value: $value }
     };
+    ($owner:tt . $field:ident $json:literal) => {
+        $crate::show::Named { name: stringify!($field), json: $json, value: &$owner.$field }
+    };
     ($part:expr) => {
         $part
     };
 }
 
 /// Fields as nested pairs: for each the name in lines, the name in JSON and the value, or the fields
-/// of a part. After a `?` the value may be missing. The last pair ends with the last field, or with
-/// no fields after a `;`.
+/// of a part. After a `?` the value may be missing. A field of a struct that has its own name in lines
+/// is `self.gas_price "gasPrice"`, with the name in JSON. The last pair ends with the last field, or
+/// with no fields after a `;`.
 macro_rules! fields {
     () => {
         ()
@@ -255,6 +247,9 @@ macro_rules! fields {
     };
     ($name:literal $json:literal ? $value:expr; $($rest:tt)*) => {
         ($crate::show::field!($name $json ? $value), $crate::show::fields!($($rest)*))
+    };
+    ($owner:tt . $field:ident $json:literal; $($rest:tt)*) => {
+        ($crate::show::field!($owner . $field $json), $crate::show::fields!($($rest)*))
     };
     ($part:expr; $($rest:tt)*) => {
         ($part, $crate::show::fields!($($rest)*))

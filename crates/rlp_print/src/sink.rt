@@ -2,8 +2,7 @@
 
 ghost use Rattle.std.specs.Prelude.{◌≡◌, OnOk};
 ghost use Rattle.rlp_print.specs.Value.{Steps, bytes as shown_bytes, content_of, number as shown_number};
-ghost use Rattle.rlp_print.specs.declared.sink.NumberKind.TheVariants.{Decimal};
-ghost use Rattle.rlp_print.specs.declared.sink.BytesKind.TheVariants.{Any};
+ghost use Rattle.rlp_print.specs.{declared.sink.NumberKind.TheVariants.Decimal, declared.sink.BytesKind.TheVariants.Any};
 
 use rlp::Uint;
 use std::alloc::AllocError;

@@ -8,12 +8,8 @@ ghost use Rattle.rlp_transactions.specs.{Authorization.signed_authorization, Blo
 ghost use Rattle.rlp_transactions.specs.{BlobWrapper.with_cell_proofs, BlobWrapper.with_proofs, FeeMarketTransaction.fee_market_transaction_fields, Transaction.transaction};
 ghost use Rattle.rlp_transactions.specs.{LegacyTransaction.legacy_transaction_fields, LegacyTransaction.signed_legacy_transaction, SetCodeTransaction.set_code_transaction_fields};
 ghost use Rattle.rlp_transactions.specs.{UnsignedLegacyTransaction.unsigned_legacy_transaction, UnsignedTransaction.unsigned_transaction};
-ghost use Rattle.rlp_print.specs.Display.{bytes_as, seen_as};
-ghost use Rattle.rlp_print.specs.Transactions.{access_list_item_display, access_list_transaction_display, after_type, any_transaction_display, authorization_display, blob_display, blob_hash, fee_market_display, legacy_display, legacy_hash, legacy_signing_hash};
-ghost use Rattle.rlp_print.specs.Transactions.{payload_display, payload_hash, recipient_display, said_display, said_of, said_seen, set_code_display, signed_authorization_display, signed_legacy_display, signing_hash, transaction_display, transaction_hash};
-ghost use Rattle.rlp_print.specs.Transactions.{typed_fields, typed_seen, unsigned_display, unsigned_legacy_display, v_content, v_seen, with_cell_proofs_display, with_proofs_display, without_blobs_display};
-ghost use Rattle.rlp_print.specs.Value.{content_of};
-ghost use Rattle.rlp_print.specs.declared.sink.BytesKind.TheVariants.{Sparse};
+ghost use Rattle.rlp_print.specs.{Display.bytes_as, Display.seen_as, Value.content_of, declared.sink.BytesKind.TheVariants.Sparse};
+ghost use Rattle.rlp_print.specs.Transactions as shown;
 
 use crate::show::{ByForm, Items, Show, ShowFields, field, fields, give_fields, show_fields};
 use crate::sink::{BytesKind, NumberKind, Shown, Sink, bytes, number};
@@ -31,7 +27,7 @@ use rlp_transactions::{
 use std::alloc::{AllocError, Global};
 
 impl Show for Recipient {
-    ghost display = { seen_as recipient.reading.seen recipient_display };
+    ghost display = { seen_as recipient.reading.seen shown.recipient_display };
 
     fn show<S: Sink>(&self, _alloc: Global, name: &str, sink: &mut S) -> Result<(), AllocError> {
         match self {
@@ -42,112 +38,88 @@ impl Show for Recipient {
 }
 
 impl Show for AccessListItem {
-    ghost display = { seen_as access_list_item.reading.seen access_list_item_display };
+    ghost display = { seen_as access_list_item.reading.seen shown.access_list_item_display };
 
     fn show<S: Sink>(&self, alloc: Global, name: &str, sink: &mut S) -> Result<(), AllocError> {
         show_fields!(alloc, name, sink;
-            "address" "address" &self.address.0;
-            "storage_keys" "storageKeys" Items(&self.storage_keys);
+            self.address "address"; "storage_keys" "storageKeys" Items(&self.storage_keys);
         )
     }
 }
 
 impl ShowFields for LegacyTransaction {
-    ghost fields = { seen_as legacy_transaction_fields.reading.seen legacy_display };
+    ghost fields = { seen_as legacy_transaction_fields.reading.seen shown.legacy_display };
 
     fn give<S: Sink>(&self, alloc: Global, name: &str, sink: &mut S) -> Result<(), AllocError> {
         give_fields!(alloc, name, sink;
-            "nonce" "nonce" &self.nonce;
-            "gas_price" "gasPrice" &self.gas_price;
-            "gas_limit" "gas" &self.gas_limit;
-            "to" "to" &self.to;
-            "value" "value" &self.value;
-            "data" "input" &self.data;
+            self.nonce "nonce"; self.gas_price "gasPrice";
+            self.gas_limit "gas"; self.to "to"; self.value "value"; self.data "input";
         )
     }
 }
 
 impl ShowFields for AccessListTransaction {
     ghost fields = { seen_as access_list_transaction_fields.reading.seen
-        access_list_transaction_display };
+        shown.access_list_transaction_display };
 
     fn give<S: Sink>(&self, alloc: Global, name: &str, sink: &mut S) -> Result<(), AllocError> {
         give_fields!(alloc, name, sink;
-            "chain_id" "chainId" &self.chain_id;
-            "nonce" "nonce" &self.nonce;
-            "gas_price" "gasPrice" &self.gas_price;
-            "gas_limit" "gas" &self.gas_limit;
-            "to" "to" &self.to;
-            "value" "value" &self.value;
-            "data" "input" &self.data;
+            self.chain_id "chainId"; self.nonce "nonce"; self.gas_price "gasPrice";
+            self.gas_limit "gas"; self.to "to"; self.value "value"; self.data "input";
             "access_list" "accessList" Items(&self.access_list.0);
         )
     }
 }
 
 impl ShowFields for FeeMarketTransaction {
-    ghost fields = { seen_as fee_market_transaction_fields.reading.seen fee_market_display };
+    ghost fields = { seen_as fee_market_transaction_fields.reading.seen shown.fee_market_display };
 
     fn give<S: Sink>(&self, alloc: Global, name: &str, sink: &mut S) -> Result<(), AllocError> {
         give_fields!(alloc, name, sink;
-            "chain_id" "chainId" &self.chain_id;
-            "nonce" "nonce" &self.nonce;
-            "max_priority_fee_per_gas" "maxPriorityFeePerGas" &self.max_priority_fee_per_gas;
-            "max_fee_per_gas" "maxFeePerGas" &self.max_fee_per_gas;
-            "gas_limit" "gas" &self.gas_limit;
-            "to" "to" &self.to;
-            "value" "value" &self.value;
-            "data" "input" &self.data;
+            self.chain_id "chainId"; self.nonce "nonce";
+            self.max_priority_fee_per_gas "maxPriorityFeePerGas";
+            self.max_fee_per_gas "maxFeePerGas";
+            self.gas_limit "gas"; self.to "to"; self.value "value"; self.data "input";
             "access_list" "accessList" Items(&self.access_list.0);
         )
     }
 }
 
 impl ShowFields for BlobTransaction {
-    ghost fields = { seen_as blob_transaction_fields.reading.seen blob_display };
+    ghost fields = { seen_as blob_transaction_fields.reading.seen shown.blob_display };
 
     fn give<S: Sink>(&self, alloc: Global, name: &str, sink: &mut S) -> Result<(), AllocError> {
         give_fields!(alloc, name, sink;
-            "chain_id" "chainId" &self.chain_id;
-            "nonce" "nonce" &self.nonce;
-            "max_priority_fee_per_gas" "maxPriorityFeePerGas" &self.max_priority_fee_per_gas;
-            "max_fee_per_gas" "maxFeePerGas" &self.max_fee_per_gas;
-            "gas_limit" "gas" &self.gas_limit;
-            "to" "to" &self.to.0;
-            "value" "value" &self.value;
-            "data" "input" &self.data;
+            self.chain_id "chainId"; self.nonce "nonce";
+            self.max_priority_fee_per_gas "maxPriorityFeePerGas";
+            self.max_fee_per_gas "maxFeePerGas";
+            self.gas_limit "gas"; self.to "to"; self.value "value"; self.data "input";
             "access_list" "accessList" Items(&self.access_list.0);
-            "max_fee_per_blob_gas" "maxFeePerBlobGas" &self.max_fee_per_blob_gas;
+            self.max_fee_per_blob_gas "maxFeePerBlobGas";
             "blob_versioned_hashes" "blobVersionedHashes" Items(&self.blob_versioned_hashes);
         )
     }
 }
 
 impl ShowFields for Authorization {
-    ghost fields = { seen_as authorization_fields.reading.seen authorization_display };
+    ghost fields = { seen_as authorization_fields.reading.seen shown.authorization_display };
 
     fn give<S: Sink>(&self, alloc: Global, name: &str, sink: &mut S) -> Result<(), AllocError> {
         give_fields!(alloc, name, sink;
-            "chain_id" "chainId" &self.chain_id;
-            "address" "address" &self.address.0;
-            "nonce" "nonce" &self.nonce;
+            self.chain_id "chainId"; self.address "address"; self.nonce "nonce";
         )
     }
 }
 
 impl ShowFields for SetCodeTransaction {
-    ghost fields = { seen_as set_code_transaction_fields.reading.seen set_code_display };
+    ghost fields = { seen_as set_code_transaction_fields.reading.seen shown.set_code_display };
 
     fn give<S: Sink>(&self, alloc: Global, name: &str, sink: &mut S) -> Result<(), AllocError> {
         give_fields!(alloc, name, sink;
-            "chain_id" "chainId" &self.chain_id;
-            "nonce" "nonce" &self.nonce;
-            "max_priority_fee_per_gas" "maxPriorityFeePerGas" &self.max_priority_fee_per_gas;
-            "max_fee_per_gas" "maxFeePerGas" &self.max_fee_per_gas;
-            "gas_limit" "gas" &self.gas_limit;
-            "destination" "to" &self.destination.0;
-            "value" "value" &self.value;
-            "data" "input" &self.data;
+            self.chain_id "chainId"; self.nonce "nonce";
+            self.max_priority_fee_per_gas "maxPriorityFeePerGas";
+            self.max_fee_per_gas "maxFeePerGas";
+            self.gas_limit "gas"; self.destination "to"; self.value "value"; self.data "input";
             "access_list" "accessList" Items(&self.access_list.0);
             "authorization_list" "authorizationList" Items(&self.authorization_list);
         )
@@ -157,14 +129,14 @@ impl ShowFields for SetCodeTransaction {
 /// Returns the hash that is signed of a payload.
 fn signing_hash_of<T: Tagged>(alloc: Global, payload: &T) -> Result<Hash, AllocError>
     ensures { IfOk result
-        (λ h. h.0 ≡ signing_hash T.TAG T.reading (T.reading.seen payload.now)) }
+        (λ h. h.0 ≡ shown.signing_hash T.TAG T.reading (T.reading.seen payload.now)) }
 {
     signing_hash(alloc, payload)
 }
 
 impl<T: TypedTransaction + ShowFields> ShowFields for Signed<T, bool> {
-    ghost fields = { seen_as (typed_seen T.fields.seen T.reading.seen)
-        (typed_fields T.TAG T.reading T.fields.form) };
+    ghost fields = { seen_as (shown.typed_seen T.fields.seen T.reading.seen)
+        (shown.typed_fields T.TAG T.reading T.fields.form) };
 
     fn give<S: Sink>(&self, alloc: Global, name: &str, sink: &mut S) -> Result<(), AllocError> {
         let hash = signing_hash_of(alloc, &self.payload)?;
@@ -181,7 +153,8 @@ impl<T: TypedTransaction + ShowFields> ShowFields for Signed<T, bool> {
 }
 
 impl Show for SignedAuthorization {
-    ghost display = { seen_as signed_authorization.reading.seen signed_authorization_display };
+    ghost display = { seen_as signed_authorization.reading.seen
+        shown.signed_authorization_display };
 
     fn show<S: Sink>(&self, alloc: Global, name: &str, sink: &mut S) -> Result<(), AllocError> {
         let hash = signing_hash_of(alloc, &self.payload)?;
@@ -197,7 +170,7 @@ impl Show for SignedAuthorization {
 
 /// What `v` says.
 impl ShowFields for Eip155 {
-    ghost fields = { seen_as said_seen said_display };
+    ghost fields = { seen_as shown.said_seen shown.said_display };
 
     fn give<S: Sink>(&self, alloc: Global, name: &str, sink: &mut S) -> Result<(), AllocError> {
         give_fields!(alloc, name, sink;
@@ -210,7 +183,7 @@ impl ShowFields for Eip155 {
 /// Returns the hash that is signed of a transaction without a type.
 #[tactic(auto, using(crate::proofs::Written::legacy_written))]
 fn legacy_hash(alloc: Global, unsigned: &UnsignedLegacyTransaction) -> Result<Hash, AllocError>
-    ensures { IfOk result (λ h. h.0 ≡ legacy_hash
+    ensures { IfOk result (λ h. h.0 ≡ shown.legacy_hash
         (legacy_transaction_fields.reading.seen unsigned.now.payload) unsigned.now.chain_id) }
 {
     let bytes = rlp::encode(alloc, unsigned)?;
@@ -224,7 +197,7 @@ fn legacy_signing_hash(
     said: Option<Eip155>,
 ) -> Result<Option<Hash>, AllocError>
     ensures { IfOk result (λ h. option_map (λ h. h.0) h
-        ≡ legacy_signing_hash (legacy_transaction_fields.reading.seen payload.now) said) }
+        ≡ shown.legacy_signing_hash (legacy_transaction_fields.reading.seen payload.now) said) }
 {
     let Some(said) = said else {
         return Ok(None);
@@ -248,7 +221,7 @@ fn is_zero(number: &Uint<32>) -> bool
 /// Returns what `v` says, if the transaction is signed: one of the two numbers of its signature isn't
 /// zero, as both are in what EIP-155 signs.
 fn said_of(tx: &SignedLegacyTransaction) -> Option<Eip155>
-    ensures { result ≡ said_of (signed_legacy_transaction.reading.seen tx.now) }
+    ensures { result ≡ shown.said_of (signed_legacy_transaction.reading.seen tx.now) }
 {
     if is_zero(&tx.r) && is_zero(&tx.s) {
         return None;
@@ -258,8 +231,8 @@ fn said_of(tx: &SignedLegacyTransaction) -> Option<Eip155>
 
 /// Returns the `v` of a transaction, which comes with what it says if the transaction is signed.
 fn v_of(tx: &SignedLegacyTransaction) -> Shown<'static>
-    ensures { content_of result ≡ v_content
-        (v_seen (signed_legacy_transaction.reading.seen tx.now)) }
+    ensures { content_of result ≡ shown.v_content
+        (shown.v_seen (signed_legacy_transaction.reading.seen tx.now)) }
 {
     if is_zero(&tx.r) && is_zero(&tx.s) {
         return Shown::Number(NumberKind::Decimal, tx.v);
@@ -268,7 +241,7 @@ fn v_of(tx: &SignedLegacyTransaction) -> Shown<'static>
 }
 
 impl ShowFields for SignedLegacyTransaction {
-    ghost fields = { seen_as signed_legacy_transaction.reading.seen signed_legacy_display };
+    ghost fields = { seen_as signed_legacy_transaction.reading.seen shown.signed_legacy_display };
 
     fn give<S: Sink>(&self, alloc: Global, name: &str, sink: &mut S) -> Result<(), AllocError> {
         let said = said_of(self);
@@ -286,7 +259,7 @@ impl ShowFields for SignedLegacyTransaction {
 }
 
 impl ShowFields for Transaction {
-    ghost fields = { seen_as transaction.reading.seen transaction_display };
+    ghost fields = { seen_as transaction.reading.seen shown.transaction_display };
 
     fn give<S: Sink>(&self, alloc: Global, name: &str, sink: &mut S) -> Result<(), AllocError> {
         match self {
@@ -303,13 +276,13 @@ impl ShowFields for Transaction {
 #[tactic(auto, using(crate::proofs::Written::transaction_written))]
 fn hash_of(alloc: Global, tx: &AnyTransaction) -> Result<Hash, AllocError>
     ensures { IfOk result
-        (λ h. h.0 ≡ transaction_hash (any_transaction.reading.seen tx.now)) }
+        (λ h. h.0 ≡ shown.transaction_hash (any_transaction.reading.seen tx.now)) }
 {
     tx.hash(alloc)
 }
 
 impl Show for AnyTransaction {
-    ghost display = { seen_as any_transaction.reading.seen any_transaction_display };
+    ghost display = { seen_as any_transaction.reading.seen shown.any_transaction_display };
 
     fn show<S: Sink>(&self, alloc: Global, name: &str, sink: &mut S) -> Result<(), AllocError> {
         let hash = hash_of(alloc, self)?;
@@ -325,7 +298,8 @@ impl Show for AnyTransaction {
 }
 
 impl ShowFields for UnsignedLegacyTransaction {
-    ghost fields = { seen_as unsigned_legacy_transaction.reading.seen unsigned_legacy_display };
+    ghost fields = { seen_as unsigned_legacy_transaction.reading.seen
+        shown.unsigned_legacy_display };
 
     fn give<S: Sink>(&self, alloc: Global, name: &str, sink: &mut S) -> Result<(), AllocError> {
         let kind = ByForm((), field!("type" "type" Shown::TypeByte(0)));
@@ -342,7 +316,7 @@ impl ShowFields for UnsignedLegacyTransaction {
 struct Typed<'a, T>(u8, &'a T);
 
 impl<T: ShowFields> ShowFields for Typed<'_, T> {
-    ghost fields = { seen_as (λ t. (t.0, T.fields.seen t.1.now)) (after_type T.fields.form) };
+    ghost fields = { seen_as (λ t. (t.0, T.fields.seen t.1.now)) (shown.after_type T.fields.form) };
 
     fn give<S: Sink>(&self, alloc: Global, name: &str, sink: &mut S) -> Result<(), AllocError> {
         give_fields!(alloc, name, sink; "type" "type" Shown::TypeByte(self.0); self.1)
@@ -351,7 +325,7 @@ impl<T: ShowFields> ShowFields for Typed<'_, T> {
 
 /// The fields without the hash that is signed.
 impl ShowFields for UnsignedTransaction {
-    ghost fields = { seen_as unsigned_transaction.reading.seen payload_display };
+    ghost fields = { seen_as unsigned_transaction.reading.seen shown.payload_display };
 
     fn give<S: Sink>(&self, alloc: Global, name: &str, sink: &mut S) -> Result<(), AllocError> {
         match self {
@@ -368,13 +342,13 @@ impl ShowFields for UnsignedTransaction {
 #[tactic(auto, using(crate::proofs::Written::payload_written))]
 fn payload_hash(alloc: Global, tx: &UnsignedTransaction) -> Result<Hash, AllocError>
     ensures { IfOk result
-        (λ h. h.0 ≡ payload_hash (unsigned_transaction.reading.seen tx.now)) }
+        (λ h. h.0 ≡ shown.payload_hash (unsigned_transaction.reading.seen tx.now)) }
 {
     tx.signing_hash(alloc)
 }
 
 impl Show for UnsignedTransaction {
-    ghost display = { seen_as unsigned_transaction.reading.seen unsigned_display };
+    ghost display = { seen_as unsigned_transaction.reading.seen shown.unsigned_display };
 
     fn show<S: Sink>(&self, alloc: Global, name: &str, sink: &mut S) -> Result<(), AllocError> {
         let hash = payload_hash(alloc, self)?;
@@ -395,33 +369,20 @@ impl Show for Blob {
 #[tactic(auto, using(crate::proofs::Written::blob_written))]
 fn blob_hash(alloc: Global, tx: &Signed<BlobTransaction>) -> Result<Hash, AllocError>
     ensures { IfOk result
-        (λ h. h.0 ≡ blob_hash (signed_blob_transaction.reading.seen tx.now)) }
+        (λ h. h.0 ≡ shown.blob_hash (signed_blob_transaction.reading.seen tx.now)) }
 {
     let bytes = tx.to_bytes(alloc)?;
     Ok(Hash(keccak256(bytes.as_slice())))
 }
 
-/// A transaction without its blobs, and the hash that names it.
-#[derive(Clone, Copy)]
-struct WithoutBlobs<'a>(&'a Signed<BlobTransaction>);
-
-impl ShowFields for WithoutBlobs<'_> {
-    ghost fields = { seen_as (λ t. signed_blob_transaction.reading.seen t.0.now)
-        without_blobs_display };
-
-    fn give<S: Sink>(&self, alloc: Global, name: &str, sink: &mut S) -> Result<(), AllocError> {
-        let hash = blob_hash(alloc, self.0)?;
-        field!("hash" "hash" &hash).give(alloc, name, sink)?;
-        self.0.give(alloc, name, sink)
-    }
-}
-
 impl Show for BlobTransactionWithProofs {
-    ghost display = { seen_as with_proofs.reading.seen with_proofs_display };
+    ghost display = { seen_as with_proofs.reading.seen shown.with_proofs_display };
 
     fn show<S: Sink>(&self, alloc: Global, name: &str, sink: &mut S) -> Result<(), AllocError> {
+        let hash = blob_hash(alloc, &self.transaction)?;
         show_fields!(alloc, name, sink;
-            WithoutBlobs(&self.transaction);
+            "hash" "hash" &hash;
+            &self.transaction;
             "blobs" "blobs" Items(&self.blobs);
             "commitments" "commitments" Items(&self.commitments);
             "proofs" "proofs" Items(&self.proofs);
@@ -430,11 +391,13 @@ impl Show for BlobTransactionWithProofs {
 }
 
 impl Show for BlobTransactionWithCellProofs {
-    ghost display = { seen_as with_cell_proofs.reading.seen with_cell_proofs_display };
+    ghost display = { seen_as with_cell_proofs.reading.seen shown.with_cell_proofs_display };
 
     fn show<S: Sink>(&self, alloc: Global, name: &str, sink: &mut S) -> Result<(), AllocError> {
+        let hash = blob_hash(alloc, &self.transaction)?;
         show_fields!(alloc, name, sink;
-            WithoutBlobs(&self.transaction);
+            "hash" "hash" &hash;
+            &self.transaction;
             "wrapper_version" "wrapperVersion" &1_u64;
             "blobs" "blobs" Items(&self.blobs);
             "commitments" "commitments" Items(&self.commitments);

@@ -2,7 +2,9 @@
 
 ghost use Rattle.rlp_records.specs.Address.{address};
 
-use rlp::{Decodable, DecoderError, Encodable, Rlp, RlpStream, RoundTrip, StrictRead};
+use rlp::{
+    Decodable, DecodePlaced, DecoderError, Encodable, Rlp, RlpStream, RoundTrip, StrictRead,
+};
 use std::alloc::{AllocError, Global};
 
 /// The address of an account: 20 bytes.
@@ -30,6 +32,12 @@ impl Decodable for Address {
     fn decode(alloc: Global, rlp: &Rlp<'_>) -> Result<Address, DecoderError> {
         let bytes = rlp.as_val(alloc)?;
         Ok(Address(bytes))
+    }
+}
+
+impl DecodePlaced for Address {
+    fn put_path(_alloc: Global, _rlp: &Rlp<'_>, _path: &mut Vec<usize>) -> Result<(), AllocError> {
+        Ok(())
     }
 }
 

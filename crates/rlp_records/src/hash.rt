@@ -2,7 +2,9 @@
 
 ghost use Rattle.rlp_records.specs.Hash.{hash};
 
-use rlp::{Decodable, DecoderError, Encodable, Rlp, RlpStream, RoundTrip, StrictRead};
+use rlp::{
+    Decodable, DecodePlaced, DecoderError, Encodable, Rlp, RlpStream, RoundTrip, StrictRead,
+};
 use std::alloc::{AllocError, Global};
 
 /// A Keccak-256 hash, or the root of a trie: 32 bytes.
@@ -30,6 +32,12 @@ impl Decodable for Hash {
     fn decode(alloc: Global, rlp: &Rlp<'_>) -> Result<Hash, DecoderError> {
         let bytes = rlp.as_val(alloc)?;
         Ok(Hash(bytes))
+    }
+}
+
+impl DecodePlaced for Hash {
+    fn put_path(_alloc: Global, _rlp: &Rlp<'_>, _path: &mut Vec<usize>) -> Result<(), AllocError> {
+        Ok(())
     }
 }
 

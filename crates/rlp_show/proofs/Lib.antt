@@ -1,4 +1,9 @@
 -- Lemmas, in a file for each subject.
 
--- lines that are shown without a fault
+-- what bytes give
+pub mod Readings
+-- bytes that stand by themselves
+pub mod Alone
+-- lines that are shown
 pub mod LineLemmas
+pub mod OnlyAlone

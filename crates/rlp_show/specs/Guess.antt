@@ -1,11 +1,8 @@
 -- The kind of a record that isn't named.
-use Rattle.std.specs.Prelude.{ℕ, Bool, ◌%◌, ◌==◌, ◌&&◌, ◌||◌, nat_le, nat_lt, if◌then◌else◌, List, [], ◌∷◌, codes, drop, Option, Some, None, Result, Ok, Err}
+use Rattle.std.specs.Prelude.{ℕ, Bool, ◌%◌, ◌==◌, ◌&&◌, ◌||◌, nat_le, nat_lt, if◌then◌else◌, List, [], ◌∷◌, drop, Option, Some, None, Result, Ok, Err}
 use Rattle.rlp.specs.DecoderError.{DecoderError}
 use Rattle.rlp.specs.Format.Framing.{map_ok}
-use Rattle.rlp.specs.Views.Text.{error_name}
 use Rattle.rlp.specs.Views.View.{View, item_count, item_views, strict_view_of}
-use Rattle.rlp_show.specs.Kinds.{kind_name, kind_shape}
-use Rattle.rlp_show_text.specs.Lines.{Shape, Shown, wrong}
 use Rattle.rlp_show.specs.declared.kind.Kind.{Kind}
 use Rattle.rlp_show.specs.declared.kind.Kind.TheVariants.{AccessList, Account, Authorization, Block, Body, Header, Node, NodeRecord, Receipt, Transaction, Withdrawal}
 
@@ -99,13 +96,3 @@ bytes_kind v (first ∷ more) =
 -- the kind of a record; `None` if no rule applies, or why its items can't be counted
 unfoldable pub guess : View → Result (Option Kind) DecoderError
 guess v = bytes_kind v v.bytes
-
--- the lines of a record of a guessed kind, whose name comes before those of its fields
-abbrev pub guessed_lines : List ℕ → View → Result (Option Kind) DecoderError → Shown
-guessed_lines name v (Ok (Some kind)) = kind_shape kind (kind_name kind) v
-guessed_lines name v (Ok None) = Err (wrong name (codes "Custom(\"unknown kind\")"))
-guessed_lines name v (Err fault) = Err (wrong name (error_name fault))
-
--- records whose kind is guessed
-abbrev pub any_record : Shape
-any_record name v = guessed_lines name v (guess v)

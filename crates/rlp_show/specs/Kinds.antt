@@ -1,14 +1,6 @@
--- The kinds of records, by their names, and how records of a kind are shown.
+-- The kinds of records, by their names.
 use Rattle.std.specs.Prelude.{ℕ, ◌≡◌, refl, List, codes, bytes_eq, if◌then◌else◌, Option, Some, None}
-use Rattle.rlp_show_text.specs.Answer.{record_answer}
-use Rattle.rlp_show.specs.BodyValues.{body_display}
-use Rattle.rlp_show_text.specs.Lines.{Shape}
-use Rattle.rlp_show.specs.MessageKinds.{message_name, message_named, message_shape}
-use Rattle.rlp_show_text.specs.NodeRecords.{node_record}
-use Rattle.rlp_show_text.specs.Nodes.{node}
-use Rattle.rlp_show.specs.Records.{any_receipt, any_transaction}
-use Rattle.rlp_show.specs.TransactionValues.{block_display}
-use Rattle.rlp_show.specs.Values.{access_list_alone_display, account_display, authorization_display, header_display, withdrawal_display}
+use Rattle.rlp_show.specs.MessageKinds.{message_name, message_named}
 use Rattle.rlp_show.specs.declared.kind.Kind.{Kind}
 use Rattle.rlp_show.specs.declared.messages.kind.MessageKind.{MessageKind}
 use Rattle.rlp_show.specs.declared.messages.kind.MessageKind.TheVariants as message
@@ -49,25 +41,6 @@ kind_name NodeRecord = codes "record"
 kind_name Transaction = codes "transaction"
 kind_name Withdrawal = codes "withdrawal"
 kind_name (Message kind) = message_name kind
-
--- the shape of the records of a kind
-abbrev pub kind_shape : Kind → Shape
-kind_shape AccessList = access_list_alone_display.shape
-kind_shape Account = account_display.shape
-kind_shape Authorization = authorization_display.shape
-kind_shape Block = block_display.shape
-kind_shape Body = body_display.shape
-kind_shape Header = header_display.shape
-kind_shape Node = node
-kind_shape Receipt = any_receipt
-kind_shape NodeRecord = node_record
-kind_shape Transaction = any_transaction
-kind_shape Withdrawal = withdrawal_display.shape
-kind_shape (Message kind) = message_shape kind
-
--- the answer to a line that isn't too long, for records of a kind
-abbrev pub kind_answer : Kind → List ℕ → List ℕ
-kind_answer kind = record_answer (kind_shape kind)
 
 -- the name of a kind of messages is the name of no other kind
 pub message_kind : (kind : MessageKind) → kind_named (message_name kind) ≡ Some (Message kind)

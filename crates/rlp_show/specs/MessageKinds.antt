@@ -1,10 +1,5 @@
--- The kinds of messages, by their names, and how messages of a kind are shown.
+-- The kinds of messages, by their names.
 use Rattle.std.specs.Prelude.{ℕ, List, codes, bytes_eq, if◌then◌else◌, Option, Some, None}
-use Rattle.rlp_show_text.specs.Lines.{Shape}
-use Rattle.rlp_show.specs.EthValues.{block_headers_display, get_block_bodies_display, get_block_headers_display, new_block_hashes_display, status68_display, status69_display, transactions_display}
-use Rattle.rlp_show.specs.EthValues.{block_bodies_display, block_range_update_display, get_pooled_transactions_display, get_receipts_display, new_block_display, new_pooled_transaction_hashes_display, pooled_transactions_display, receipts69_display, with_request_id_shape}
-use Rattle.rlp_show.specs.MessageReceipts.{receipts_display}
-use Rattle.rlp_show.specs.P2pValues.{disconnect_display, hello_display, ping_display, pong_display}
 use Rattle.rlp_show.specs.declared.messages.kind.MessageKind.{MessageKind}
 use Rattle.rlp_show.specs.declared.messages.kind.MessageKind.TheVariants.{BlockHeaders, Disconnect, GetBlockHeaders, Hello, NewBlockHashes, Ping, Pong, Status68, Status69, Transactions}
 use Rattle.rlp_show.specs.declared.messages.kind.MessageKind.TheVariants.{BlockBodies, BlockRangeUpdate, GetBlockBodies, GetPooledTransactions, GetReceipts, NewBlock, NewPooledTransactionHashes, PooledTransactions, Receipts68, Receipts69}
@@ -56,26 +51,3 @@ message_name GetReceipts = codes "get_receipts"
 message_name Receipts68 = codes "receipts68"
 message_name Receipts69 = codes "receipts69"
 message_name BlockRangeUpdate = codes "block_range_update"
-
--- how messages of a kind are shown
-abbrev pub message_shape : MessageKind → Shape
-message_shape Hello = hello_display.shape
-message_shape Disconnect = disconnect_display.shape
-message_shape Ping = ping_display.shape
-message_shape Pong = pong_display.shape
-message_shape Status68 = status68_display.shape
-message_shape Status69 = status69_display.shape
-message_shape NewBlockHashes = new_block_hashes_display.shape
-message_shape Transactions = transactions_display.shape
-message_shape GetBlockHeaders = with_request_id_shape get_block_headers_display.shape
-message_shape BlockHeaders = with_request_id_shape block_headers_display.shape
-message_shape GetBlockBodies = with_request_id_shape get_block_bodies_display.shape
-message_shape BlockBodies = with_request_id_shape block_bodies_display.shape
-message_shape NewBlock = new_block_display.shape
-message_shape NewPooledTransactionHashes = new_pooled_transaction_hashes_display.shape
-message_shape GetPooledTransactions = with_request_id_shape get_pooled_transactions_display.shape
-message_shape PooledTransactions = with_request_id_shape pooled_transactions_display.shape
-message_shape GetReceipts = with_request_id_shape get_receipts_display.shape
-message_shape Receipts68 = with_request_id_shape receipts_display.shape
-message_shape Receipts69 = with_request_id_shape receipts69_display.shape
-message_shape BlockRangeUpdate = block_range_update_display.shape

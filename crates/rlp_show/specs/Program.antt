@@ -6,8 +6,7 @@ use Rattle.rlp_lines.specs.Replies.{answer_by}
 use Rattle.rlp_lines.specs.Run.{AppendsPart, RunLeaves, TellsFault, TextLeaves}
 use Rattle.rlp_lines.specs.Watched.{Watched}
 use Rattle.rlp_lines.specs.declared.serving.RunFault.{RunFault}
-use Rattle.rlp_show_text.specs.Answer.{exit_status, longest_line}
-use Rattle.rlp_show.specs.LineAnswer.{answer_of}
+use Rattle.rlp_show.specs.Answers.{answer_of, exit_status, long_line, longest_line}
 use Rattle.rlp_show.specs.declared.answers.Answers.{Answers}
 use Rattle.rlp_show.specs.declared.help.TheConstants.{HELP, USAGE, VERSION}
 use Rattle.rlp_show.specs.declared.request.Request.{Request}
@@ -15,7 +14,7 @@ use Rattle.rlp_show.specs.declared.request.Request.TheVariants.{Help, Lines, Rec
 
 -- the answer to any line, for records of a kind and in a form
 abbrev pub line_answer : Answers → List ℕ → List ℕ
-line_answer answers = answer_by longest_line (answer_of answers)
+line_answer answers = answer_by longest_line (long_line answers) (answer_of answers)
 
 -- a text was written whole and flushed, and the status is 0; or the writer failed after a beginning of the text, and the status is 3
 abbrev pub Prints : {W : Type 0} → List ℕ → (W → Option (List ℕ)) → Watched W → Watched W → ℕ → Type 0

@@ -1,10 +1,10 @@
 -- What the arguments of the program ask for.
 use Rattle.std.specs.Prelude.{ℕ, ◌||◌, if◌then◌else◌, List, [], ◌∷◌, codes, bytes_eq, Option, Some, None}
-use Rattle.rlp_show_text.specs.Answer.{is_record}
+use Rattle.rlp_show.specs.Input.{is_record}
 use Rattle.rlp_show.specs.Kinds.{kind_named}
 use Rattle.rlp_show.specs.declared.answers.Answers.{Answers}
 use Rattle.rlp_show.specs.declared.answers.Form.{Form}
-use Rattle.rlp_show.specs.declared.answers.Form.TheVariants.{Json, Text}
+use Rattle.rlp_show.specs.declared.answers.Form.TheVariants.{Bytes, Json, Text}
 use Rattle.rlp_show.specs.declared.kind.Kind.{Kind}
 use Rattle.rlp_show.specs.declared.request.Request.{Request}
 use Rattle.rlp_show.specs.declared.request.Request.TheVariants.{Help, Lines, Record, Unknown, Version}
@@ -38,7 +38,10 @@ form_request form (word ∷ []) = one_request form (kind_named word) word
 form_request form (first ∷ word ∷ []) = two_request form (kind_named first) word
 form_request form (first ∷ second ∷ third ∷ words) = Unknown
 
--- what the words after the name of the program ask for; after `--json` the answers are in JSON
+-- what the words after the name of the program ask for; after `--json` the answers are in JSON, and after `--bytes` they say where each field stands
 abbrev pub request_of : List (List ℕ) → Request
 request_of [] = form_request Text []
-request_of (first ∷ words) = if bytes_eq first (codes "--json") then form_request Json words else form_request Text (first ∷ words)
+request_of (first ∷ words) =
+    if bytes_eq first (codes "--json") then form_request Json words
+    else if bytes_eq first (codes "--bytes") then form_request Bytes words
+    else form_request Text (first ∷ words)

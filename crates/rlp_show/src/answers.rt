@@ -1,17 +1,19 @@
 //! The answers to lines.
 
-ghost use Rattle.std.specs.Prelude.{◌≡◌, ◌++◌, [], Ok, string_bytes, OnOk};
+ghost use Rattle.std.specs.Prelude.{◌≡◌, ◌++◌, Some, string_bytes, OnOk};
 ghost use Rattle.rlp.specs.Views.View.{strict_view_of};
-ghost use Rattle.rlp_show_text.specs.Answer.{Shows, longest_line, text_answer};
-ghost use Rattle.rlp_show.specs.LineAnswer.{answer_in, answer_of, shape_of};
+ghost use Rattle.rlp_show.specs.Answers.{answer_of, bytes_text, guessed_text, long_line, longest_line, own_name, text_answer};
+ghost use Rattle.rlp_show.specs.Guess.{guess};
+ghost use Rattle.rlp_show.specs.Input.{record_bytes};
 
-use crate::guessing::{AnyRecord, show_as};
+use crate::faults::{put_error, put_fault};
+use crate::given::Given;
+use crate::guessing::guess;
+use crate::input::{is_node_text, read_record};
 use crate::kind::Kind;
-use crate::show::Show;
-use rlp::Rlp;
-use rlp_json::put_json;
+use crate::known::put_known;
+use rlp::{DecoderError, Rlp};
 use rlp_lines::{LineAnswers, without_carriage_return};
-use rlp_show_text::{ShowFault, is_node_text, read_record};
 use std::alloc::{AllocError, Global};
 
 /// The most bytes that a line may have, without its newline.
@@ -22,9 +24,11 @@ const LONGEST_LINE: usize = 33_554_432;
 pub enum Form {
     /// A line for each field.
     Text,
-    /// One JSON object, whose only key is the name of the kind, as `accessList`. It has no key for
-    /// `ping` and `pong`, which have no fields.
+    /// One JSON object, whose only key is the name of the kind, as `accessList`.
     Json,
+    /// A line for each field and for each header of a list, with its place in the bytes and the
+    /// bytes themselves.
+    Bytes,
 }
 
 /// How lines are answered.
@@ -39,10 +43,19 @@ pub struct Answers {
 impl LineAnswers for Answers {
     ghost longest = { longest_line };
 
+    ghost long_line = { long_line };
+
     ghost answer_within = { answer_of };
 
     fn longest() -> usize {
         LONGEST_LINE
+    }
+
+    fn long_line(&self) -> &'static str {
+        match self.form {
+            Form::Json => "{\"error\":{\"name\":\"\",\"fault\":\"long line\"}}",
+            _ => "error long line",
+        }
     }
 
     fn put_answer(&self, alloc: Global, line: &[u8], out: &mut String) -> Result<(), AllocError> {
@@ -54,51 +67,57 @@ impl Answers {
     /// Appends the answer to a record that is given as text.
     fn put_text(&self, alloc: Global, text: &[u8], out: &mut String) -> Result<(), AllocError>
         ensures { OnOk result (string_bytes out.new ≡ string_bytes out.old
-            ++ text_answer (answer_in self.now.form) (shape_of self.now) text.now) }
+            ++ text_answer self.now text.now (record_bytes text.now)) }
     {
         match read_record(alloc, text)? {
-            Some(bytes) => self.put_record(alloc, bytes.as_slice(), out),
-            None if is_node_text(text) => out.push_str("error base64"),
-            None => out.push_str("error hex"),
+            Some(bytes) => self.put_bytes(alloc, bytes.as_slice(), out),
+            None if is_node_text(text) => put_fault(alloc, self.form, None, "", "base64", out),
+            None => put_fault(alloc, self.form, None, "", "hex", out),
         }
     }
 
-    /// Appends the answer to a record, or what is wrong with it.
-    fn put_record(&self, alloc: Global, bytes: &[u8], out: &mut String) -> Result<(), AllocError>
+    /// Appends the answer to the bytes of a record.
+    fn put_bytes(&self, alloc: Global, bytes: &[u8], out: &mut String) -> Result<(), AllocError>
         ensures { OnOk result (string_bytes out.new ≡ string_bytes out.old
-            ++ answer_in self.now.form (shape_of self.now [] (strict_view_of bytes.now))) }
+            ++ bytes_text self.now.form self.now.kind bytes.now) }
     {
-        let mut lines = String::new(alloc);
-        match self.show(alloc, &Rlp::new_strict(bytes), &mut lines) {
-            Ok(()) => self.put_lines(lines.as_str(), out),
-            Err(ShowFault::Wrong(fault)) => {
-                out.push_str("error ")?;
-                fault.put(out)
+        match self.kind {
+            Some(kind) => {
+                let name = own_name(self.form, kind);
+                put_known(alloc, kind, &Given::new(self.form, kind, name, bytes), out)
             }
-            Err(ShowFault::OutOfMemory) => Err(AllocError),
+            None => put_guessed(alloc, self.form, bytes, out),
         }
     }
+}
 
-    /// Appends the lines of a record. In JSON they are under the name of the kind.
-    fn show(&self, alloc: Global, item: &Rlp<'_>, out: &mut String) -> Result<(), ShowFault>
-        ensures { Shows (shape_of self.now [] item.now) (string_bytes out.old)
-            (string_bytes out.new) result }
-    {
-        match (self.kind, self.form) {
-            (Some(kind), Form::Text) => show_as(alloc, kind, "", item, out),
-            (Some(kind), Form::Json) => show_as(alloc, kind, kind.name(), item, out),
-            (None, _) => AnyRecord::show(alloc, "", item, out),
-        }
+/// Returns the name of a whole record of a kind that isn't guessed.
+fn own_name(form: Form, kind: Kind) -> &'static str
+    ensures { result.now ≡ own_name form kind }
+{
+    match form {
+        Form::Json => kind.name(),
+        _ if kind.part().is_list() => kind.name(),
+        _ => "",
     }
+}
 
-    /// Appends lines in the form of the answers.
-    fn put_lines(&self, lines: &str, out: &mut String) -> Result<(), AllocError>
-        ensures { OnOk result (string_bytes out.new ≡ string_bytes out.old
-            ++ answer_in self.now.form (Ok lines.now)) }
-    {
-        match self.form {
-            Form::Text => out.push_str(lines),
-            Form::Json => put_json(lines, out),
+/// Appends the answer to the bytes of a record, whose kind is guessed.
+fn put_guessed(alloc: Global, form: Form, bytes: &[u8], out: &mut String) -> Result<(), AllocError>
+    ensures { OnOk result (string_bytes out.new ≡ string_bytes out.old
+        ++ guessed_text form bytes.now (guess (strict_view_of bytes.now))) }
+{
+    match guess(&Rlp::new_strict(bytes)) {
+        Ok(Some(kind)) => put_known(
+            alloc,
+            kind,
+            &Given::new(form, kind, kind.name(), bytes),
+            out,
+        ),
+        Ok(None) => {
+            let unknown = DecoderError::Custom("unknown kind");
+            put_error(alloc, form, None, "", &unknown, out)
         }
+        Err(fault) => put_error(alloc, form, None, "", &fault, out),
     }
 }

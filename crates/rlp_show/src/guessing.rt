@@ -1,24 +1,12 @@
 //! The kind of a record that isn't named.
 
-ghost use Rattle.std.specs.Prelude.{◌≡◌, drop, string_bytes};
+ghost use Rattle.std.specs.Prelude.{◌≡◌, drop};
 ghost use Rattle.rlp.specs.Format.Framing.{map_ok};
 ghost use Rattle.rlp.specs.Views.View.{item_count, item_views, strict_view_of};
-ghost use Rattle.rlp_show_text.specs.Answer.{Shows};
-ghost use Rattle.rlp_show.specs.Kinds.{kind_shape};
-ghost use Rattle.rlp_show.specs.Guess.{any_record, envelope_kind, first_byte, first_of, four_kind, guess, inner_of, list_kind, lists_kind, strings_kind};
+ghost use Rattle.rlp_show.specs.Guess.{envelope_kind, first_byte, first_of, four_kind, guess, inner_of, list_kind, lists_kind, strings_kind};
 
-use crate::envelopes::AnyReceipt;
 use crate::kind::Kind;
-use crate::messages::show_message;
-use crate::nodes::Node;
-use crate::show::Show;
-use crate::transactions::TransactionAlone;
 use rlp::{DecoderError, Rlp, RlpIterator};
-use rlp_ethereum::{
-    AccessList, Account, Block, Body, Header, NodeRecord, SignedAuthorization, Withdrawal,
-};
-use rlp_show_text::ShowFault;
-use std::alloc::Global;
 
 /// The first byte of a string of 20 bytes, such as an address.
 const ADDRESS: u8 = 0x94;
@@ -31,53 +19,6 @@ const LONG: u8 = 0xb8;
 
 /// The first byte from which on an item is a list.
 const LIST: u8 = 0xc0;
-
-/// A record whose kind is guessed, for [`Show`]. It has no values.
-pub struct AnyRecord;
-
-/// The record is shown under the name of its kind, whatever its own name. Fails as [`guess`] does,
-/// with `Custom("unknown kind")` if no rule applies, and else as the kind does.
-impl Show for AnyRecord {
-    ghost shape = { any_record };
-
-    fn show(alloc: Global, name: &str, item: &Rlp<'_>, out: &mut String) -> Result<(), ShowFault> {
-        match guess(item) {
-            Ok(Some(kind)) => show_as(alloc, kind, kind.name(), item, out),
-            Ok(None) => {
-                let fault = DecoderError::Custom("unknown kind");
-                Err(ShowFault::of(alloc, name, fault))
-            }
-            Err(fault) => Err(ShowFault::of(alloc, name, fault)),
-        }
-    }
-}
-
-/// Appends the lines of a record of a kind.
-pub(crate) fn show_as(
-    alloc: Global,
-    kind: Kind,
-    name: &str,
-    item: &Rlp<'_>,
-    out: &mut String,
-) -> Result<(), ShowFault>
-    ensures { Shows (kind_shape kind name.now item.now) (string_bytes out.old)
-        (string_bytes out.new) result }
-{
-    match kind {
-        Kind::AccessList => AccessList::show(alloc, name, item, out),
-        Kind::Account => Account::show(alloc, name, item, out),
-        Kind::Authorization => SignedAuthorization::show(alloc, name, item, out),
-        Kind::Block => Block::show(alloc, name, item, out),
-        Kind::Body => Body::show(alloc, name, item, out),
-        Kind::Header => Header::show(alloc, name, item, out),
-        Kind::Node => Node::show(alloc, name, item, out),
-        Kind::Receipt => AnyReceipt::show(alloc, name, item, out),
-        Kind::NodeRecord => NodeRecord::show(alloc, name, item, out),
-        Kind::Transaction => TransactionAlone::show(alloc, name, item, out),
-        Kind::Withdrawal => Withdrawal::show(alloc, name, item, out),
-        Kind::Message(kind) => show_message(alloc, kind, name, item, out),
-    }
-}
 
 /// The kind of a record by its first byte, and for a list by the number of its items and the first
 /// bytes of some of them. Returns `None` if no rule applies.

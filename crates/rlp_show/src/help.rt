@@ -4,7 +4,8 @@
 pub const VERSION: &str = "rlp_show 0.6.1\n";
 
 /// What the program prints for arguments that it doesn't know.
-pub const USAGE: &str = "usage: rlp_show [--json] [KIND] [RECORD]\nrlp_show --help says more.\n";
+pub const USAGE: &str =
+    "usage: rlp_show [--json | --bytes] [KIND] [RECORD]\nrlp_show --help says more.\n";
 
 /// The exit status of the program for such arguments.
 pub const UNKNOWN_ARGUMENTS: u8 = 4;
@@ -13,20 +14,25 @@ pub const UNKNOWN_ARGUMENTS: u8 = 4;
 pub const HELP: &str = "\
 rlp_show shows records of Ethereum by the names of their fields.
 
-usage: rlp_show [--json] [KIND] [RECORD]
+usage: rlp_show [--json | --bytes] [KIND] [RECORD]
 
 RECORD is the whole encoding in hexadecimal digits after 0x, or the text of a node
 record, which begins with enr:. Without RECORD, each line of standard input is a
 record, where 0x may be left out.
 
 With --json an answer is one JSON object in one line. Its only key is the kind, as
-accessList for access_list; ping and pong have no fields, and are {}. The names and
-values of records are those of Ethereum's execution API: numbers are in hexadecimal,
-and the fields of a header stand in its block. Only signingHash and whole ommers
-aren't there. Fields of messages have names of the same form.
+accessList for access_list. The names and values of records are those of Ethereum's
+execution API: numbers are in hexadecimal, and the fields of a header stand in its
+block. Only signingHash and whole ommers aren't there. Fields of messages have names
+of the same form.
+
+With --bytes each line also has the place of the field, counted from 0, the bytes of
+its header and those of its payload. There is a line for each header of a list that
+has items, and a dash for what isn't there.
 
 KIND is one of
-  transaction, receipt            with or without a type
+  transaction                     with or without a type, signed or not
+  receipt                         with or without a type
   access_list, authorization      parts of transactions
   block, body, header, withdrawal
   account, node                   of the trie of the state, and of any trie
@@ -58,8 +64,8 @@ Without KIND the kind is guessed, and its name comes before those of the fields:
 Where two kinds fit, the commoner one is taken.
 
 An answer is a line for each field and an empty line, or with --json one line. For a
-record at fault it is one line of text, also with --json, that begins with error. It
-names the field, counted from 0, and the fault, as
+record at fault it is one line, which begins with error, or with --json an object
+with the key error. It names the field, counted from 0, and the fault, as
   RlpInvalidIndirection   a number begins with a zero byte, or a header is too long
   RlpIsTooBig             there are more bytes than the field takes
   RlpIsTooShort           there are fewer

@@ -3,8 +3,8 @@
 ghost use Rattle.std.specs.Prelude.{◌≡◌, map, string_bytes};
 
 use crate::answers::{Answers, Form};
+use crate::input::is_record;
 use crate::kind::Kind;
-use rlp_show_text::is_record;
 
 /// What the arguments of the program ask for.
 #[derive(Debug, Clone, Copy, PartialEq, Eq)]
@@ -26,13 +26,17 @@ impl Request {
     ghost use Rattle.rlp_show.specs.Request.{form_request, one_request, request_of, two_request, word_request};
 
     /// What these arguments ask for, without the name of the program. They are a kind, a record, or
-    /// a kind and then a record, all after `--json` if the answers are to be in JSON; or one of
-    /// `--help`, `-h`, `--version` and `-V`. A record is what begins with `0x` or `enr:`.
+    /// a kind and then a record, all after `--json` if the answers are to be in JSON, or after
+    /// `--bytes` if they are to say where each field stands; or one of `--help`, `-h`, `--version`
+    /// and `-V`. A record is what begins with `0x` or `enr:`.
     pub fn of(words: &[String]) -> Request
         ensures { result ≡ request_of (map string_bytes words.now) }
     {
         match words {
             [first, rest @ ..] if first.as_str() == "--json" => Request::in_form(Form::Json, rest),
+            [first, rest @ ..] if first.as_str() == "--bytes" => {
+                Request::in_form(Form::Bytes, rest)
+            }
             _ => Request::in_form(Form::Text, words),
         }
     }

@@ -3,11 +3,9 @@
 ghost use Rattle.std.specs.Prelude.{◌≡◌, ◌≢◌, false, map, string_bytes, IfOk};
 ghost use Rattle.std.specs.IoError.{error_kind};
 ghost use Rattle.rlp_lines.specs.Lines.{last_of};
-ghost use Rattle.rlp_lines.specs.Replies.{answer_by};
 ghost use Rattle.rlp_lines.specs.Run.{RunLeaves, TellsFault};
-ghost use Rattle.rlp_show_text.specs.Answer.{exit_status, longest_line};
-ghost use Rattle.rlp_show.specs.LineAnswer.{answer_of};
-ghost use Rattle.rlp_show.specs.Program.{AnswersInput, AnswersWord, Prints, Refuses, Serves};
+ghost use Rattle.rlp_show.specs.Answers.{exit_status};
+ghost use Rattle.rlp_show.specs.Program.{AnswersInput, AnswersWord, Prints, Refuses, Serves, line_answer};
 ghost use Rattle.rlp_show.specs.Request.{request_of};
 
 use crate::answers::Answers;
@@ -19,8 +17,8 @@ use std::io;
 use std::io::{ErrorKind, Read, Write};
 
 /// Answers each line of the input, until its end, with the record that it is, or with what is wrong
-/// with it. The answer to a line of more than 32 MiB is `error long line`. Returns whether an answer
-/// begins with `error`, and fails with the [`RunFault`] that stopped it.
+/// with it, such as `long line` for a line of more than 32 MiB. Returns whether a line was at fault,
+/// and fails with the [`RunFault`] that stopped it.
 pub fn run<R: Read, W: Write>(
     alloc: Global,
     answers: &Answers,
@@ -29,9 +27,9 @@ pub fn run<R: Read, W: Write>(
 ) -> Result<bool, RunFault>
     requires input { input.old.failed ≡ false }
     requires output { output.old.failed ≡ false }
-    ensures leaves { RunLeaves (answer_by longest_line (answer_of answers.now)) R.remaining
-        W.contents input.old input.new output.old output.new result }
-    ensures faulty { IfOk result (TellsFault (answer_by longest_line (answer_of answers.now))
+    ensures leaves { RunLeaves (line_answer answers.now) R.remaining W.contents
+        input.old input.new output.old output.new result }
+    ensures faulty { IfOk result (TellsFault (line_answer answers.now)
         (R.remaining input.old.inner) (R.remaining input.new.inner)) }
 {
     answer_lines(alloc, answers, input, output)

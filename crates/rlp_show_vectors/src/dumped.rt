@@ -1,16 +1,17 @@
-//! Where contents stand in their encodings, by `rlp_print`.
+//! Where contents stand in their encodings, in the answers of `--bytes`.
 //!
 //! A Python script wrote the rows from bytes and lines that stand in the other tests: it reads each
-//! header by the yellow paper, appendix B, and puts the lines beside the strings in order.
+//! header by the yellow paper, appendix B, and puts the lines beside the strings in order. The rows
+//! of what EIP-155 signs were written by hand.
 
-use crate::printed::{Print, own_name, record};
+use crate::support::{Row, answered, check_form};
 use rlp_rows::{Line, cut, number};
-use rlp_show::Kind;
+use rlp_show::{Form, Kind};
 use std::alloc::{AllocError, Global};
 use std::test::Fail;
 
 /// The kind and the digits of a record, and its rows.
-const ROWS: [(&str, &str); 8] = [
+const ROWS: [Row; 9] = [
     (
         "transaction f86c098504a817c800825208943535353535353535353535353535353535353535880de0b6b3\
          a76400008025a028ef61340bd939bc2195fe537567866003e1a15d3c71ff63e1590620aa6362\
@@ -30,7 +31,7 @@ const ROWS: [(&str, &str); 8] = [
          77 a0 67cbe9d8997f761aecb703304b3800ccf555c9f3dc64214b297fb1966a3b6d83 s: 0x67cb\
          e9d8997f761aecb703304b3800ccf555c9f3dc64214b297fb1966a3b6d83\n\
          - - - signing_hash: 0xdaf5a779ae972f972197303d7b574746c7ef83eadac0f2791ad23db92e\
-         4c8e53\n",
+         4c8e53\n\n",
     ),
     (
         "access_list f838f7940102030405060708090a0b0c0d0e0f1011121314e1a0000102030405060708090a0b\
@@ -42,7 +43,7 @@ const ROWS: [(&str, &str); 8] = [
          24 e1 - list\n\
          25 a0 000102030405060708090a0b0c0d0e0f101112131415161718191a1b1c1d1e1f access_li\
          st[0].storage_keys[0]: 0x000102030405060708090a0b0c0d0e0f101112131415161718191a1\
-         b1c1d1e1f\n",
+         b1c1d1e1f\n\n",
     ),
     (
         "node c91ac782201183646f67",
@@ -53,7 +54,7 @@ const ROWS: [(&str, &str); 8] = [
          2 c7 - list\n\
          - - - child.node: leaf\n\
          3 82 2011 child.path: 0x2011 (nibbles [11])\n\
-         6 83 646f67 child.value: 0x646f67\n",
+         6 83 646f67 child.value: 0x646f67\n\n",
     ),
     (
         "record f884b8407098ad865b00a582051940cb9cf36836572411a47278783077011599ed5cd16b76f2\
@@ -74,7 +75,7 @@ const ROWS: [(&str, &str); 8] = [
          93 a1 03ca634cae0d49acb401d8a4c6b6fe8c55b70d115bf400769cc1400f3258cd3138 pairs[2\
          ].value: 0x03ca634cae0d49acb401d8a4c6b6fe8c55b70d115bf400769cc1400f3258cd3138\n\
          127 83 756470 pairs[3].key: udp\n\
-         131 82 765f pairs[3].value: 30303\n",
+         131 82 765f pairs[3].value: 30303\n\n",
     ),
     (
         "transactions c40582067f",
@@ -87,12 +88,12 @@ const ROWS: [(&str, &str); 8] = [
          ad7f90e89b6c77\n\
          2 82 - envelope\n\
          3 - 06 transactions[1].type: 6\n\
-         4 - 7f transactions[1].payload: 0x7f\n",
+         4 - 7f transactions[1].payload: 0x7f\n\n",
     ),
     (
         "disconnect c104",
         "0 c1 - list\n\
-         1 - 04 reason: 4\n",
+         1 - 04 reason: 4\n\n",
     ),
     (
         "body f86cf869f86780862d79883d2000825208945df9b87991262f6ba471f09758cde1c0fc1de734\
@@ -117,9 +118,24 @@ const ROWS: [(&str, &str); 8] = [
          ons[0].s: 0x45e0aff800961cfce805daef7016b9b675c137a6a41a548f7b60a3484c06a33a\n\
          - - - transactions[0].signing_hash: 0x19b1e28c14f33e74b96b88eba97d4a4fc8a97638d7\
          2e972310025b7e1189b049\n\
-         109 c0 - ommers: []\n",
+         109 c0 - ommers: []\n\n",
     ),
-    ("access_list c0", "0 c0 - access_list: []\n"),
+    (
+        "transaction ec098504a817c800825208943535353535353535353535353535353535353535880de0b6b3a7\
+         64000080018080",
+        "0 ec - list\n\
+         1 - 09 nonce: 9\n\
+         2 85 04a817c800 gas_price: 20000000000\n\
+         8 82 5208 gas_limit: 21000\n\
+         11 94 3535353535353535353535353535353535353535 to: 0x353535353535353535353535353\
+         5353535353535\n\
+         32 88 0de0b6b3a7640000 value: 1000000000000000000\n\
+         41 80 - data: 0x\n\
+         42 - 01 chain_id: 1\n\
+         - - - signing_hash: 0xdaf5a779ae972f972197303d7b574746c7ef83eadac0f2791ad23db92e\
+         4c8e53\n\n",
+    ),
+    ("access_list c0", "0 c0 - access_list: []\n\n"),
 ];
 
 /// What rows say.
@@ -156,7 +172,7 @@ fn may_lack_place(line: &str) -> bool {
 }
 
 /// Adds what a row says. Returns whether it stands where the bytes so far end, and whether its
-/// header has the length that its first byte says.
+/// header has the length that its first byte says. An empty line ends the rows.
 fn add(alloc: Global, told: &mut Told, row: &str) -> Result<bool, AllocError> {
     let (place, rest) = cut(row);
     let (header, rest) = cut(rest);
@@ -165,8 +181,8 @@ fn add(alloc: Global, told: &mut Told, row: &str) -> Result<bool, AllocError> {
         told.lines.push_str(what)?;
         told.lines.push('\n')?;
     }
-    if place == "-" {
-        return Ok(may_lack_place(what));
+    if row.is_empty() || place == "-" {
+        return Ok(row.is_empty() || may_lack_place(what));
     }
     let start = told.bytes.len();
     push_part(alloc, header, &mut told.bytes)?;
@@ -180,20 +196,37 @@ fn add(alloc: Global, told: &mut Told, row: &str) -> Result<bool, AllocError> {
     Ok(number(place) == start && (is_payload || found == Some(header_len(*first))))
 }
 
+/// Returns whether lines are those of what EIP-155 signs, which has a chain and no `r`.
+fn are_unsigned(lines: &str) -> bool {
+    lines.contains("chain_id: ") && !lines.contains("r: 0x")
+}
+
+/// Returns whether these bytes, which rows show, are all bytes of a record with these lines. A whole
+/// empty list has no content, and of the empty trie only the kind is shown. Nor are the last two
+/// strings shown of what EIP-155 signs.
+fn are_all(shown: &[u8], bytes: &[u8], lines: &str) -> bool {
+    match bytes.get(shown.len()..) {
+        Some([]) => bytes == shown,
+        Some([0x80, 0x80]) if are_unsigned(lines) => bytes.starts_with(shown),
+        _ => bytes.len() == 1,
+    }
+}
+
+/// Returns the bytes of a line, or nothing for the text of a node record.
+fn bytes_in(alloc: Global, text: &str) -> Option<Vec<u8>> {
+    hex::decode(alloc, text.strip_prefix("0x").unwrap_or(text).as_bytes()).ok()
+}
+
 /// Notes a record whose rows don't show all of its bytes in order, or don't have the expected lines.
 pub(crate) fn note_rows(
     alloc: Global,
-    given: &'static str,
-    kind: Kind,
-    name: &str,
-    bytes: &[u8],
-    want: &str,
+    kind: Option<Kind>,
+    row: &Row,
     wrong: &mut Line,
 ) -> Result<(), AllocError> {
-    let Ok(rows) = record(alloc, kind, Print::Rows(name, bytes), bytes) else {
-        wrong.note("rows", given, "a fault", want);
-        return Ok(());
-    };
+    let (given, want) = row;
+    let (_, text) = cut(given);
+    let rows = answered(alloc, kind, Form::Bytes, text)?;
     let mut told = Told {
         bytes: Vec::new(alloc),
         lines: String::new(alloc),
@@ -203,31 +236,81 @@ pub(crate) fn note_rows(
             wrong.note("row", given, row, "at its place");
         }
     }
-    // A whole empty list has no content, and of the empty trie only the kind is shown.
-    let is_all = bytes.len() == 1 || told.bytes.as_slice() == bytes;
-    if !is_all || told.lines.as_str() != want {
+    let Some(bytes) = bytes_in(alloc, text) else {
+        return Ok(());
+    };
+    if told.lines.as_str() != *want || !are_all(told.bytes.as_slice(), bytes.as_slice(), want) {
         wrong.note("rows", given, rows.as_str(), want);
+    }
+    match kind {
+        Some(kind) if bytes.len() > 1 && !are_unsigned(want) => {
+            note_names(alloc, kind, bytes.as_slice(), rows.as_str(), wrong)
+        }
+        _ => Ok(()),
+    }
+}
+
+/// Returns the digits of bytes with a list in place of the string at a place, or the other way round.
+fn turned(alloc: Global, bytes: &[u8], place: usize) -> Result<String, AllocError> {
+    let mut turned = Vec::from_slice(alloc, bytes)?;
+    if let Some(first) = turned.get_mut(place) {
+        *first = match *first {
+            0..=0x7f => 0xc0,
+            other => other ^ 0x40,
+        };
+    }
+    hex::encode(alloc, turned.as_slice())
+}
+
+/// Returns the name in an answer, as `gas_limit` in `error field 9 (gas_limit): RlpIsTooBig`.
+fn name_at_fault(answer: &str) -> &str {
+    let text = answer.strip_prefix("error ").unwrap_or("");
+    match text.split_once(" (") {
+        Some((_, rest)) => rest.split_once("): ").unwrap_or((rest, "")).0,
+        None => text.split_once(": ").unwrap_or((text, "")).0,
+    }
+}
+
+/// Returns the place and the name of a row, or nothing for a row without a place or of a part of an
+/// envelope.
+fn place_and_name(row: &str) -> Option<(&str, &str)> {
+    let (place, rest) = cut(row);
+    let (_, what) = cut(cut(rest).1);
+    let (name, _) = what.split_once(": ")?;
+    let (_, own) = name.rsplit_once('.').unwrap_or(("", name));
+    match own {
+        "type" | "payload" => None,
+        _ if place == "-" => None,
+        _ => Some((place, name)),
+    }
+}
+
+/// Notes the names of rows that the program doesn't give to the fault of a string in place of a list
+/// there, or of a list in place of a string. An item of any kind may be either, and a fault in it is
+/// that of the whole item.
+fn note_names(
+    alloc: Global,
+    kind: Kind,
+    bytes: &[u8],
+    rows: &str,
+    wrong: &mut Line,
+) -> Result<(), AllocError> {
+    for row in rows.lines() {
+        let Some((place, name)) = place_and_name(row) else {
+            continue;
+        };
+        let digits = turned(alloc, bytes, number(place))?;
+        let answer = answered(alloc, Some(kind), Form::Text, digits.as_str())?;
+        let found = name_at_fault(answer.as_str());
+        let is_any = name.contains("pairs[") || name.contains("further[") || name.contains("child");
+        if !is_any || !name.starts_with(found) {
+            wrong.note("name", digits.as_str(), found, name);
+        }
     }
     Ok(())
 }
 
 #[test]
 fn rows_have_places_headers_and_payloads(rt: HostRuntime) -> Result<(), Fail> {
-    let mut wrong = Line::new();
-    for (given, want) in &ROWS {
-        let (name, digits) = cut(given);
-        let (Some(kind), Ok(bytes)) = (
-            Kind::named(name),
-            hex::decode(rt.alloc(), digits.as_bytes()),
-        ) else {
-            wrong.note("rows", given, "no record", want);
-            continue;
-        };
-        let how = Print::Rows(own_name(kind), bytes.as_slice());
-        match record(rt.alloc(), kind, how, bytes.as_slice()) {
-            Ok(rows) => wrong.note("rows", given, rows.as_str(), want),
-            Err(_) => wrong.note("rows", given, "a fault", want),
-        }
-    }
-    wrong.none_noted()
+    check_form(rt.alloc(), Form::Bytes, &ROWS)
 }

@@ -287,11 +287,12 @@ const NODE_RECORD_FAULTS: [Row; 5] = [
         "record f84bb8407098ad865b00a582051940cb9cf36836572411a47278783077011599ed5cd16b\
          76f2635f4e234738f30813a89eb9137e3e3df5266e3a1f11df72ecf1145ccb9c01836574\
          68c3018105",
-        "error field 3 (pairs[0].value[1]): RlpInvalidIndirection\n",
+        "error field 3 (pairs[0].value): Custom(\"item is not canonical\")\n",
     ),
 ];
 
-/// A list of 256 items with a fault in its last, a type without a payload, and digits that aren't pairs.
+/// A list of 256 items with a fault in its last, a type without a payload, and digits that aren't
+/// pairs. An item of any kind is at fault as a whole.
 const LATE_FAULTS: [Row; 4] = [
     (
         "record f9010a800183657468f90101050505050505050505050505050505050505050505050505\
@@ -302,7 +303,7 @@ const LATE_FAULTS: [Row; 4] = [
          050505050505050505050505050505050505050505050505050505050505050505050505\
          050505050505050505050505050505050505050505050505050505050505050505050505\
          0505050505050505050505050505058105",
-        "error field 3 (pairs[0].value[255]): RlpInvalidIndirection\n",
+        "error field 3 (pairs[0].value): Custom(\"item is not canonical\")\n",
     ),
     ("transaction 01", "error RlpExpectedToBeList\n"),
     ("withdrawal c", "error hex\n"),

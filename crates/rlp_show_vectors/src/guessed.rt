@@ -54,17 +54,13 @@ const GUESSED: [Row; 11] = [
     (
         "any ec098504a817c800825208943535353535353535353535353535353535353535880de0b6b3a7\
          64000080018080",
-        "transaction.hash: 0xdaf5a779ae972f972197303d7b574746c7ef83eadac0f2791ad23db9\
-         2e4c8e53\n\
-         transaction.nonce: 9\n\
+        "transaction.nonce: 9\n\
          transaction.gas_price: 20000000000\n\
          transaction.gas_limit: 21000\n\
          transaction.to: 0x3535353535353535353535353535353535353535\n\
          transaction.value: 1000000000000000000\n\
          transaction.data: 0x\n\
-         transaction.v: 1 (unsigned, chain 1)\n\
-         transaction.r: 0x0\n\
-         transaction.s: 0x0\n\
+         transaction.chain_id: 1\n\
          transaction.signing_hash: 0xdaf5a779ae972f972197303d7b574746c7ef83eadac0f279\
          1ad23db92e4c8e53\n\
          \n",
@@ -72,17 +68,13 @@ const GUESSED: [Row; 11] = [
     (
         "any ed098504a817c800825208943535353535353535353535353535353535353535880de0b6b3a7\
          6400008081898080",
-        "transaction.hash: 0x4bc497ae18410a9c4732e6d80d4dd0fe13ead15b1b551000ee2079dc\
-         9a761a04\n\
-         transaction.nonce: 9\n\
+        "transaction.nonce: 9\n\
          transaction.gas_price: 20000000000\n\
          transaction.gas_limit: 21000\n\
          transaction.to: 0x3535353535353535353535353535353535353535\n\
          transaction.value: 1000000000000000000\n\
          transaction.data: 0x\n\
-         transaction.v: 137 (unsigned, chain 137)\n\
-         transaction.r: 0x0\n\
-         transaction.s: 0x0\n\
+         transaction.chain_id: 137\n\
          transaction.signing_hash: 0x4bc497ae18410a9c4732e6d80d4dd0fe13ead15b1b551000\
          ee2079dc9a761a04\n\
          \n",

@@ -4,11 +4,12 @@
 //! values are those that nodes of the main network give for them. The others were written by a Python
 //! script by the standard of the execution API.
 
-use crate::support::{Row, check_json};
+use crate::support::{Row, check_form};
+use rlp_show::Form;
 use std::test::Fail;
 
 /// The kind, the digits of a record, and the answer.
-const JSON: [Row; 12] = [
+const JSON: [Row; 10] = [
     (
         "header f90211a0d4e56740f876aef8c010b86a40d5f56745a118d0906a34e69aec8c0db1cb8fa3a01dc\
          c4de8dec75d7aab85b567b6ccd41ad312451b948a7413f0a142fd40d493479405a56e2d52c817161883f\
@@ -46,45 +47,44 @@ const JSON: [Row; 12] = [
         "transaction f86780862d79883d2000825208945df9b87991262f6ba471f09758cde1c0fc1de734827a\
          69801ca088ff6cf0fefd94db46111149ae4bfc179e9b94721fffd821d38d16464b3f71d0a045e0aff800\
          961cfce805daef7016b9b675c137a6a41a548f7b60a3484c06a33a",
-        "{\"transaction\":{\"hash\":\"0x5c504ed432cb51138bcf09aa5e8a410dd4a1e204ef84bfed1be16\
-         dfba1b22060\",\"nonce\":\"0x0\",\"gasPrice\":\"0x2d79883d2000\",\"gas\":\"0x5208\",\
-         \"to\":\"0x5df9b87991262f6ba471f09758cde1c0fc1de734\",\"value\":\"0x7a69\",\"input\"\
-         :\"0x\",\"v\":\"0x1c\",\"r\":\"0x88ff6cf0fefd94db46111149ae4bfc179e9b94721fffd821d38\
-         d16464b3f71d0\",\"s\":\"0x45e0aff800961cfce805daef7016b9b675c137a6a41a548f7b60a3484c\
-         06a33a\",\"signingHash\":\"0x19b1e28c14f33e74b96b88eba97d4a4fc8a97638d72e972310025b7\
-         e1189b049\"}}\n",
+        "{\"transaction\":{\"hash\":\"0x5c504ed432cb51138bcf09aa5e8a410dd4a1e204ef84bfed1be16dfba1b\
+         22060\",\"type\":\"0x0\",\"nonce\":\"0x0\",\"gasPrice\":\"0x2d79883d2000\",\"gas\":\"0x520\
+         8\",\"to\":\"0x5df9b87991262f6ba471f09758cde1c0fc1de734\",\"value\":\"0x7a69\",\"input\":\
+         \"0x\",\"v\":\"0x1c\",\"yParity\":\"0x1\",\"r\":\"0x88ff6cf0fefd94db46111149ae4bfc179e9b94\
+         721fffd821d38d16464b3f71d0\",\"s\":\"0x45e0aff800961cfce805daef7016b9b675c137a6a41a548f7b6\
+         0a3484c06a33a\",\"signingHash\":\"0x19b1e28c14f33e74b96b88eba97d4a4fc8a97638d72e972310025b\
+         7e1189b049\"}}\n",
     ),
     (
         "transaction ed098504a817c800825208943535353535353535353535353535353535353535880de0b6\
          b3a76400008081898080",
-        "{\"transaction\":{\"hash\":\"0x4bc497ae18410a9c4732e6d80d4dd0fe13ead15b1b551000\
-         ee2079dc9a761a04\",\"nonce\":\"0x9\",\"gasPrice\":\"0x4a817c800\",\"gas\":\"0x5208\",\
-         \"to\":\"0x3535353535353535353535353535353535353535\",\"value\":\"0xde0b6b3a7640000\",\
-         \"input\":\"0x\",\"v\":\"0x89\",\"r\":\"0x0\",\"s\":\"0x0\",\"signingHash\":\
-         \"0x4bc497ae18410a9c4732e6d80d4dd0fe13ead15b1b551000ee2079dc9a761a04\"}}\n",
+        "{\"transaction\":{\"type\":\"0x0\",\"nonce\":\"0x9\",\"gasPrice\":\"0x4a817c800\",\"gas\":\
+         \"0x5208\",\"to\":\"0x3535353535353535353535353535353535353535\",\"value\":\"0xde0b6b3a764\
+         0000\",\"input\":\"0x\",\"chainId\":\"0x89\",\"signingHash\":\"0x4bc497ae18410a9c4732e6d80\
+         d4dd0fe13ead15b1b551000ee2079dc9a761a04\"}}\n",
     ),
     (
         "any f86780862d79883d2000825208945df9b87991262f6ba471f09758cde1c0fc1de734827a69801ca0\
          88ff6cf0fefd94db46111149ae4bfc179e9b94721fffd821d38d16464b3f71d0a045e0aff800961cfce8\
          05daef7016b9b675c137a6a41a548f7b60a3484c06a33a",
-        "{\"transaction\":{\"hash\":\"0x5c504ed432cb51138bcf09aa5e8a410dd4a1e204ef84bfed1be16\
-         dfba1b22060\",\"nonce\":\"0x0\",\"gasPrice\":\"0x2d79883d2000\",\"gas\":\"0x5208\",\
-         \"to\":\"0x5df9b87991262f6ba471f09758cde1c0fc1de734\",\"value\":\"0x7a69\",\"input\"\
-         :\"0x\",\"v\":\"0x1c\",\"r\":\"0x88ff6cf0fefd94db46111149ae4bfc179e9b94721fffd821d38\
-         d16464b3f71d0\",\"s\":\"0x45e0aff800961cfce805daef7016b9b675c137a6a41a548f7b60a3484c\
-         06a33a\",\"signingHash\":\"0x19b1e28c14f33e74b96b88eba97d4a4fc8a97638d72e972310025b7\
-         e1189b049\"}}\n",
+        "{\"transaction\":{\"hash\":\"0x5c504ed432cb51138bcf09aa5e8a410dd4a1e204ef84bfed1be16dfba1b\
+         22060\",\"type\":\"0x0\",\"nonce\":\"0x0\",\"gasPrice\":\"0x2d79883d2000\",\"gas\":\"0x520\
+         8\",\"to\":\"0x5df9b87991262f6ba471f09758cde1c0fc1de734\",\"value\":\"0x7a69\",\"input\":\
+         \"0x\",\"v\":\"0x1c\",\"yParity\":\"0x1\",\"r\":\"0x88ff6cf0fefd94db46111149ae4bfc179e9b94\
+         721fffd821d38d16464b3f71d0\",\"s\":\"0x45e0aff800961cfce805daef7016b9b675c137a6a41a548f7b6\
+         0a3484c06a33a\",\"signingHash\":\"0x19b1e28c14f33e74b96b88eba97d4a4fc8a97638d72e972310025b\
+         7e1189b049\"}}\n",
     ),
     (
         "body f86cf869f86780862d79883d2000825208945df9b87991262f6ba471f09758cde1c0fc1de734827\
          a69801ca088ff6cf0fefd94db46111149ae4bfc179e9b94721fffd821d38d16464b3f71d0a045e0aff80\
          0961cfce805daef7016b9b675c137a6a41a548f7b60a3484c06a33ac0",
-        "{\"body\":{\"transactions\":[{\"hash\":\"0x5c504ed432cb51138bcf09aa5e8a410dd4a1e204e\
-         f84bfed1be16dfba1b22060\",\"nonce\":\"0x0\",\"gasPrice\":\"0x2d79883d2000\",\"gas\":\
-         \"0x5208\",\"to\":\"0x5df9b87991262f6ba471f09758cde1c0fc1de734\",\"value\":\"0x7a69\
-         \",\"input\":\"0x\",\"v\":\"0x1c\",\"r\":\"0x88ff6cf0fefd94db46111149ae4bfc179e9b947\
-         21fffd821d38d16464b3f71d0\",\"s\":\"0x45e0aff800961cfce805daef7016b9b675c137a6a41a54\
-         8f7b60a3484c06a33a\",\"signingHash\":\"0x19b1e28c14f33e74b96b88eba97d4a4fc8a97638d72\
+        "{\"body\":{\"transactions\":[{\"hash\":\"0x5c504ed432cb51138bcf09aa5e8a410dd4a1e204ef84bfe\
+         d1be16dfba1b22060\",\"type\":\"0x0\",\"nonce\":\"0x0\",\"gasPrice\":\"0x2d79883d2000\",\"g\
+         as\":\"0x5208\",\"to\":\"0x5df9b87991262f6ba471f09758cde1c0fc1de734\",\"value\":\"0x7a69\"\
+         ,\"input\":\"0x\",\"v\":\"0x1c\",\"yParity\":\"0x1\",\"r\":\"0x88ff6cf0fefd94db46111149ae4\
+         bfc179e9b94721fffd821d38d16464b3f71d0\",\"s\":\"0x45e0aff800961cfce805daef7016b9b675c137a6\
+         a41a548f7b60a3484c06a33a\",\"signingHash\":\"0x19b1e28c14f33e74b96b88eba97d4a4fc8a97638d72\
          e972310025b7e1189b049\"}],\"ommers\":[]}}\n",
     ),
     (
@@ -110,25 +110,61 @@ const JSON: [Row; 12] = [
          000000000000000000000000000000000000000000000000000000000000000000000000000000000000\
          000000000000000000000000000000000000000000000000000000000000000000000000000000000000\
          000000000000000000000000000000000000c0",
-        "{\"receipt\":{\"status\":\"0x0\",\"cumulativeGasUsed\":\"0x5208\",\"logsBloom\":\"0x\
-         000000000000000000000000000000000000000000000000000000000000000000000000000000000000\
-         000000000000000000000000000000000000000000000000000000000000000000000000000000000000\
-         000000000000000000000000000000000000000000000000000000000000000000000000000000000000\
-         000000000000000000000000000000000000000000000000000000000000000000000000000000000000\
-         000000000000000000000000000000000000000000000000000000000000000000000000000000000000\
-         000000000000000000000000000000000000000000000000000000000000000000000000000000000000\
-         00000000\",\"logs\":[]}}\n",
+        "{\"receipt\":{\"type\":\"0x0\",\"status\":\"0x0\",\"cumulativeGasUsed\":\"0x5208\",\"logsB\
+         loom\":\"0x0000000000000000000000000000000000000000000000000000000000000000000000000000000\
+         000000000000000000000000000000000000000000000000000000000000000000000000000000000000000000\
+         000000000000000000000000000000000000000000000000000000000000000000000000000000000000000000\
+         000000000000000000000000000000000000000000000000000000000000000000000000000000000000000000\
+         000000000000000000000000000000000000000000000000000000000000000000000000000000000000000000\
+         0000000000000000000000000000000000000000000000000000000000000000000000000\",\"logs\":[]}}\
+         \n",
     ),
     (
         "withdrawal e2808203e8945df9b87991262f6ba471f09758cde1c0fc1de73488ffffffffffffffff",
         "{\"withdrawal\":{\"index\":\"0x0\",\"validatorIndex\":\"0x3e8\",\"address\":\"0x5df9\
          b87991262f6ba471f09758cde1c0fc1de734\",\"amount\":\"0xffffffffffffffff\"}}\n",
     ),
-    ("transaction c0", "error transaction: RlpIncorrectListLen\n"),
-    ("header zz", "error hex\n"),
+];
+
+/// The kind, the digits of a record at fault, and the answer in JSON.
+const FAULTS: [Row; 7] = [
+    (
+        "transaction c0",
+        "{\"error\":{\"name\":\"transaction\",\"fault\":\"RlpIncorrectListLen\"}}\n",
+    ),
+    (
+        "withdrawal e1808203e8935df9b87991262f6ba471f09758cde1c0fc1de788ffffffffffffffff",
+        "{\"error\":{\"field\":2,\"name\":\"withdrawal.address\",\"fault\":\"RlpIsTooShort\"}}\n",
+    ),
+    (
+        "access_list d7d6945df9b87991262f6ba471f09758cde1c0fc1de73480",
+        "{\"error\":{\"field\":1,\"name\":\"access_list[0].storage_keys\",\
+         \"fault\":\"RlpExpectedToBeList\"}}\n",
+    ),
+    (
+        "transaction 85c0",
+        "{\"error\":{\"name\":\"transaction\",\"fault\":\"unknown transaction type\"}}\n",
+    ),
+    (
+        "any 8180",
+        "{\"error\":{\"name\":\"\",\"fault\":\"unknown kind\"}}\n",
+    ),
+    (
+        "header zz",
+        "{\"error\":{\"name\":\"\",\"fault\":\"hex\"}}\n",
+    ),
+    (
+        "any enr:=",
+        "{\"error\":{\"name\":\"\",\"fault\":\"base64\"}}\n",
+    ),
 ];
 
 #[test]
 fn records_are_json(rt: HostRuntime) -> Result<(), Fail> {
-    check_json(rt.alloc(), &JSON)
+    check_form(rt.alloc(), Form::Json, &JSON)
+}
+
+#[test]
+fn faults_are_json(rt: HostRuntime) -> Result<(), Fail> {
+    check_form(rt.alloc(), Form::Json, &FAULTS)
 }

@@ -1,4 +1,4 @@
-//! JSON by `rlp_print`.
+//! JSON of the program, and of values for which it has no kind.
 //!
 //! The first transaction of the main network, the second transaction, which go-ethereum has in its
 //! tests of EIP-155, and the examples of EIP-155, EIP-778 and EIP-8 are published, with their
@@ -17,23 +17,21 @@ mod messages;
 mod records;
 mod transactions;
 
-use crate::printed::{Print, record, text_of, whole};
+use crate::support::answered;
 use messages::MESSAGES;
 use records::{BLOCK, RECORDS};
 use rlp::DecoderError;
-use rlp_ethereum::{
-    BlobTransactionWithCellProofs, BlobTransactionWithProofs, Enveloped, Log, UnsignedTransaction,
-};
-use rlp_print::{Fault, Place, json_of};
+use rlp_ethereum::{BlobTransactionWithCellProofs, BlobTransactionWithProofs, Enveloped, Log};
+use rlp_print::{Fault, Place, Show, json_of};
 use rlp_rows::{Line, number};
-use rlp_show::Kind;
+use rlp_show::{Form, Kind};
 use serde_json::Value;
 use std::alloc::{AllocError, Global};
 use std::test::Fail;
 use transactions::TRANSACTIONS;
 
-/// The name of a kind, the digits of a record, and its JSON. In both, spaces and ends of lines
-/// don't count, and `<a1*32>` is `a1` 32 times. In JSON, `'` is a quote.
+/// The name of a kind or of another type, the digits of a record, and its JSON. In both, spaces
+/// and ends of lines don't count, and `<a1*32>` is `a1` 32 times. In JSON, `'` is a quote.
 type Row = (&'static str, &'static str, &'static str);
 
 /// The places of objects in the block, and the names of members there that readers of blocks in
@@ -102,38 +100,61 @@ fn at_length(alloc: Global, short: &str) -> Result<String, AllocError> {
     Ok(out)
 }
 
-/// Reads a record of a kind of this name, and prints it.
-fn json(alloc: Global, name: &str, bytes: &[u8]) -> Result<String, DecoderError> {
-    let how = Print::Json;
-    match name {
-        "log" => whole::<Log>(alloc, how, bytes),
-        "unsigned" => text_of(alloc, how, &UnsignedTransaction::from_bytes(alloc, bytes)?),
-        "with_proofs" => {
-            let sent = BlobTransactionWithProofs::from_bytes(alloc, bytes)?;
-            text_of(alloc, how, &sent)
-        }
-        "with_cell_proofs" => {
-            let sent = BlobTransactionWithCellProofs::from_bytes(alloc, bytes)?;
-            text_of(alloc, how, &sent)
-        }
-        _ => match Kind::named(name) {
-            Some(kind) => record(alloc, kind, how, bytes),
-            None => Err(DecoderError::Custom("no such kind")),
-        },
+/// Returns the JSON of a value.
+fn json<T: Show>(alloc: Global, value: &T) -> Result<String, DecoderError> {
+    match json_of(alloc, value) {
+        Ok(text) => Ok(text),
+        Err(AllocError) => Err(DecoderError::OutOfMemory),
     }
 }
 
-/// Returns the JSON of a row by the program.
+/// Reads a record of a type of this name that is no kind, and returns its JSON.
+fn other_json(alloc: Global, name: &str, bytes: &[u8]) -> Result<String, DecoderError> {
+    match name {
+        "log" => json(alloc, &rlp::decode_whole::<Log>(alloc, bytes)?),
+        "with_proofs" => json(alloc, &BlobTransactionWithProofs::from_bytes(alloc, bytes)?),
+        "with_cell_proofs" => {
+            json(
+                alloc,
+                &BlobTransactionWithCellProofs::from_bytes(alloc, bytes)?,
+            )
+        }
+        _ => Err(DecoderError::Custom("no such kind")),
+    }
+}
+
+/// Returns the JSON of a row: what the program answers for a kind.
 fn printed(alloc: Global, row: &Row) -> Result<String, AllocError> {
     let digits = at_length(alloc, row.1)?;
-    let bytes = match hex::decode(alloc, digits.as_bytes()) {
-        Ok(bytes) => bytes,
-        Err(_) => return String::from_str(alloc, "no digits"),
+    if let Some(kind) = Kind::named(row.0) {
+        return answered(alloc, Some(kind), Form::Json, digits.as_str());
+    }
+    let Ok(bytes) = hex::decode(alloc, digits.as_bytes()) else {
+        return String::from_str(alloc, "no digits");
     };
-    match json(alloc, row.0, bytes.as_slice()) {
+    match other_json(alloc, row.0, bytes.as_slice()) {
         Ok(text) => Ok(text),
         Err(fault) => format!(in alloc; "{fault:?}"),
     }
+}
+
+/// Returns the expected JSON of a row. The program writes it as the value of the name of the kind.
+fn wanted(alloc: Global, row: &Row) -> Result<String, AllocError> {
+    let json = at_length(alloc, row.2)?;
+    if Kind::named(row.0).is_none() {
+        return Ok(json);
+    }
+    let mut name = String::new(alloc);
+    let mut is_after_line = false;
+    for letter in row.0.chars() {
+        match letter {
+            '_' => {}
+            _ if is_after_line => name.push(letter.to_ascii_uppercase())?,
+            _ => name.push(letter)?,
+        }
+        is_after_line = letter == '_';
+    }
+    format!(in alloc; "{{\"{name}\":{json}}}\n")
 }
 
 /// Fails with the rows whose JSON isn't as expected.
@@ -141,7 +162,7 @@ fn check(alloc: Global, rows: &[Row]) -> Result<(), Fail> {
     let mut wrong = Line::new();
     for row in rows {
         let text = printed(alloc, row)?;
-        let want = at_length(alloc, row.2)?;
+        let want = wanted(alloc, row)?;
         for (member, wanted) in text.split(',').zip(want.split(',')) {
             wrong.note(row.0, "member", member, wanted);
         }
@@ -168,12 +189,12 @@ fn messages_are_json(rt: HostRuntime) -> Result<(), Fail> {
 #[test]
 fn blocks_have_what_readers_require(rt: HostRuntime) -> Result<(), Fail> {
     let text = printed(rt.alloc(), &BLOCK)?;
-    let Ok(block) = Value::from_str(rt.alloc(), text.as_str()) else {
-        return Err(Fail::new("the block isn't JSON"));
+    let Ok(answer) = Value::from_str(rt.alloc(), text.as_str()) else {
+        return Err(Fail::new("the answer isn't JSON"));
     };
     let mut wrong = Line::new();
     for (path, names) in &MEMBERS {
-        let object = block.pointer(path);
+        let object = answer.get("block").and_then(|block| block.pointer(path));
         for name in names.split_whitespace() {
             if object.and_then(|o| o.get(name)).is_none() {
                 wrong.note(path, name, "missing", "there");

@@ -26,8 +26,6 @@ mod nodes;
 #[cfg(test)]
 mod parts;
 #[cfg(test)]
-mod printed;
-#[cfg(test)]
 mod records;
 #[cfg(test)]
 mod requests;

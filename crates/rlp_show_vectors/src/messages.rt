@@ -297,7 +297,7 @@ const FAULTS: [Row; 11] = [
         "error field 3 (listen_port): RlpExpectedToBeData\n",
     ),
     ("disconnect c0", "error RlpIncorrectListLen\n"),
-    ("disconnect 820100", "error reason: RlpIsTooBig\n"),
+    ("disconnect 820100", "error RlpIsTooBig\n"),
     ("ping c105", "error RlpIncorrectListLen\n"),
     (
         "get_block_headers c6820457c2c0c0",

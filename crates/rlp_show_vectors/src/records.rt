@@ -32,17 +32,13 @@ const RECORDS: [Row; 10] = [
     (
         "transaction ec098504a817c800825208943535353535353535353535353535353535353535880de0b6b3a7\
          64000080018080",
-        "hash: 0xdaf5a779ae972f972197303d7b574746c7ef83eadac0f2791ad23db9\
-         2e4c8e53\n\
-         nonce: 9\n\
+        "nonce: 9\n\
          gas_price: 20000000000\n\
          gas_limit: 21000\n\
          to: 0x3535353535353535353535353535353535353535\n\
          value: 1000000000000000000\n\
          data: 0x\n\
-         v: 1 (unsigned, chain 1)\n\
-         r: 0x0\n\
-         s: 0x0\n\
+         chain_id: 1\n\
          signing_hash: 0xdaf5a779ae972f972197303d7b574746c7ef83eadac0f279\
          1ad23db92e4c8e53\n\
          \n",
@@ -50,17 +46,13 @@ const RECORDS: [Row; 10] = [
     (
         "transaction ed098504a817c800825208943535353535353535353535353535353535353535880de0b6b3a7\
          6400008081898080",
-        "hash: 0x4bc497ae18410a9c4732e6d80d4dd0fe13ead15b1b551000ee2079dc\
-         9a761a04\n\
-         nonce: 9\n\
+        "nonce: 9\n\
          gas_price: 20000000000\n\
          gas_limit: 21000\n\
          to: 0x3535353535353535353535353535353535353535\n\
          value: 1000000000000000000\n\
          data: 0x\n\
-         v: 137 (unsigned, chain 137)\n\
-         r: 0x0\n\
-         s: 0x0\n\
+         chain_id: 137\n\
          signing_hash: 0x4bc497ae18410a9c4732e6d80d4dd0fe13ead15b1b551000\
          ee2079dc9a761a04\n\
          \n",

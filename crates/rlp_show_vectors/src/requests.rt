@@ -8,8 +8,9 @@ use std::fmt;
 use std::fmt::Write;
 use std::test::Fail;
 
-/// Arguments, and what they ask for: `json`, `lines` or `record`, and the name of the kind.
-const REQUESTS: [Row; 28] = [
+/// Arguments, and what they ask for: `json` or `bytes`, `lines` or `record`, and the name of the
+/// kind.
+const REQUESTS: [Row; 36] = [
     ("", "lines"),
     ("header", "lines header"),
     ("record", "lines record"),
@@ -33,6 +34,14 @@ const REQUESTS: [Row; 28] = [
     ("--json header 0xc0", "json record header"),
     ("--json --help", "help"),
     ("--json --json", "unknown"),
+    ("--bytes", "bytes lines"),
+    ("--bytes header", "bytes lines header"),
+    ("--bytes 0xc0", "bytes record"),
+    ("--bytes header 0xc0", "bytes record header"),
+    ("--bytes --help", "help"),
+    ("--bytes --bytes", "unknown"),
+    ("--bytes --json", "unknown"),
+    ("--json --bytes", "unknown"),
     ("header --json", "unknown"),
     ("header block", "unknown"),
     ("0xc0 header", "unknown"),
@@ -51,10 +60,11 @@ fn words_of(alloc: Global, text: &str) -> Result<Vec<String>, AllocError> {
     Ok(words)
 }
 
-/// What comes before other words in JSON.
+/// What comes before other words, by the form of the answers.
 fn form_text(form: Form) -> &'static str {
     match form {
         Form::Json => "json ",
+        Form::Bytes => "bytes ",
         Form::Text => "",
     }
 }

@@ -1,6 +1,6 @@
 //! What the tests of this crate share.
 
-use crate::printed::{note_json, note_lines};
+use crate::dumped::note_rows;
 use rlp_rows::{Line, cut};
 use rlp_show::{Answers, Form, Kind, Noted, run};
 use std::alloc::{AllocError, Global};
@@ -9,88 +9,82 @@ use std::test::Fail;
 /// The name of a kind, or `any` if it is guessed, and the text of a line, and the expected answer.
 pub(crate) type Row = (&'static str, &'static str);
 
-/// Returns what the program answers to a line, or nothing if it fails or tells wrongly whether the
-/// line is at fault.
-fn answered(alloc: Global, answers: &Answers, digits: &str) -> Result<Vec<u8>, AllocError> {
+/// Returns what the program answers to a line, or that it fails or tells wrongly whether the line
+/// is at fault.
+pub(crate) fn answered(
+    alloc: Global,
+    kind: Option<Kind>,
+    form: Form,
+    digits: &str,
+) -> Result<String, AllocError> {
     let mut line = Vec::from_slice(alloc, digits.as_bytes())?;
     line.extend_from_slice(b"\n")?;
     let mut input = Noted::new(line.as_slice());
     let mut output = Noted::new(Vec::new(alloc));
-    match run(alloc, answers, &mut input, &mut output) {
-        Ok(faulty) if faulty == output.inner().as_slice().starts_with(b"error") => {
-            Vec::from_slice(alloc, output.inner().as_slice())
-        }
-        _ => Ok(Vec::new(alloc)),
+    let is_faulty = run(alloc, &Answers { kind, form }, &mut input, &mut output);
+    let answer = std::str::from_utf8(output.inner().as_slice()).unwrap_or("no text");
+    match is_faulty {
+        Ok(faulty) if faulty == says_fault(answer) => String::from_str(alloc, answer),
+        _ => String::from_str(alloc, "a failure"),
     }
 }
 
-/// Answers in text.
-fn as_text(kind: Option<Kind>) -> Answers {
-    Answers {
-        kind,
-        form: Form::Text,
-    }
+/// Whether an answer says that the line is at fault.
+fn says_fault(answer: &str) -> bool {
+    answer.starts_with("error") || answer.starts_with("{\"error\"")
 }
 
 /// Notes an answer that isn't as expected.
 fn note_answer(
     alloc: Global,
-    answers: &Answers,
+    kind: Option<Kind>,
+    form: Form,
     row: &Row,
     wrong: &mut Line,
 ) -> Result<(), AllocError> {
     let (given, want) = row;
-    let (_, text) = cut(given);
-    let answer = answered(alloc, answers, text)?;
-    let text = std::str::from_utf8(answer.as_slice()).unwrap_or("no text");
-    wrong.note("show", given, text, want);
+    let answer = answered(alloc, kind, form, cut(given).1)?;
+    wrong.note("show", given, answer.as_str(), want);
     Ok(())
 }
 
 /// Notes a record that isn't shown under the name of its kind if that is guessed.
 fn note_guess(alloc: Global, given: &str, wrong: &mut Line) -> Result<(), AllocError> {
     let (name, text) = cut(given);
-    let answer = answered(alloc, &as_text(None), text)?;
-    if !answer.as_slice().starts_with(name.as_bytes()) {
-        let text = std::str::from_utf8(answer.as_slice()).unwrap_or("no text");
-        wrong.note("guess", given, text, name);
+    let answer = answered(alloc, None, Form::Text, text)?;
+    if !answer.starts_with(name) {
+        wrong.note("guess", given, answer.as_str(), name);
     }
     Ok(())
 }
 
-/// Notes what is wrong with a row.
+/// Notes what is wrong with the lines and the rows of a record. A fault is the same in both.
 fn check_row(alloc: Global, row: &Row, wrong: &mut Line) -> Result<(), AllocError> {
     let (given, want) = row;
-    let (name, _) = cut(given);
-    if !want.starts_with("error") {
-        note_lines(alloc, given, want, wrong)?;
+    let kind = kind_of(row, wrong);
+    note_answer(alloc, kind, Form::Text, row, wrong)?;
+    if want.starts_with("error") {
+        return note_answer(alloc, kind, Form::Bytes, row, wrong);
     }
-    match Kind::named(name) {
-        None if name == "any" => note_answer(alloc, &as_text(None), row, wrong),
-        None => {
-            wrong.note("show", given, "no such kind", want);
-            Ok(())
-        }
-        Some(kind) => {
-            note_answer(alloc, &as_text(Some(kind)), row, wrong)?;
-            if want.starts_with("error") || is_message(kind) {
-                return Ok(());
-            }
-            note_guess(alloc, given, wrong)
-        }
-    }
-}
-
-/// Returns whether a kind is one of messages, which aren't guessed.
-fn is_message(kind: Kind) -> bool {
+    note_rows(alloc, kind, row, wrong)?;
     match kind {
-        Kind::Message(_) => true,
-        _ => false,
+        None | Some(Kind::Message(_)) => Ok(()),
+        Some(_) => note_guess(alloc, given, wrong),
     }
 }
 
-/// Fails with the rows that aren't answered as expected, and the records that aren't guessed to be of
-/// their kind.
+/// Returns the kind of a row, or nothing if it is guessed. Notes a name that is of no kind.
+fn kind_of(row: &Row, wrong: &mut Line) -> Option<Kind> {
+    let (name, _) = cut(row.0);
+    let kind = Kind::named(name);
+    if kind.is_none() {
+        wrong.note("kind", row.0, name, "any");
+    }
+    kind
+}
+
+/// Fails with the rows that aren't answered as expected in text, the records whose rows don't show
+/// their bytes, and those that aren't guessed to be of their kind.
 pub(crate) fn check(alloc: Global, rows: &[Row]) -> Result<(), Fail> {
     let mut wrong = Line::new();
     for row in rows {
@@ -99,26 +93,12 @@ pub(crate) fn check(alloc: Global, rows: &[Row]) -> Result<(), Fail> {
     wrong.none_noted()
 }
 
-/// Returns whether JSON has a transaction without a type, which has `v`, or a receipt without a
-/// type.
-fn lacks_type(json: &str) -> bool {
-    json.split_once("\"v\":").is_some() || json.starts_with("{\"receipt\":{\"status\":")
-}
-
-/// Fails with the rows that aren't answered as expected in JSON.
-pub(crate) fn check_json(alloc: Global, rows: &[Row]) -> Result<(), Fail> {
+/// Fails with the rows that aren't answered as expected in a form.
+pub(crate) fn check_form(alloc: Global, form: Form, rows: &[Row]) -> Result<(), Fail> {
     let mut wrong = Line::new();
     for row in rows {
-        let (name, _) = cut(row.0);
-        let answers = Answers {
-            kind: Kind::named(name),
-            form: Form::Json,
-        };
-        note_answer(alloc, &answers, row, &mut wrong)?;
-        // `rlp_print` has more members where a type is missing. The rows of `json_print` have them.
-        if !row.1.starts_with("error") && !lacks_type(row.1) {
-            note_json(alloc, row.0, row.1, &mut wrong)?;
-        }
+        let kind = kind_of(row, &mut wrong);
+        note_answer(alloc, kind, form, row, &mut wrong)?;
     }
     wrong.none_noted()
 }

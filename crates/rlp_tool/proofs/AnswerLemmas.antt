@@ -17,7 +17,7 @@ use Rattle.rlp_tool.specs.Making.{AppendsFault, IsLineFault, MakesScript}
 use Rattle.rlp_tool.specs.RawItems.{IsShallow, are_raw_items}
 use Rattle.rlp_tool.specs.Script.{script}
 use Rattle.rlp_lines.specs.Replies.{answer_by}
-use Rattle.rlp_tool.specs.Answer.{SaysCalls, answer, answer_within, longest_line, brings_items, text_answer, finished_answer, open_answer}
+use Rattle.rlp_tool.specs.Answer.{SaysCalls, answer, answer_within, long_line, longest_line, brings_items, text_answer, finished_answer, open_answer}
 use Rattle.rlp_tool.specs.Answer.{state_answer, refusal_name, outcome_answer, calls_answer}
 use Rattle.rlp_tool.proofs.CallsLemmas.{Leaves, refused_for}
 use Rattle.rlp_tool.proofs.SaidLemmas.{EndFinished, end_finished, length-stripped, script_said}
@@ -193,7 +193,7 @@ pub answer-calls : (line : List ℕ) (calls : List Call) → SaysCalls line call
 unfolding answer_by
 answer-calls line calls says =
     let short : nat_lt longest_line (length line) ≡ false = let within = says.within in grind (arith, nat_tests) in
-    cond-false (nat_lt longest_line (length line)) (codes "error long line") (answer_within line) short ∙ ap text_answer says.stripped
+    cond-false (nat_lt longest_line (length line)) long_line (answer_within line) short ∙ ap text_answer says.stripped
     ∙ ap calls_answer says.says
 
 -- the answer to calls that describe items is the join of the items

@@ -77,13 +77,17 @@ text_answer (b ∷ rest) = if b == byte "+" then calls_answer (script rest) else
 abbrev pub longest_line : ℕ
 longest_line = 131072
 
+-- the answer to a longer line
+abbrev pub long_line : List ℕ
+long_line = codes "error long line"
+
 -- the answer to a line that isn't too long: one carriage return at its end is dropped first
 abbrev pub answer_within : List ℕ → List ℕ
 answer_within line = text_answer (strip_carriage_return line)
 
 -- the answer to a line
 abbrev pub answer : List ℕ → List ℕ
-answer = answer_by longest_line answer_within
+answer = answer_by longest_line long_line answer_within
 
 -- a line that isn't too long has these calls: without one carriage return at its end, it is a `+` and a script of them
 pub record SaysCalls (line : List ℕ) (calls : List Call) : Type 0 where

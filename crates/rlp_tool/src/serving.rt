@@ -12,14 +12,20 @@ use std::io::{Read, Write};
 struct ToolAnswers;
 
 impl LineAnswers for ToolAnswers {
-    ghost use Rattle.rlp_tool.specs.Answer.{answer_within, longest_line};
+    ghost use Rattle.rlp_tool.specs.Answer.{answer_within, long_line, longest_line};
 
     ghost longest = { longest_line };
+
+    ghost long_line = { λ _. long_line };
 
     ghost answer_within = { λ _. answer_within };
 
     fn longest() -> usize {
         131_072
+    }
+
+    fn long_line(&self) -> &'static str {
+        "error long line"
     }
 
     fn put_answer(&self, alloc: Global, line: &[u8], out: &mut String) -> Result<(), AllocError> {

@@ -1,4 +1,5 @@
 pub mod OtherTypes
 pub mod Parities
+pub mod Placed
 pub mod Signing
 pub mod Strings

@@ -1,6 +1,7 @@
 -- What `v` says in the signature of a transaction without a type, for bodies.
 use Rattle.std.proofs.Common.{◌≡◌, ℕ, zero, suc, ◌+◌, ◌*◌, ◌/◌, ◌%◌, ◌^◌, ◌<◌, ◌≤◌, ◌⊎◌, inl, inr, ⊎_elim, Bool, true, false, Option, Some, None, List, [], ◌∷◌, ◌++◌}
 use Rattle.std.proofs.Common.{length, take, drop, refl, sym, subst, ap, ◌∙◌, arith, take-append-drop}
+use Rattle.std.proofs.lemmas.Bool.Decides.{nat_tests}
 use Rattle.std.proofs.Math.Nat.{pow-suc, pow-succ', div-div-eq-div-mul}
 use Rattle.std.proofs.lemmas.Nat.{div_below}
 use Rattle.std.specs.Int.{byte_at, bytes_high_first}
@@ -32,7 +33,7 @@ within (Some c) true fits = inr (omega arith, omega arith)
 pub v_within : (x : Eip155) → FitsChain x.chain_id → IsV (v_of x)
 v_within x fits = within x.chain_id x.y_parity fits
 
-pub ruleset v_says = (v_within)
+pub ruleset v_says = (nat_tests, v_within)
 
 -- ---- the chain that `v` says
 

@@ -3,7 +3,8 @@
 ghost use Rattle.rlp_transactions.specs.Access.{access_list_item, access_list};
 
 use rlp::{
-    Decodable, DecoderError, Each, Encodable, ListOf, Rlp, RlpStream, RoundTrip, StrictRead,
+    Decodable, DecodePlaced, DecoderError, Each, Encodable, ListField, ListOf, Rlp, RlpStream,
+    RoundTrip, StrictRead, put_list_path,
 };
 use rlp_records::{Address, Hash};
 use std::alloc::{AllocError, Global};
@@ -43,6 +44,12 @@ impl Decodable for AccessListItem {
     }
 }
 
+impl DecodePlaced for AccessListItem {
+    fn put_path(alloc: Global, rlp: &Rlp<'_>, path: &mut Vec<usize>) -> Result<(), AllocError> {
+        rlp::put_struct_path!(alloc, rlp, path, Address, ListField<Hash>)
+    }
+}
+
 impl RoundTrip for AccessListItem {
     ghost round_trip = { access_list_item.reads_back };
 }
@@ -72,6 +79,12 @@ impl Decodable for AccessList {
     fn decode(alloc: Global, rlp: &Rlp<'_>) -> Result<AccessList, DecoderError> {
         let items = rlp.as_list(alloc)?;
         Ok(AccessList(items))
+    }
+}
+
+impl DecodePlaced for AccessList {
+    fn put_path(alloc: Global, rlp: &Rlp<'_>, path: &mut Vec<usize>) -> Result<(), AllocError> {
+        put_list_path::<AccessListItem>(alloc, rlp, path)
     }
 }
 

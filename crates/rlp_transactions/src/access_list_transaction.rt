@@ -4,7 +4,10 @@ ghost use Rattle.std.specs.Prelude.{refl};
 ghost use Rattle.rlp_transactions.specs.AccessListTransaction.{access_list_transaction_fields};
 
 use crate::{AccessList, Payload, Recipient, Tagged, TypedTransaction};
-use rlp::{AppendFields, DecodeFields, DecoderError, Fields, FixedFields, RlpStream, Uint};
+use rlp::{
+    AppendFields, DecodeFields, DecodeFieldsPlaced, DecoderError, Fields, FixedFields, RlpStream,
+    Uint,
+};
 use rlp_records::ACCESS_LIST_TYPE;
 use std::alloc::{AllocError, Global};
 
@@ -80,6 +83,19 @@ impl DecodeFields for AccessListTransaction {
                 access_list
             }
         )
+    }
+}
+
+impl DecodeFieldsPlaced for AccessListTransaction {
+    fn put_path(
+        alloc: Global,
+        count: usize,
+        fields: &mut Fields<'_>,
+        path: &mut Vec<usize>,
+    ) -> Result<bool, AllocError> {
+        <rlp::field_types!(
+            u64, u64, Uint<32>, u64, Recipient, Uint<32>, Vec<u8>, AccessList
+        ) as DecodeFieldsPlaced>::put_path(alloc, count, fields, path)
     }
 }
 

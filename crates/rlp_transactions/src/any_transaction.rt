@@ -2,7 +2,7 @@
 
 ghost use Rattle.std.specs.Prelude.{◌≡◌, ◌⊎◌, Err, IfErr, IfNone, IfOk, IfSome, IsTrue, Ok, OnOk};
 ghost use Rattle.rlp.specs.DecoderError.TheVariants.{OutOfMemory};
-ghost use Rattle.rlp_codec.specs.Form.{fault_of};
+ghost use Rattle.rlp_codec.specs.Form.{IsPlaced, fault_of};
 ghost use Rattle.rlp_records.specs.Alone.{bytes_alone};
 ghost use Rattle.rlp_records.specs.Hashing.{IsHashOf};
 ghost use Rattle.rlp_transactions.specs.AnyTransaction.{any_alone, any_transaction, any_type};
@@ -11,7 +11,9 @@ use crate::other_transaction::is_other;
 use crate::{OtherTransaction, Transaction};
 use bytes::BytesMut;
 use keccak::keccak256;
-use rlp::{Decodable, DecoderError, Encodable, Rlp, RlpStream, RoundTrip, StrictRead};
+use rlp::{
+    Decodable, DecodePlaced, DecoderError, Encodable, Rlp, RlpStream, RoundTrip, StrictRead,
+};
 use rlp_records::Hash;
 use std::alloc::{AllocError, Global};
 
@@ -61,6 +63,18 @@ impl AnyTransaction {
         }
         let known = Transaction::from_bytes(alloc, bytes)?;
         Ok(AnyTransaction::Known(known))
+    }
+
+    /// Appends the places that lead to the item at fault, as [`Transaction::put_path_alone`] does,
+    /// for bytes that [`AnyTransaction::from_bytes`] fails on.
+    pub fn put_path_alone(
+        alloc: Global,
+        bytes: &[u8],
+        path: &mut Vec<usize>,
+    ) -> Result<(), AllocError>
+        ensures { OnOk result (IsPlaced (any_alone bytes.now) path.old.items path.new.items) }
+    {
+        Transaction::put_path_alone(alloc, bytes, path)
     }
 
     /// Returns the hash that names the transaction: that of [`AnyTransaction::to_bytes`]. Fails as
@@ -116,6 +130,12 @@ impl Decodable for AnyTransaction {
                 Ok(AnyTransaction::Known(known))
             }
         }
+    }
+}
+
+impl DecodePlaced for AnyTransaction {
+    fn put_path(alloc: Global, rlp: &Rlp<'_>, path: &mut Vec<usize>) -> Result<(), AllocError> {
+        Transaction::put_path(alloc, rlp, path)
     }
 }
 

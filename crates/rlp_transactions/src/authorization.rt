@@ -4,7 +4,10 @@ ghost use Rattle.std.specs.Prelude.{refl};
 ghost use Rattle.rlp_transactions.specs.Authorization.{authorization_fields};
 
 use crate::{Payload, Signed, Tagged};
-use rlp::{AppendFields, DecodeFields, DecoderError, Fields, FixedFields, RlpStream, Uint};
+use rlp::{
+    AppendFields, DecodeFields, DecodeFieldsPlaced, DecoderError, Fields, FixedFields, RlpStream,
+    Uint,
+};
 use rlp_records::Address;
 use std::alloc::{AllocError, Global};
 
@@ -60,6 +63,19 @@ impl DecodeFields for Authorization {
                 address,
                 nonce
             }
+        )
+    }
+}
+
+impl DecodeFieldsPlaced for Authorization {
+    fn put_path(
+        alloc: Global,
+        count: usize,
+        fields: &mut Fields<'_>,
+        path: &mut Vec<usize>,
+    ) -> Result<bool, AllocError> {
+        <(Uint<32>, (Address, (u64, ()))) as DecodeFieldsPlaced>::put_path(
+            alloc, count, fields, path,
         )
     }
 }

@@ -4,7 +4,9 @@ ghost use Rattle.std.specs.Prelude.{◌≡◌, ◌⊎◌, Err, IfErr, IfOk, leng
 ghost use Rattle.rlp.specs.DecoderError.TheVariants.{OutOfMemory};
 ghost use Rattle.rlp_codec.specs.Form.{fault_of, fixed_of};
 
-use rlp::{Decodable, DecoderError, Encodable, Rlp, RlpStream, RoundTrip, StrictRead};
+use rlp::{
+    Decodable, DecodePlaced, DecoderError, Encodable, Rlp, RlpStream, RoundTrip, StrictRead,
+};
 use std::alloc::{AllocError, Global};
 
 /// The number of bytes of a blob, as in EIP-4844: 4,096 numbers of 32 bytes.
@@ -64,6 +66,12 @@ impl Decodable for Blob {
     fn decode(alloc: Global, rlp: &Rlp<'_>) -> Result<Blob, DecoderError> {
         let string = rlp.decoder().string()?;
         Blob::new(alloc, string)
+    }
+}
+
+impl DecodePlaced for Blob {
+    fn put_path(_alloc: Global, _rlp: &Rlp<'_>, _path: &mut Vec<usize>) -> Result<(), AllocError> {
+        Ok(())
     }
 }
 

@@ -4,7 +4,10 @@ ghost use Rattle.std.specs.Prelude.{refl};
 ghost use Rattle.rlp_transactions.specs.BlobTransaction.{blob_transaction_fields};
 
 use crate::{AccessList, Payload, Tagged, TypedTransaction};
-use rlp::{AppendFields, DecodeFields, DecoderError, Fields, FixedFields, ListOf, RlpStream, Uint};
+use rlp::{
+    AppendFields, DecodeFields, DecodeFieldsPlaced, DecoderError, Fields, FixedFields, ListField,
+    ListOf, RlpStream, Uint,
+};
 use rlp_records::{Address, BLOB_TYPE, Hash};
 use std::alloc::{AllocError, Global};
 
@@ -94,6 +97,20 @@ impl DecodeFields for BlobTransaction {
                 blob_versioned_hashes: [..]
             }
         )
+    }
+}
+
+impl DecodeFieldsPlaced for BlobTransaction {
+    fn put_path(
+        alloc: Global,
+        count: usize,
+        fields: &mut Fields<'_>,
+        path: &mut Vec<usize>,
+    ) -> Result<bool, AllocError> {
+        <rlp::field_types!(
+            u64, u64, Uint<32>, Uint<32>, u64, Address, Uint<32>, Vec<u8>, AccessList, Uint<32>,
+            ListField<Hash>
+        ) as DecodeFieldsPlaced>::put_path(alloc, count, fields, path)
     }
 }
 

@@ -5,7 +5,10 @@ ghost use Rattle.rlp_codec.specs.Form.{fault_of};
 ghost use Rattle.rlp_transactions.specs.BlobWrapper.{version_of, with_cell_proofs, with_proofs, wrapper_version};
 
 use crate::{Blob, BlobTransaction, Signed};
-use rlp::{Decodable, DecoderError, Encodable, ListOf, Rlp, RlpStream, RoundTrip, StrictRead};
+use rlp::{
+    Decodable, DecodePlaced, DecoderError, Encodable, ListField, ListOf, Rlp, RlpStream, RoundTrip,
+    StrictRead,
+};
 use rlp_records::{BLOB_TYPE, Enveloped};
 use std::alloc::{AllocError, Global};
 
@@ -84,6 +87,15 @@ impl Decodable for BlobTransactionWithProofs {
     }
 }
 
+impl DecodePlaced for BlobTransactionWithProofs {
+    fn put_path(alloc: Global, rlp: &Rlp<'_>, path: &mut Vec<usize>) -> Result<(), AllocError> {
+        rlp::put_struct_path!(
+            alloc, rlp, path, Signed<BlobTransaction>, ListField<Blob>, ListField<[u8; 48]>,
+            ListField<[u8; 48]>
+        )
+    }
+}
+
 impl RoundTrip for BlobTransactionWithProofs {
     ghost round_trip = { with_proofs.reads_back };
 }
@@ -133,6 +145,15 @@ impl Decodable for BlobTransactionWithCellProofs {
     }
 }
 
+impl DecodePlaced for BlobTransactionWithCellProofs {
+    fn put_path(alloc: Global, rlp: &Rlp<'_>, path: &mut Vec<usize>) -> Result<(), AllocError> {
+        rlp::put_struct_path!(
+            alloc, rlp, path, Signed<BlobTransaction>, WrapperVersion, ListField<Blob>,
+            ListField<[u8; 48]>, ListField<[u8; 48]>
+        )
+    }
+}
+
 impl RoundTrip for BlobTransactionWithCellProofs {
     ghost round_trip = { with_cell_proofs.reads_back };
 }
@@ -165,6 +186,12 @@ impl Decodable for WrapperVersion {
     fn decode(_alloc: Global, rlp: &Rlp<'_>) -> Result<WrapperVersion, DecoderError> {
         let string = rlp.decoder().string()?;
         version_of(string)
+    }
+}
+
+impl DecodePlaced for WrapperVersion {
+    fn put_path(_alloc: Global, _rlp: &Rlp<'_>, _path: &mut Vec<usize>) -> Result<(), AllocError> {
+        Ok(())
     }
 }
 

@@ -3,7 +3,9 @@
 ghost use Rattle.rlp_transactions.specs.DepositTransaction.{deposit_transaction};
 
 use crate::Recipient;
-use rlp::{Decodable, DecoderError, Encodable, Rlp, RlpStream, RoundTrip, StrictRead, Uint};
+use rlp::{
+    Decodable, DecodePlaced, DecoderError, Encodable, Rlp, RlpStream, RoundTrip, StrictRead, Uint,
+};
 use rlp_records::{Address, Enveloped, Hash};
 use std::alloc::{AllocError, Global};
 
@@ -69,6 +71,14 @@ impl Decodable for DepositTransaction {
                 is_system_transaction,
                 data
             }
+        )
+    }
+}
+
+impl DecodePlaced for DepositTransaction {
+    fn put_path(alloc: Global, rlp: &Rlp<'_>, path: &mut Vec<usize>) -> Result<(), AllocError> {
+        rlp::put_struct_path!(
+            alloc, rlp, path, Hash, Address, Recipient, Uint<32>, Uint<32>, u64, bool, Vec<u8>
         )
     }
 }

@@ -2,7 +2,7 @@
 
 ghost use Rattle.std.specs.Prelude.{◌≡◌, ◌≢◌, ◌≤◌, ◌^◌, IfNone, IfSome};
 ghost use Rattle.std.specs.Int.Digits.{number_from_digits};
-ghost use Rattle.rlp_transactions.specs.Eip155.{FitsChain, v_of};
+ghost use Rattle.rlp_transactions.specs.Eip155.{FitsChain, said_by, v_of};
 
 use rlp::Uint;
 
@@ -22,6 +22,7 @@ impl Eip155 {
     /// bits.
     #[tactic(auto, using(crate::proofs::Parities::v_says))]
     pub fn from_v(v: &Uint<32>) -> Option<Eip155>
+        ensures says { result ≡ said_by (number_from_digits 256 v.now.bytes) }
         ensures some { IfSome result (λ x. number_from_digits 256 v.now.bytes ≡ v_of x) }
         ensures none { IfNone result ((x : Eip155) → FitsChain x.chain_id
             → number_from_digits 256 v.now.bytes ≢ v_of x) }

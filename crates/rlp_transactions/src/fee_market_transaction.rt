@@ -4,7 +4,10 @@ ghost use Rattle.std.specs.Prelude.{refl};
 ghost use Rattle.rlp_transactions.specs.FeeMarketTransaction.{fee_market_transaction_fields};
 
 use crate::{AccessList, Payload, Recipient, Tagged, TypedTransaction};
-use rlp::{AppendFields, DecodeFields, DecoderError, Fields, FixedFields, RlpStream, Uint};
+use rlp::{
+    AppendFields, DecodeFields, DecodeFieldsPlaced, DecoderError, Fields, FixedFields, RlpStream,
+    Uint,
+};
 use rlp_records::FEE_MARKET_TYPE;
 use std::alloc::{AllocError, Global};
 
@@ -84,6 +87,19 @@ impl DecodeFields for FeeMarketTransaction {
                 access_list
             }
         )
+    }
+}
+
+impl DecodeFieldsPlaced for FeeMarketTransaction {
+    fn put_path(
+        alloc: Global,
+        count: usize,
+        fields: &mut Fields<'_>,
+        path: &mut Vec<usize>,
+    ) -> Result<bool, AllocError> {
+        <rlp::field_types!(
+            u64, u64, Uint<32>, Uint<32>, u64, Recipient, Uint<32>, Vec<u8>, AccessList
+        ) as DecodeFieldsPlaced>::put_path(alloc, count, fields, path)
     }
 }
 

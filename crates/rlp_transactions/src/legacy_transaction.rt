@@ -7,7 +7,10 @@ ghost use Rattle.rlp_transactions.specs.LegacyTransaction.{legacy_transaction_fi
 ghost use Rattle.rlp_transactions.specs.Signatures.{IsNoV, SaysChain, number_of};
 
 use crate::{Eip155, Payload, Recipient, Signed};
-use rlp::{AppendFields, DecodeFields, DecoderError, Fields, FixedFields, RlpStream, Uint};
+use rlp::{
+    AppendFields, DecodeFields, DecodeFieldsPlaced, DecoderError, Fields, FixedFields, RlpStream,
+    Uint,
+};
 use std::alloc::{AllocError, Global};
 
 /// A transaction without a type, with its signature: the list of nine fields. `v` is any number.
@@ -113,6 +116,19 @@ impl DecodeFields for LegacyTransaction {
                 data
             }
         )
+    }
+}
+
+impl DecodeFieldsPlaced for LegacyTransaction {
+    fn put_path(
+        alloc: Global,
+        count: usize,
+        fields: &mut Fields<'_>,
+        path: &mut Vec<usize>,
+    ) -> Result<bool, AllocError> {
+        <rlp::field_types!(
+            u64, Uint<32>, u64, Recipient, Uint<32>, Vec<u8>
+        ) as DecodeFieldsPlaced>::put_path(alloc, count, fields, path)
     }
 }
 

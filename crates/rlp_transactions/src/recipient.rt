@@ -5,7 +5,9 @@ ghost use Rattle.rlp_codec.specs.Form.{fault_of};
 ghost use Rattle.rlp_codec.specs.Kinds.{read_kind};
 ghost use Rattle.rlp_transactions.specs.Recipient.{account_of, is_account, recipient, recipient_bytes};
 
-use rlp::{Decodable, DecoderError, Encodable, Rlp, RlpStream, RoundTrip, StrictRead};
+use rlp::{
+    Decodable, DecodePlaced, DecoderError, Encodable, Rlp, RlpStream, RoundTrip, StrictRead,
+};
 use rlp_records::Address;
 use std::alloc::{AllocError, Global};
 
@@ -42,6 +44,12 @@ impl Decodable for Recipient {
     fn decode(_alloc: Global, rlp: &Rlp<'_>) -> Result<Recipient, DecoderError> {
         let string = rlp.decoder().string()?;
         recipient_of(string)
+    }
+}
+
+impl DecodePlaced for Recipient {
+    fn put_path(_alloc: Global, _rlp: &Rlp<'_>, _path: &mut Vec<usize>) -> Result<(), AllocError> {
+        Ok(())
     }
 }
 

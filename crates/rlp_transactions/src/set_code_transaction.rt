@@ -4,7 +4,10 @@ ghost use Rattle.std.specs.Prelude.{refl};
 ghost use Rattle.rlp_transactions.specs.SetCodeTransaction.{set_code_transaction_fields};
 
 use crate::{AccessList, Payload, SignedAuthorization, Tagged, TypedTransaction};
-use rlp::{AppendFields, DecodeFields, DecoderError, Fields, FixedFields, ListOf, RlpStream, Uint};
+use rlp::{
+    AppendFields, DecodeFields, DecodeFieldsPlaced, DecoderError, Fields, FixedFields, ListField,
+    ListOf, RlpStream, Uint,
+};
 use rlp_records::{Address, SET_CODE_TYPE};
 use std::alloc::{AllocError, Global};
 
@@ -91,6 +94,20 @@ impl DecodeFields for SetCodeTransaction {
                 authorization_list: [..]
             }
         )
+    }
+}
+
+impl DecodeFieldsPlaced for SetCodeTransaction {
+    fn put_path(
+        alloc: Global,
+        count: usize,
+        fields: &mut Fields<'_>,
+        path: &mut Vec<usize>,
+    ) -> Result<bool, AllocError> {
+        <rlp::field_types!(
+            u64, u64, Uint<32>, Uint<32>, u64, Address, Uint<32>, Vec<u8>, AccessList,
+            ListField<SignedAuthorization>
+        ) as DecodeFieldsPlaced>::put_path(alloc, count, fields, path)
     }
 }
 

@@ -12,8 +12,8 @@ ghost use Rattle.rlp_transactions.specs.declared.signed.Signed.{Signed};
 
 use bytes::BytesMut;
 use rlp::{
-    AppendFields, Decodable, DecoderError, Encodable, FieldsOf, FixedFields, Rlp, RlpStream,
-    RoundTrip, StrictRead, Uint,
+    AppendFields, Decodable, DecodeFieldsPlaced, DecodePlaced, DecoderError, Encodable, FieldsOf,
+    FixedFields, Joined, Rlp, RlpStream, RoundTrip, StrictRead, Uint,
 };
 use rlp_records::{from_envelope, to_envelope, typed_list};
 use std::alloc::{AllocError, Global};
@@ -177,6 +177,12 @@ impl<T: Payload, V: Decodable> Decodable for Signed<T, V> {
     }
 }
 
+impl<T: Payload + DecodeFieldsPlaced, V: DecodePlaced> DecodePlaced for Signed<T, V> {
+    fn put_path(alloc: Global, rlp: &Rlp<'_>, path: &mut Vec<usize>) -> Result<(), AllocError> {
+        rlp::put_path_of::<Joined<T, rlp::field_types!(V, Uint<32>, Uint<32>)>>(alloc, rlp, path)
+    }
+}
+
 impl<T: Payload, V: StrictRead> RoundTrip for Signed<T, V> {
     ghost round_trip = { (signed (lawful_fields (fields_of T.fit T.items T.reading) T.laws)
         T.fixed (codec_of V.fits V.item V.reading V.strict)).reads_back };
@@ -209,6 +215,12 @@ impl<T: Payload> Decodable for Listed<T> {
             Ok(payload) => Ok(Listed(payload)),
             Err(fault) => Err(fault.fault),
         }
+    }
+}
+
+impl<T: Payload + DecodeFieldsPlaced> DecodePlaced for Listed<T> {
+    fn put_path(alloc: Global, rlp: &Rlp<'_>, path: &mut Vec<usize>) -> Result<(), AllocError> {
+        rlp::put_path_of::<T>(alloc, rlp, path)
     }
 }
 

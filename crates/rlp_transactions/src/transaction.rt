@@ -4,7 +4,8 @@ ghost use Rattle.std.specs.Prelude.{◌≡◌, ◌⊎◌, Err, IfErr, IfOk, IsTr
 ghost use Rattle.std.proofs.Common.{inr};
 ghost use Rattle.rlp.specs.DecoderError.TheVariants.{OutOfMemory};
 ghost use Rattle.rlp.specs.Views.View.{strict_view_of};
-ghost use Rattle.rlp_codec.specs.Form.{fault_of, map_value};
+ghost use Rattle.rlp_codec.specs.Form.{IsPlaced, fault_of, map_answer, map_value};
+ghost use Rattle.rlp_codec.specs.Sums.{envelope_of};
 ghost use Rattle.rlp_records.specs.Alone.{bytes_alone};
 ghost use Rattle.rlp_transactions.specs.Transaction.{transaction, transaction_alone, typed_transactions};
 
@@ -18,8 +19,8 @@ use crate::{
 };
 use bytes::BytesMut;
 use rlp::{
-    Decodable, DecoderError, Encodable, Envelope, Rlp, RlpStream, RoundTrip, StrictRead,
-    write_envelope,
+    Decodable, DecodePlaced, DecoderError, Encodable, Envelope, Rlp, RlpStream, RoundTrip,
+    StrictRead, write_envelope,
 };
 use rlp_records::{ACCESS_LIST_TYPE, BLOB_TYPE, FEE_MARKET_TYPE, SET_CODE_TYPE, to_envelope};
 use std::alloc::{AllocError, Global};
@@ -77,6 +78,24 @@ impl Transaction {
     {
         read_alone(alloc, bytes)
     }
+
+    /// Appends the places that lead to the item at fault, as [`DecodePlaced::put_path`] does, for
+    /// bytes that [`Transaction::from_bytes`] fails on. The path of a fault in an envelope is the
+    /// path in its payload.
+    pub fn put_path_alone(
+        alloc: Global,
+        bytes: &[u8],
+        path: &mut Vec<usize>,
+    ) -> Result<(), AllocError>
+        ensures { OnOk result
+            (IsPlaced (transaction_alone bytes.now) path.old.items path.new.items) }
+    {
+        let view = Rlp::new_strict(bytes);
+        if view.is_list() {
+            return SignedLegacyTransaction::put_path(alloc, &view, path);
+        }
+        put_envelope_path(alloc, bytes, path)
+    }
 }
 
 // Reads a transaction from its bytes. The clauses of `from_bytes` add that reading what `to_bytes`
@@ -114,6 +133,25 @@ fn decode_payload(alloc: Global, envelope: &Envelope<'_>) -> Result<Transaction,
     )
 }
 
+// Appends the path of the fault of a transaction in an envelope.
+fn put_envelope_path(alloc: Global, bytes: &[u8], path: &mut Vec<usize>) -> Result<(), AllocError>
+    ensures { OnOk result (IsPlaced {M = transaction.reading.M}
+        (map_answer inr (envelope_of typed_transactions.cases.read bytes.now))
+        path.old.items path.new.items) }
+{
+    let Ok(envelope) = Envelope::split(bytes) else {
+        return Ok(());
+    };
+    let payload = Rlp::new_strict(envelope.payload);
+    match envelope.tag {
+        ACCESS_LIST_TYPE => Signed::<AccessListTransaction>::put_path(alloc, &payload, path),
+        FEE_MARKET_TYPE => Signed::<FeeMarketTransaction>::put_path(alloc, &payload, path),
+        BLOB_TYPE => Signed::<BlobTransaction>::put_path(alloc, &payload, path),
+        SET_CODE_TYPE => Signed::<SetCodeTransaction>::put_path(alloc, &payload, path),
+        _ => Ok(()),
+    }
+}
+
 impl Encodable for Transaction {
     ghost item = { transaction.item };
 
@@ -140,6 +178,18 @@ impl Decodable for Transaction {
         }
         let envelope = Envelope::of(rlp)?;
         decode_payload(alloc, &envelope)
+    }
+}
+
+impl DecodePlaced for Transaction {
+    fn put_path(alloc: Global, rlp: &Rlp<'_>, path: &mut Vec<usize>) -> Result<(), AllocError> {
+        if rlp.is_list() {
+            return SignedLegacyTransaction::put_path(alloc, rlp, path);
+        }
+        match rlp.decoder().string() {
+            Ok(bytes) => put_envelope_path(alloc, bytes, path),
+            Err(_) => Ok(()),
+        }
     }
 }
 

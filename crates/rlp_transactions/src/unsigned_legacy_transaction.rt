@@ -9,8 +9,8 @@ ghost use Rattle.rlp_transactions.specs.UnsignedLegacyTransaction.{unsigned_lega
 use crate::{Eip155, LegacyTransaction, Payload, SignedLegacyTransaction};
 use bytes::BytesMut;
 use rlp::{
-    AppendFields, Decodable, DecoderError, Encodable, FieldsOf, Joined, OptionalGroup, Rlp,
-    RlpStream, RoundTrip, StrictRead, Uint, write_struct,
+    AppendFields, Decodable, DecodePlaced, DecoderError, Encodable, FieldsOf, Joined,
+    OptionalGroup, Rlp, RlpStream, RoundTrip, StrictRead, Uint, write_struct,
 };
 use std::alloc::{AllocError, Global};
 
@@ -109,6 +109,12 @@ impl Decodable for UnsignedLegacyTransaction {
             }
             Err(fault) => Err(fault.fault),
         }
+    }
+}
+
+impl DecodePlaced for UnsignedLegacyTransaction {
+    fn put_path(alloc: Global, rlp: &Rlp<'_>, path: &mut Vec<usize>) -> Result<(), AllocError> {
+        rlp::put_path_of::<UnsignedFields>(alloc, rlp, path)
     }
 }
 

@@ -3,7 +3,9 @@
 ghost use Rattle.rlp_trie.specs.Trie.{branch};
 
 use crate::BranchChild;
-use rlp::{Decodable, DecoderError, Each, Encodable, Rlp, RlpStream, RoundTrip, StrictRead};
+use rlp::{
+    Decodable, DecodePlaced, DecoderError, Each, Encodable, Rlp, RlpStream, RoundTrip, StrictRead,
+};
 use std::alloc::{AllocError, Global};
 
 /// A node of the trie with a child for each next digit of the path to the base 16: the list of the
@@ -45,6 +47,16 @@ impl Decodable for Branch {
                 children: [_, _, _, _, _, _, _, _, _, _, _, _, _, _, _, _],
                 value
             }
+        )
+    }
+}
+
+impl DecodePlaced for Branch {
+    fn put_path(alloc: Global, rlp: &Rlp<'_>, path: &mut Vec<usize>) -> Result<(), AllocError> {
+        rlp::put_struct_path!(
+            alloc, rlp, path, BranchChild, BranchChild, BranchChild, BranchChild, BranchChild,
+            BranchChild, BranchChild, BranchChild, BranchChild, BranchChild, BranchChild,
+            BranchChild, BranchChild, BranchChild, BranchChild, BranchChild, Vec<u8>
         )
     }
 }

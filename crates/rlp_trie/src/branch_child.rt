@@ -5,7 +5,9 @@ ghost use Rattle.rlp_trie.specs.BranchChild.{branch_child};
 use crate::Child;
 use crate::child::child_of;
 use crate::empty::is_empty_string;
-use rlp::{Decodable, DecoderError, Encodable, Rlp, RlpStream, RoundTrip, StrictRead};
+use rlp::{
+    Decodable, DecodePlaced, DecoderError, Encodable, Rlp, RlpStream, RoundTrip, StrictRead,
+};
 use std::alloc::{AllocError, Global};
 
 /// The child of a branch for one digit of the path, or `None`, which is written as the empty string.
@@ -42,6 +44,12 @@ impl Decodable for BranchChild {
             Ok(child) => Ok(BranchChild(Some(child))),
             Err(fault) => Err(fault),
         }
+    }
+}
+
+impl DecodePlaced for BranchChild {
+    fn put_path(_alloc: Global, _rlp: &Rlp<'_>, _path: &mut Vec<usize>) -> Result<(), AllocError> {
+        Ok(())
     }
 }
 

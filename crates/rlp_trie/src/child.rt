@@ -7,7 +7,10 @@ ghost use Rattle.rlp_trie.specs.Child.{child_of, seen_child};
 ghost use Rattle.rlp_trie.specs.ChildLaws.{child};
 
 use crate::InlineNode;
-use rlp::{Decodable, DecoderError, Encodable, RawItem, Rlp, RlpStream, RoundTrip, StrictRead};
+use rlp::{
+    Decodable, DecodePlaced, DecoderError, Encodable, RawItem, Rlp, RlpStream, RoundTrip,
+    StrictRead,
+};
 use rlp_records::Hash;
 use std::alloc::{AllocError, Global};
 
@@ -50,6 +53,12 @@ impl Decodable for Child {
     fn decode(alloc: Global, rlp: &Rlp<'_>) -> Result<Child, DecoderError> {
         let (item, _) = rlp.split_first()?;
         child_of(alloc, item.as_raw())
+    }
+}
+
+impl DecodePlaced for Child {
+    fn put_path(_alloc: Global, _rlp: &Rlp<'_>, _path: &mut Vec<usize>) -> Result<(), AllocError> {
+        Ok(())
     }
 }
 

@@ -3,7 +3,9 @@
 ghost use Rattle.rlp_trie.specs.Trie.{extension};
 
 use crate::{Child, ExtensionPath};
-use rlp::{Decodable, DecoderError, Encodable, Rlp, RlpStream, RoundTrip, StrictRead};
+use rlp::{
+    Decodable, DecodePlaced, DecoderError, Encodable, Rlp, RlpStream, RoundTrip, StrictRead,
+};
 use std::alloc::{AllocError, Global};
 
 /// A node of the trie with one child: the list of a part of the path and the child.
@@ -32,6 +34,12 @@ impl Decodable for Extension {
 
     fn decode(alloc: Global, rlp: &Rlp<'_>) -> Result<Extension, DecoderError> {
         rlp::decode_fields!(alloc, rlp, Extension { path, child })
+    }
+}
+
+impl DecodePlaced for Extension {
+    fn put_path(alloc: Global, rlp: &Rlp<'_>, path: &mut Vec<usize>) -> Result<(), AllocError> {
+        rlp::put_struct_path!(alloc, rlp, path, ExtensionPath, Child)
     }
 }
 

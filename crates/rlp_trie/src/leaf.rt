@@ -3,7 +3,9 @@
 ghost use Rattle.rlp_trie.specs.Trie.{leaf};
 
 use crate::LeafPath;
-use rlp::{Decodable, DecoderError, Encodable, Rlp, RlpStream, RoundTrip, StrictRead};
+use rlp::{
+    Decodable, DecodePlaced, DecoderError, Encodable, Rlp, RlpStream, RoundTrip, StrictRead,
+};
 use std::alloc::{AllocError, Global};
 
 /// A node of the trie that ends a path: the list of the rest of the path and the value.
@@ -32,6 +34,12 @@ impl Decodable for Leaf {
 
     fn decode(alloc: Global, rlp: &Rlp<'_>) -> Result<Leaf, DecoderError> {
         rlp::decode_fields!(alloc, rlp, Leaf { path, value })
+    }
+}
+
+impl DecodePlaced for Leaf {
+    fn put_path(alloc: Global, rlp: &Rlp<'_>, path: &mut Vec<usize>) -> Result<(), AllocError> {
+        rlp::put_struct_path!(alloc, rlp, path, LeafPath, Vec<u8>)
     }
 }
 

@@ -6,7 +6,9 @@ ghost use Rattle.rlp.specs.Form.{fault_of};
 ghost use Rattle.rlp_trie.specs.HexPrefix.{AreNibbles, IsNibbleFault, IsPath, ends_in_leaf, hex_prefix, is_empty_extension, is_leaf_flag, path_nibbles, path_of};
 
 use crate::hex_prefix::{are_nibbles, ends_in_leaf, hex_prefix, is_empty_extension, path_nibbles};
-use rlp::{Decodable, DecoderError, Encodable, Rlp, RlpStream, RoundTrip, StrictRead};
+use rlp::{
+    Decodable, DecodePlaced, DecoderError, Encodable, Rlp, RlpStream, RoundTrip, StrictRead,
+};
 use std::alloc::{AllocError, Global};
 
 /// The path of a leaf.
@@ -115,6 +117,12 @@ impl<const FLAG: u8> Decodable for Path<FLAG> {
             Ok(string) => Path::new(alloc, string),
             Err(fault) => Err(fault),
         }
+    }
+}
+
+impl<const FLAG: u8> DecodePlaced for Path<FLAG> {
+    fn put_path(_alloc: Global, _rlp: &Rlp<'_>, _path: &mut Vec<usize>) -> Result<(), AllocError> {
+        Ok(())
     }
 }
 

@@ -3,7 +3,7 @@
 ghost use Rattle.std.specs.Prelude.{◌≡◌, ◌⊎◌, Err, IfErr, IfOk, Ok, OnOk};
 ghost use Rattle.rlp.specs.DecoderError.TheVariants.{OutOfMemory};
 ghost use Rattle.rlp.specs.Format.Encoding.{encoding};
-ghost use Rattle.rlp.specs.Form.{fault_of};
+ghost use Rattle.rlp.specs.Form.{IsPlaced, fault_of};
 ghost use Rattle.rlp_records.specs.Hashing.{IsHashOf};
 ghost use Rattle.rlp_trie.specs.TrieNode.{begins_as_leaf, node_of, seen_node};
 ghost use Rattle.rlp_trie.specs.TrieNodeLaws.{trie_node};
@@ -11,7 +11,9 @@ ghost use Rattle.rlp_trie.specs.TrieNodeLaws.{trie_node};
 use crate::empty::is_empty_string;
 use crate::hex_prefix::ends_in_leaf;
 use crate::{Branch, Extension, Leaf};
-use rlp::{Decodable, DecoderError, Encodable, Rlp, RlpStream, RoundTrip, StrictRead};
+use rlp::{
+    Decodable, DecodePlaced, DecoderError, Encodable, Rlp, RlpStream, RoundTrip, StrictRead,
+};
 use rlp_records::{Hash, encoding_hash};
 use std::alloc::{AllocError, Global};
 
@@ -63,6 +65,15 @@ impl Decodable for TrieNode {
     }
 }
 
+impl DecodePlaced for TrieNode {
+    fn put_path(alloc: Global, rlp: &Rlp<'_>, path: &mut Vec<usize>) -> Result<(), AllocError> {
+        match rlp.split_first() {
+            Ok((item, _)) => put_node_path(alloc, item.as_raw(), path),
+            Err(_) => Ok(()),
+        }
+    }
+}
+
 impl RoundTrip for TrieNode {
     ghost round_trip = { trie_node.reads_back };
 }
@@ -85,6 +96,22 @@ fn node_of(alloc: Global, bytes: &[u8]) -> Result<TrieNode, DecoderError>
         2 => Ok(TrieNode::Extension(rlp::decode_strict(alloc, bytes)?)),
         17 => Ok(TrieNode::Branch(rlp::decode_strict(alloc, bytes)?)),
         _ => Err(DecoderError::RlpIncorrectListLen),
+    }
+}
+
+/// Appends the path of the fault of bytes that are one item.
+fn put_node_path(alloc: Global, bytes: &[u8], path: &mut Vec<usize>) -> Result<(), AllocError>
+    ensures { OnOk result (IsPlaced (node_of bytes.now) path.old.items path.new.items) }
+{
+    if is_empty_string(bytes) {
+        return Ok(());
+    }
+    let view = Rlp::new_strict(bytes);
+    match view.item_count() {
+        Ok(2) if is_leaf(bytes) => Leaf::put_path(alloc, &view, path),
+        Ok(2) => Extension::put_path(alloc, &view, path),
+        Ok(17) => Branch::put_path(alloc, &view, path),
+        _ => Ok(()),
     }
 }
 

@@ -21,6 +21,8 @@ mod lists;
 #[cfg(test)]
 mod never;
 #[cfg(test)]
+mod places;
+#[cfg(test)]
 mod raw_items;
 #[cfg(test)]
 mod refused;

@@ -10,22 +10,30 @@ use rlp_reading::error::DecoderError;
 use std::alloc::Global;
 
 /// Reads `None` from a list of no items, and `Some` of the item's value from a list of one item. Of
-/// a lenient view it looks at two items at most. Of a strict view it first walks over all items.
+/// a lenient view it looks at two items at most. Of a strict view it walks over all items if there
+/// are more.
 ///
 /// Fails with `RlpExpectedToBeList` if there are no bytes or the first byte is one of a string, and
 /// with `RlpIncorrectListLen` if there is more than one item.
 impl<T: Decodable> Decodable for Option<T> {
     ghost reading = { option_reading T.reading };
 
+    #[tactic(auto, using(rlp_codec::proofs::ListLaws::items_told, rlp_codec::proofs::ListLaws::items_faulty))]
     fn decode(alloc: Global, rlp: &Rlp<'_>) -> Result<Option<T>, DecoderError> {
-        let mut items = Fields::of(rlp)?;
-        let Some(item) = items.next() else {
-            return Ok(None);
-        };
-        if let Some(_) = items.next() {
-            return Err(DecoderError::RlpIncorrectListLen);
+        let mut items = Fields::framed(rlp)?;
+        let first = items.next();
+        if !items.has_ended() {
+            if let Err(fault) = rlp.check_items() {
+                return Err(fault);
+            }
+            if !items.is_empty() {
+                return Err(DecoderError::RlpIncorrectListLen);
+            }
         }
-        Ok(Some(item.as_val(alloc)?))
+        match first {
+            Some(item) => Ok(Some(item.as_val(alloc)?)),
+            None => Ok(None),
+        }
     }
 }
 

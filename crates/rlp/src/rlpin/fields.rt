@@ -1,6 +1,6 @@
 //! The items of a list, read in order as values.
 
-ghost use Rattle.std.specs.Prelude.{◌≡◌, ◌≢◌, ◌≤◌, ◌∷◌, ◌⊎◌, ◌↔◌, [], ℕ, length, map, None, Ok, Err, Some, IfOk, IfErr, IsOkAnd, IsTrue, MatchOption, MatchResult, OnOk};
+ghost use Rattle.std.specs.Prelude.{◌≡◌, ◌≢◌, ◌≤◌, ◌+◌, ◌∷◌, ◌⊎◌, ◌↔◌, [], ℕ, length, map, None, Ok, Err, Some, IfOk, IfErr, IsOkAnd, IsTrue, MatchOption, MatchResult, OnOk};
 ghost use Rattle.rlp_reading.specs.declared.error.DecoderError.TheVariants.{OutOfMemory, RlpIncorrectListLen};
 ghost use Rattle.rlp_reading.specs.Format.Framing.{fault, split, after_items};
 ghost use Rattle.rlp_reading.specs.Views.View.{View, item_at, item_count, item_views, items_fault};
@@ -16,7 +16,7 @@ use std::alloc::Global;
 use std::marker::Model;
 
 /// A reader of the items of a list, one after another. Contracts see it as the record `ItemsLeft` of
-/// the views of the items that are left, and of the error past the last item.
+/// the views of the items that are left, of the error past the last item, and of the list.
 ///
 /// It keeps its place, so it reads the header of each item once. [`Rlp::val_at`] begins at the
 /// start of the list each time. Each call returns what [`Rlp::val_at`], [`Rlp::list_at`] or
@@ -32,9 +32,9 @@ use std::marker::Model;
 pub struct Fields<'a> {
     items: ItemReader<'a>,
     strict: bool,
-    // At least the number of items that are left, and just that number if they were counted.
-    left: usize,
-    counted: bool,
+    taken: usize,
+    // The number of items of the list, those that were taken included, if they were counted.
+    count: Option<usize>,
 }
 
 impl<'a> Model for Fields<'a> {
@@ -43,9 +43,13 @@ impl<'a> Model for Fields<'a> {
     ghost view = { λ f. record {
       views = map (λ b. record { bytes = b; is_strict = f.strict }) (split f.items.rest);
       past = fault (after_items f.items.rest);
+      list = record {
+        count = f.taken + length (split f.items.rest);
+        after = after_items f.items.rest;
+      };
     } };
 
-    ghost invariant = { λ f. AreCounted f.counted f.left (split f.items.rest) };
+    ghost invariant = { λ f. AreCounted f.taken f.count (split f.items.rest) };
 }
 
 impl<'a> Rlp<'a> {
@@ -119,9 +123,47 @@ impl<'a> Fields<'a> {
         Ok(Fields {
             items: ItemReader::new(items),
             strict: rlp.is_strict(),
-            left: count,
-            counted: true,
+            taken: 0,
+            count: Some(count),
         })
+    }
+
+    /// A reader of the items of the list that the view begins with, by the list's header alone. It
+    /// walks over no items: it fails as [`Fields::of`] does, but doesn't find bytes that follow the
+    /// items in the list of a strict view. [`Fields::has_ended`] finds them at the end.
+    #[inline(always)]
+    #[tactic(auto, using(crate::proofs::Readers::reader_starts))]
+    pub(crate) fn framed(rlp: &Rlp<'a>) -> Result<Fields<'a>, DecoderError>
+        ensures views { IfOk result (λ f. f.views ≡ item_views rlp.now) }
+        ensures count { IfOk result (λ f. f.list.count ≡ length f.views) }
+        ensures whole { IfOk result (λ f. (IsTrue rlp.now.is_strict → f.list.after ≡ [])
+            ↔ (items_of rlp.now ≡ Ok f.views)) }
+        ensures fault { IfErr result (λ e. items_of rlp.now ≡ Err (fault_of e)) }
+    {
+        match rlp.framed_items() {
+            Ok(items) => Ok(Fields {
+                items: ItemReader::new(items),
+                strict: rlp.is_strict(),
+                taken: 0,
+                count: None,
+            }),
+            Err(fault) => Err(fault),
+        }
+    }
+
+    /// A reader of the items of a view that is read as a list. It is [`Fields::framed`] of a strict
+    /// view. A lenient view never fails.
+    #[inline(always)]
+    pub(crate) fn framed_list(rlp: &Rlp<'a>) -> Result<Fields<'a>, DecoderError>
+        ensures views { IfOk result (λ f. f.views ≡ item_views rlp.now) }
+        ensures whole { IfOk result (λ f. (IsTrue rlp.now.is_strict → f.list.after ≡ [])
+            → list_of_views rlp.now ≡ Ok f.views) }
+        ensures fault { IfErr result (λ e. list_of_views rlp.now ≡ Err (fault_of e)) }
+    {
+        if rlp.is_strict() {
+            return Fields::framed(rlp);
+        }
+        Ok(Fields::over(rlp))
     }
 
     /// A reader of the items of a view, or of no items if the view isn't a list.
@@ -135,20 +177,22 @@ impl<'a> Fields<'a> {
         Fields {
             items: ItemReader::new(rlp.items()),
             strict: rlp.is_strict(),
-            left: usize::MAX,
-            counted: false,
+            taken: 0,
+            count: None,
         }
     }
 
     /// The next item, or `None` if no item is left.
     #[inline(always)]
+    #[tactic(auto, using(crate::proofs::Readers::same_list))]
     pub fn next(&mut self) -> Option<Rlp<'a>>
-        ensures { MatchOption result ((self.old.views ≡ []) × (self.new.views ≡ []))
+        ensures item { MatchOption result ((self.old.views ≡ []) × (self.new.views ≡ []))
             (λ item. self.old.views ≡ item ∷ self.new.views) }
+        ensures list { self.new.list ≡ self.old.list }
     {
         match self.items.next_framed() {
             Ok(framed) => {
-                self.left -= 1;
+                self.taken += 1;
                 Some(Rlp::of_kind(framed.item, self.strict))
             }
             Err(_) => None,
@@ -166,7 +210,7 @@ impl<'a> Fields<'a> {
     {
         match self.items.next_framed() {
             Ok(framed) => {
-                self.left -= 1;
+                self.taken += 1;
                 Ok(Rlp::of_kind(framed.item, self.strict))
             }
             Err(fault) => Err(fault),
@@ -218,10 +262,20 @@ impl<'a> Fields<'a> {
     pub fn count_left(&self) -> usize
         ensures { result ≡ length self.now.views }
     {
-        if self.counted {
-            return self.left;
+        match self.count {
+            Some(count) => count - self.taken,
+            None => count_items(self.items.rest()),
         }
-        count_items(self.items.rest())
+    }
+
+    /// The same as [`Fields::count_left`]. The calls after it know the number, and don't walk.
+    pub(crate) fn count_once(&mut self) -> usize
+        ensures count { result ≡ length self.old.views }
+        ensures same { self.new ≡ self.old }
+    {
+        let left = self.count_left();
+        self.count = Some(self.taken + left);
+        left
     }
 
     /// Whether no item is left.
@@ -229,9 +283,24 @@ impl<'a> Fields<'a> {
     pub fn is_empty(&self) -> bool
         ensures { IsTrue result ↔ (self.now.views ≡ []) }
     {
-        if self.counted {
-            return self.left == 0;
+        match self.count {
+            Some(count) => self.taken == count,
+            None => first_framed(self.items.rest()).is_err(),
         }
-        first_framed(self.items.rest()).is_err()
+    }
+    /// The number of items that were taken.
+    #[inline(always)]
+    pub(crate) fn taken(&self) -> usize
+        ensures { self.now.list.count ≡ result + length self.now.views }
+    {
+        self.taken
+    }
+
+    /// Whether nothing is left of the list: no item, and no bytes that aren't an item.
+    #[inline(always)]
+    pub(crate) fn has_ended(&self) -> bool
+        ensures { IsTrue result ↔ ((self.now.views ≡ []) × (self.now.list.after ≡ [])) }
+    {
+        self.items.rest().is_empty()
     }
 }

@@ -301,18 +301,26 @@ impl<'a> Rlp<'a> {
     /// let list = rlp::Rlp::new(&[0xc2, 0x05, 0x06]);
     /// assert_eq!(rt; list.as_list::<u64>(alloc)?.as_slice(), [5, 6].as_slice());
     /// ```
-    #[tactic(auto, using(rlp_codec::proofs::ListLaws::pushed, rlp_codec::proofs::ListLaws::all_pushed))]
+    #[tactic(auto, using(rlp_codec::proofs::ListLaws::pushed, rlp_codec::proofs::ListLaws::all_pushed, crate::proofs::Readers::list_told, crate::proofs::Readers::list_faulty))]
     pub fn as_list<T: Decodable>(&self, alloc: Global) -> Result<Vec<T>, DecoderError>
         ensures value { IfOk result
             (λ values. Gives (list_reading vec_items T.reading) self.now values) }
         ensures fault { IfErr result (λ e. Faults (list_reading (λ xs. xs) T.reading) self.now e
             ⊎ (e ≡ OutOfMemory)) }
     {
-        let mut items = Fields::of_list(self)?;
+        let mut items = Fields::framed_list(self)?;
         let mut values = Vec::new(alloc);
         while let Some(item) = items.next() {
-            let value = T::decode(alloc, &item)?;
-            values.push(value)?;
+            match T::decode(alloc, &item) {
+                Ok(value) => values.push(value)?,
+                Err(fault) => {
+                    self.check_list()?;
+                    return Err(fault);
+                }
+            }
+        }
+        if self.strict && !items.has_ended() {
+            self.check_list()?;
         }
         Ok(values)
     }
@@ -445,6 +453,29 @@ impl<'a> Rlp<'a> {
         match first_framed(self.bytes) {
             Ok((list, _)) => list.content,
             Err(_) => self.bytes,
+        }
+    }
+
+    /// The bytes that begin with the items of the list that the view begins with, by the list's
+    /// header alone. Fails as [`Rlp::item_count`] does, but doesn't find bytes that follow the items
+    /// in the list of a strict view.
+    #[inline(always)]
+    #[tactic(auto, using(crate::proofs::Readers::framed_views))]
+    pub(crate) fn framed_items(&self) -> Result<&'a [u8], DecoderError>
+        ensures items { IfOk result (λ p. split p.now ≡ items self.now.bytes) }
+        ensures whole { IfOk result (λ p. (IsTrue self.now.is_strict → after_items p.now ≡ [])
+            ↔ (item_count self.now ≡ Ok (length (items self.now.bytes)))) }
+        ensures fault { IfErr result (λ e. item_count self.now ≡ Err e) }
+    {
+        if !self.is_list() {
+            return Err(DecoderError::RlpExpectedToBeList);
+        }
+        if !self.strict {
+            return Ok(self.items());
+        }
+        match whole_framed(self.bytes) {
+            Ok(list) => Ok(list.content),
+            Err(fault) => Err(fault),
         }
     }
 

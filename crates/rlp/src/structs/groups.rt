@@ -56,7 +56,7 @@ impl<G: FixedFields> DecodeFields for Groups<G> {
     #[tactic(auto, using(rlp_codec::proofs::GroupLaws::take_steps))]
     fn decode_fields(alloc: Global, fields: &mut Fields<'_>) -> Result<Groups<G>, DecoderError> {
         let mut groups = Vec::new(alloc);
-        let mut turns = fields.count_left();
+        let mut turns = fields.count_once();
         while turns > 0 {
             if fields.is_empty() {
                 return Ok(Groups(groups));

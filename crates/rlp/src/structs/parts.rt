@@ -23,8 +23,12 @@ impl<P: FixedFields, Q: DecodeFields> DecodeFields for Joined<P, Q> {
     }
 
     fn decode_fields(alloc: Global, fields: &mut Fields<'_>) -> Result<Joined<P, Q>, DecoderError> {
-        let first = P::decode_fields(alloc, fields)?;
-        let others = Q::decode_fields(alloc, fields)?;
-        Ok(Joined(first, others))
+        match P::decode_fields(alloc, fields) {
+            Ok(first) => match Q::decode_fields(alloc, fields) {
+                Ok(others) => Ok(Joined(first, others)),
+                Err(fault) => Err(fault),
+            },
+            Err(fault) => Err(fault),
+        }
     }
 }

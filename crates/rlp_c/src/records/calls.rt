@@ -1,6 +1,6 @@
 //! What C calls for records.
 
-ghost use Rattle.std.specs.Prelude.{◌≡◌, ◌+◌, ◌<◌, ◌^◌, ◌↔◌, IsOk, IsTrue, length};
+ghost use Rattle.std.specs.Prelude.{◌≡◌, ◌+◌, ◌<◌, ◌^◌, ◌↔◌, IsOk, length};
 ghost use Rattle.rlp_format.specs.Format.Encoding.{encoding};
 ghost use Rattle.rlp_reading.specs.Format.Framing.{items};
 ghost use Rattle.rlp_reading.specs.Views.View.{strict_view_of};
@@ -10,21 +10,20 @@ ghost use Rattle.rlp_transactions.specs.TransactionParts.{type_of};
 ghost use Rattle.rlp_transactions.specs.declared.transaction.Transaction.{Transaction};
 ghost use Rattle.rlp_headers.specs.Header.{header};
 ghost use Rattle.rlp_headers.specs.declared.header.Header.{Header as BlockHeader};
-ghost use Rattle.rlp_c.specs.declared.records.kinds.Record.TheVariants.{Header};
+ghost use Rattle.rlp_c.specs.declared.records.fields.Record.TheVariants.{Header};
 ghost use Rattle.rlp_c.specs.Fields.{numbered, record_result};
-ghost use Rattle.rlp_c.specs.Kinds.{most_fields};
 ghost use Rattle.rlp_c.specs.Places.{IsFound, fields_in, fields_of, place_of};
-ghost use Rattle.rlp_c.specs.Records.{IsRecordRead, IsTransactionRead, faulty_field, record_of_type, transaction_result};
+ghost use Rattle.rlp_c.specs.Records.{IsRecordRead, IsTransactionRead, faulty_field, most_fields, record_of_type, transaction_result};
 ghost use Rattle.rlp_c.specs.Rows.{ArePlaced};
 
-use super::fields::check_counted;
-use super::kinds::{Record, most_fields};
+use super::fields::{Record, check_record, most_fields};
 use crate::item::RlpItem;
 use crate::split::split_list;
-use crate::status::{RLP_NO_ROOM, RLP_OK, RLP_UNKNOWN_TYPE, status_of};
+use crate::status::{RLP_UNKNOWN_TYPE, status_of};
 use rlp::DecoderError;
 use rlp_reading::framed::begins_as_list;
 use rlp_reading::items::{ItemReader, count_items};
+use std::alloc::Global;
 
 /// Writes a row for each field of the transaction that the bytes are by themselves, as in EIP-2718,
 /// and its type, which is 0 for a legacy transaction. `count` gets the number of fields, or if one
@@ -36,6 +35,7 @@ use rlp_reading::items::{ItemReader, count_items};
 /// status of its own.
 #[unsafe(no_mangle)]
 pub extern "C" fn rlp_transaction(
+    alloc: Global,
     bytes: &[u8],
     transaction_type: &mut u32,
     out: &mut [RlpItem],
@@ -50,11 +50,12 @@ pub extern "C" fn rlp_transaction(
         × ArePlaced (place_of t) (encoding (fields_of t)) (fields_in (fields_of t))
         out.old out.new count.new result }
 {
-    read_transaction(bytes, transaction_type, out, count)
+    read_transaction(alloc, bytes, transaction_type, out, count)
 }
 
 /// Does what [`rlp_transaction`] does.
 fn read_transaction(
+    alloc: Global,
     bytes: &[u8],
     transaction_type: &mut u32,
     out: &mut [RlpItem],
@@ -69,12 +70,12 @@ fn read_transaction(
     };
     if begins_as_list(bytes) {
         *transaction_type = 0;
-        return read_record(Record::Legacy, bytes, 0, out, count);
+        return read_record(alloc, Record::Legacy, bytes, 0, out, count);
     }
     match record_of_type(*first) {
         Some(list) => {
             *transaction_type = *first as u32;
-            read_record(list, payload, 1, out, count)
+            read_record(alloc, list, payload, 1, out, count)
         }
         None => {
             *count = 0;
@@ -86,7 +87,12 @@ fn read_transaction(
 /// Writes a row for each field of the header of a block that the bytes are, a header of
 /// `rlp_headers`. Otherwise as [`rlp_transaction`].
 #[unsafe(no_mangle)]
-pub extern "C" fn rlp_header_fields(bytes: &[u8], out: &mut [RlpItem], count: &mut usize) -> u32
+pub extern "C" fn rlp_header_fields(
+    alloc: Global,
+    bytes: &[u8],
+    out: &mut [RlpItem],
+    count: &mut usize,
+) -> u32
     ensures answer { IsRecordRead Header 0 bytes.now out.old out.new count.new result
         (numbered (header.reading.read (strict_view_of bytes.now))) }
     ensures exact { IsFound result ↔ IsOk (header.reading.read (strict_view_of bytes.now)).result }
@@ -94,7 +100,7 @@ pub extern "C" fn rlp_header_fields(bytes: &[u8], out: &mut [RlpItem], count: &m
         → ArePlaced 0 (encoding (header.item h)) (fields_in (header.item h))
         out.old out.new count.new result }
 {
-    read_record(Record::Header, bytes, 0, out, count)
+    read_record(alloc, Record::Header, bytes, 0, out, count)
 }
 
 /// The record behind the byte of a type.
@@ -112,6 +118,7 @@ fn record_of_type(kind: u8) -> Option<Record>
 
 /// Writes a row for each field of the record that these bytes are, which begin at `place`.
 fn read_record(
+    alloc: Global,
     list: Record,
     bytes: &[u8],
     place: usize,
@@ -122,26 +129,14 @@ fn read_record(
     ensures { IsRecordRead list place bytes.now out.old out.new count.new result
         (record_result list (strict_view_of bytes.now)) }
 {
-    let status = split_list(bytes, place, out, count);
-    if !is_found(status) {
-        *count = faulty_field(list, bytes, 0, status);
-        return status;
-    }
-    match check_counted(list, *count, bytes) {
-        Ok(()) => status,
+    match check_record(alloc, list, bytes) {
+        Ok(()) => split_list(bytes, place, out, count),
         Err((number, fault)) => {
             let status = status_of(&fault);
             *count = faulty_field(list, bytes, number, status);
             status
         }
     }
-}
-
-/// Whether the status says that all items were found.
-fn is_found(status: u32) -> bool
-    ensures { IsTrue result ↔ IsFound status }
-{
-    status == RLP_OK || status == RLP_NO_ROOM
 }
 
 /// The number of the field that has the fault of this status, if the number that the fault came with

@@ -6,8 +6,8 @@
 ghost use Rattle.rlp_headers.specs.Forks.{london_fields, shanghai_fields, cancun_fields};
 
 use rlp::{
-    AppendFields, DecodeFields, DecoderError, Fields, Optional, OptionalField, OptionalGroup,
-    OptionalGroupOf, RlpStream, Uint,
+    AppendFields, DecodeFields, DecodeFieldsPlaced, DecoderError, Fields, Optional, OptionalField,
+    OptionalGroup, OptionalGroupOf, RlpStream, Uint,
 };
 use rlp_records::Hash;
 use std::alloc::{AllocError, Global};
@@ -62,6 +62,19 @@ impl DecodeFields for London {
     }
 }
 
+impl DecodeFieldsPlaced for London {
+    fn put_path(
+        alloc: Global,
+        count: usize,
+        fields: &mut Fields<'_>,
+        path: &mut Vec<usize>,
+    ) -> Result<bool, AllocError> {
+        <(Uint<32>, OptionalGroup<Shanghai>) as DecodeFieldsPlaced>::put_path(
+            alloc, count, fields, path,
+        )
+    }
+}
+
 /// What a header has since Shanghai: one field, and those of later forks.
 #[derive(Debug, Clone, Copy, PartialEq, Eq)]
 pub struct Shanghai {
@@ -101,6 +114,17 @@ impl DecodeFields for Shanghai {
                 since_cancun: (..)?
             }
         )
+    }
+}
+
+impl DecodeFieldsPlaced for Shanghai {
+    fn put_path(
+        alloc: Global,
+        count: usize,
+        fields: &mut Fields<'_>,
+        path: &mut Vec<usize>,
+    ) -> Result<bool, AllocError> {
+        <(Hash, OptionalGroup<Cancun>) as DecodeFieldsPlaced>::put_path(alloc, count, fields, path)
     }
 }
 
@@ -160,6 +184,19 @@ impl DecodeFields for Cancun {
                 parent_beacon_block_root,
                 requests_hash: ?
             }
+        )
+    }
+}
+
+impl DecodeFieldsPlaced for Cancun {
+    fn put_path(
+        alloc: Global,
+        count: usize,
+        fields: &mut Fields<'_>,
+        path: &mut Vec<usize>,
+    ) -> Result<bool, AllocError> {
+        <(u64, (u64, (Hash, OptionalField<Hash>))) as DecodeFieldsPlaced>::put_path(
+            alloc, count, fields, path,
         )
     }
 }

@@ -139,7 +139,7 @@ pub(super) const TRANSACTIONS: [Row; 15] = [
     ),
     // The example of EIP-155, without a signature.
     (
-        "unsigned",
+        "transaction",
         "ec098504a817c80082520894<35*20>880de0b6b3a764000080018080",
         "{'type':'0x0','nonce':'0x9','gasPrice':'0x4a817c800','gas':'0x5208','to':'0x<35*20>',
          'value':'0xde0b6b3a7640000','input':'0x','chainId':'0x1',
@@ -147,14 +147,14 @@ pub(super) const TRANSACTIONS: [Row; 15] = [
     ),
     // Without a signature: before EIP-155, and of type 2.
     (
-        "unsigned",
+        "transaction",
         "c6010203800405",
         "{'type':'0x0','nonce':'0x1','gasPrice':'0x2','gas':'0x3','to':null,'value':'0x4',
          'input':'0x05',
          'signingHash':'0x68286eaa2b851533afcfd4804fe41aad87ef20c68c7856609bbfffed5e9c0932'}",
     ),
     (
-        "unsigned",
+        "transaction",
         "02f40a0b0c0d0e94<2b*20>0f10d7d694<2c*20>c0",
         "{'type':'0x2','chainId':'0xa','nonce':'0xb','maxPriorityFeePerGas':'0xc',
          'maxFeePerGas':'0xd','gas':'0xe','to':'0x<2b*20>','value':'0xf','input':'0x10',

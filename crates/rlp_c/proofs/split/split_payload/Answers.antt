@@ -2,17 +2,9 @@ use Rattle.std.proofs.Common.{rules, sym, ap, ◌∙◌}
 use Rattle.rlp_reading.specs.Format.Framing.{framing}
 use Rattle.rlp_reading.proofs.Lemmas.Frames.{item_some}
 use Rattle.rlp_reading.proofs.Format.Following.{framing-followed}
-use Rattle.rlp_reading.proofs.Format.StrictLists.{no_bytes, some_bytes}
-use Rattle.rlp_c.proofs.Splitting.{splitting_ends, splitting_fault, splitting_none, splitting_one}
+use Rattle.rlp_reading.proofs.Format.StrictLists.{no_bytes}
+use Rattle.rlp_c.proofs.Splitting.{splitting_ends, splitting_one}
 use Rattle.rlp_c.proofs.split.split_payload.Goals as goal
-
-pub loop-rest-init : goal.loop-rest-init
-loop-rest-init c = splitting_none c.args.payload.now c.args.place c.args.out.now
-
-pub returns-in-Err-clause-fault : goal.returns-in-Err-clause-fault
-returns-in-Err-clause-fault c =
-    splitting_fault c.args.payload.now c.loop-rest.rest.now c.args.place c.args.out.now c.loop-rest.out c.loop-rest.count c.in-Err.fault c.loop-rest.invariant
-    c.in-Err.ensures.parts (some_bytes c.loop-rest.rest.now c.loop-rest-test.ensures) c.in-Err.ensures.whole
 
 pub loop-rest-preserved : goal.loop-rest-preserved
 loop-rest-preserved c =
@@ -21,14 +13,8 @@ loop-rest-preserved c =
     (sym (framing-followed c.in-Ok.first.0.item.now c.in-Ok.first.1.now c.in-Ok.ensures.item) ∙ ap framing (sym c.in-Ok.ensures.whole) ∙ c.in-Ok.ensures.header)
     (item_some c.in-Ok.first.0.item.now c.in-Ok.ensures.item) (search rules)
 
-pub returns-clause-fault : goal.returns-clause-fault
-returns-clause-fault c = (splitting_ends c.args.payload.now c.loop-rest.rest.now c.args.place c.args.out.now c.loop-rest.out c.loop-rest.count
-    c.loop-rest.invariant (no_bytes c.loop-rest.rest.now c.loop-rest-test.ensures)).no_fault
-
-pub returns-clause-count : goal.returns-clause-count
-returns-clause-count c = (splitting_ends c.args.payload.now c.loop-rest.rest.now c.args.place c.args.out.now c.loop-rest.out c.loop-rest.count
-    c.loop-rest.invariant (no_bytes c.loop-rest.rest.now c.loop-rest-test.ensures)).counted
-
-pub returns-clause-rows : goal.returns-clause-rows
-returns-clause-rows c = (splitting_ends c.args.payload.now c.loop-rest.rest.now c.args.place c.args.out.now c.loop-rest.out c.loop-rest.count
-    c.loop-rest.invariant (no_bytes c.loop-rest.rest.now c.loop-rest-test.ensures)).rows
+pub returns : goal.returns
+returns c =
+    let w = splitting_ends c.args.payload.now c.loop-rest.rest.now c.args.place c.args.out.now c.loop-rest.out c.loop-rest.count c.loop-rest.invariant
+    (no_bytes c.loop-rest.rest.now c.loop-rest-test.ensures) in
+    record { fault = w.no_fault; count = w.counted; rows = w.rows }

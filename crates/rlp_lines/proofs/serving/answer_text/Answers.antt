@@ -6,7 +6,7 @@ use Rattle.rlp_lines.proofs.serving.answer_text.Goals as goal
 pub returns-in-Err : goal.returns-in-Err
 returns-in-Err g c =
     let longest = g.A.LineAnswers.longest in
-    let answer = answer_by longest (g.A.LineAnswers.answer_within c.args.answers.now) in
+    let answer = answer_by longest (g.A.LineAnswers.long_line c.args.answers.now) (g.A.LineAnswers.answer_within c.args.answers.now) in
     let start = g.W.Write.contents c.args.output.now.inner in
     let line = c.new-line in
     TextLeaves-stop longest answer g.W.Write.contents c.args.output.now c.serve.new.output c.in-Err.fault [] c.args.text.now
@@ -16,7 +16,7 @@ returns-in-Err g c =
 pub returns-in-Err-finish : goal.returns-in-Err-finish
 returns-in-Err-finish g c =
     let longest = g.A.LineAnswers.longest in
-    let answer = answer_by longest (g.A.LineAnswers.answer_within c.args.answers.now) in
+    let answer = answer_by longest (g.A.LineAnswers.long_line c.args.answers.now) (g.A.LineAnswers.answer_within c.args.answers.now) in
     let start = g.W.Write.contents c.args.output.now.inner in
     let line = c.new-line in
     TextLeaves-stop longest answer g.W.Write.contents c.args.output.now c.finish.new.output c.in-Err-finish.fault c.args.text.now c.args.text.now
@@ -26,7 +26,7 @@ returns-in-Err-finish g c =
 pub returns : goal.returns
 returns g c =
     let longest = g.A.LineAnswers.longest in
-    let answer = answer_by longest (g.A.LineAnswers.answer_within c.args.answers.now) in
+    let answer = answer_by longest (g.A.LineAnswers.long_line c.args.answers.now) (g.A.LineAnswers.answer_within c.args.answers.now) in
     let start = g.W.Write.contents c.args.output.now.inner in
     let line = c.new-line in
     let served = c.in_default.ensures.ok start []

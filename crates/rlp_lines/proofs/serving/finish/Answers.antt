@@ -6,12 +6,12 @@ use Rattle.rlp_lines.proofs.serving.finish.Goals as goal
 
 pub returns-in-Ok-clause-ok : goal.returns-in-Ok-clause-ok
 returns-in-Ok-clause-ok g c start text served =
-    Appends-last g.A.LineAnswers.longest (answer_by g.A.LineAnswers.longest (g.A.LineAnswers.answer_within c.args.answers.now)) c.write_and_flush.result (g.W.Write.contents c.write_and_flush.new.output.inner) c.as_bytes.result.now served
+    Appends-last g.A.LineAnswers.longest (answer_by g.A.LineAnswers.longest (g.A.LineAnswers.long_line c.args.answers.now) (g.A.LineAnswers.answer_within c.args.answers.now)) c.write_and_flush.result (g.W.Write.contents c.write_and_flush.new.output.inner) c.as_bytes.result.now served
     (c.as_bytes.ensures.value ∙ after_empty c.clear.ensures.bytes (c.in-Ok.ensures.ok text served.line)) c.write_and_flush.ensures.ok
 
 pub returns-in-Ok-clause-stop : goal.returns-in-Ok-clause-stop
 returns-in-Ok-clause-stop g c start text served =
-    IsStop-last g.A.LineAnswers.longest (answer_by g.A.LineAnswers.longest (g.A.LineAnswers.answer_within c.args.answers.now)) c.write_and_flush.result (g.W.Write.contents c.write_and_flush.new.output.inner)
+    IsStop-last g.A.LineAnswers.longest (answer_by g.A.LineAnswers.longest (g.A.LineAnswers.long_line c.args.answers.now) (g.A.LineAnswers.answer_within c.args.answers.now)) c.write_and_flush.result (g.W.Write.contents c.write_and_flush.new.output.inner)
     c.write_and_flush.new.output.failed c.as_bytes.result.now served
     (c.as_bytes.ensures.value ∙ after_empty c.clear.ensures.bytes (c.in-Ok.ensures.ok text served.line)) c.write_and_flush.ensures.part
     c.write_and_flush.ensures.failed c.write_and_flush.ensures.fault
@@ -20,6 +20,6 @@ pub returns-in-Err-clause-stop : goal.returns-in-Err-clause-stop
 returns-in-Err-clause-stop g c start text served =
     inl (
       refl,
-      AppendsBefore-served g.A.LineAnswers.longest (answer_by g.A.LineAnswers.longest (g.A.LineAnswers.answer_within c.args.answers.now)) start (g.W.Write.contents c.args.output.now.inner) text served
+      AppendsBefore-served g.A.LineAnswers.longest (answer_by g.A.LineAnswers.longest (g.A.LineAnswers.long_line c.args.answers.now) (g.A.LineAnswers.answer_within c.args.answers.now)) start (g.W.Write.contents c.args.output.now.inner) text served
           (c.in-Err.ensures.refused (last_piece text) served.line),
     )

@@ -1,8 +1,7 @@
 use Rattle.std.proofs.Common.{◌≡◌, ◌+◌, ◌*◌, ◌<◌, ◌^◌, length}
 use Rattle.rlp.specs.Views.View.{View}
 use Rattle.rlp_print.specs.Value.{after, after_items, values_of}
-use Rattle.rlp_print.specs.declared.sink.Bracket.TheVariants.{Square}
-use Rattle.rlp_print.specs.Items.{items_shown, shown_within}
+use Rattle.rlp_print.specs.{declared.sink.Bracket.TheVariants.Square, Items.items_shown, Items.shown_within}
 use Rattle.rlp_print.proofs.items.+items.Given as goal
 
 -- each call goes through one list more

@@ -5,4 +5,4 @@ use Rattle.rlp_c.proofs.records.calls.rlp_header_fields.Goals as goal
 pub returns-clause-written : goal.returns-clause-written
 returns-clause-written c = λ h fit is.
     let short : length c.args.bytes.now < 2 ^ 64 = omega arith in
-    header_written h c.args.bytes.now _ _ _ _ short fit is c.read_record.ensures
+    header_written _ _ _ _ h c.args.bytes.now short fit is c.read_record.ensures

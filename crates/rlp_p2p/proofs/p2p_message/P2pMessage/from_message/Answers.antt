@@ -1,11 +1,10 @@
 use Rattle.std.proofs.Common.{ℕ, ◌<◌, ◌^◌, length, arith, inl, Err}
 use Rattle.rlp_format.proofs.Lemmas.Digits.{bytes_held}
-use Rattle.rlp_p2p.proofs.Messages.{AreSmall, and_small, body_fault, body_value, id_fails, memory_message, message_whole}
-use Rattle.rlp_p2p.specs.P2pMessage.{p2p_body, p2p_messages}
+use Rattle.rlp_p2p.proofs.Messages.{body_fault, body_value, id_fails, memory_message, message_whole}
+use Rattle.rlp_p2p.proofs.P2pNumbers.{small}
+use Rattle.rlp_p2p.specs.P2pMessage.{p2p_body, p2p_messages, p2p_numbers}
+use Rattle.rlp_p2p.proofs.WithinBounds.{without_bound}
 use Rattle.rlp_p2p.proofs.p2p_message.P2pMessage.from_message.Goals as goal
-
-small : AreSmall p2p_messages.cases.tag
-small = and_small _ _ (omega arith) (and_small _ _ (omega arith) (and_small _ _ (omega arith) (record { below = λ x. omega arith })))
 
 pub returns-in-Err-clause-fault : goal.returns-in-Err-clause-fault
 returns-in-Err-clause-fault c = inl (id_fails c.args.offset p2p_messages c.args.bytes.now c.in-Err.fault c.in-Err.ensures.fault)
@@ -31,11 +30,11 @@ returns-in-Ok-clause-value c =
 pub returns-in-Ok-clause-fault : goal.returns-in-Ok-clause-fault
 returns-in-Ok-clause-fault c =
     body_fault c.args.offset p2p_messages p2p_body c.args.bytes.now c.decode_body.result (c.in-Ok.message.number, c.in-Ok.message.body.now) c.in-Ok.ensures.value
-    c.decode_body.ensures.fault
+    (without_bound p2p_numbers c.in-Ok.message.number c.in-Ok.message.body.now _ c.decode_body.result c.decode_body.ensures.fault)
 
 pub returns-in-Ok-clause-memory : goal.returns-in-Ok-clause-memory
 returns-in-Ok-clause-memory c =
     let fits : length c.args.bytes.now < 2 ^ 64 = omega arith in
     λ m fit is. memory_message c.args.offset p2p_messages small c.ranges.offset.fits c.args.bytes.now fits (p2p_body m) fit is c.decode_body.result
     (body_fault c.args.offset p2p_messages p2p_body c.args.bytes.now c.decode_body.result (c.in-Ok.message.number, c.in-Ok.message.body.now) c.in-Ok.ensures.value
-    c.decode_body.ensures.fault)
+    (without_bound p2p_numbers c.in-Ok.message.number c.in-Ok.message.body.now _ c.decode_body.result c.decode_body.ensures.fault))

@@ -1,13 +1,14 @@
 use Rattle.std.proofs.Common.{◌≡◌, ◌++◌, length, map}
-use Rattle.rlp_codec.specs.Form.{and_then, list_of_views, map_value, read_each}
+use Rattle.rlp_codec.specs.Form.{map_value, read_each}
 use Rattle.rlp.proofs.rlpin.rlp.Rlp.as_list.Given as goal
 
--- the values so far come before what the items that are left give
+-- the values so far come before what the items that are left give, and the list is the same
 abbrev pub invariant-loop-item : goal.invariant-loop-item
 invariant-loop-item g l =
     let r = g.T.Decodable.reading in
-    and_then (list_of_views l.self) (λ vs. (read_each r.read (length vs) vs).result)
-    ≡ map_value (λ xs. map r.seen l.values.items ++ xs) (read_each r.read (length l.initial.items.views) l.items.views).result
+    ((read_each r.read (length l.initial.items.views) l.initial.items.views).result
+    ≡ map_value (λ xs. map r.seen l.values.items ++ xs) (read_each r.read (length l.initial.items.views) l.items.views).result)
+    × (l.items.list ≡ l.initial.items.list)
 
 abbrev pub decreases-loop-item : goal.decreases-loop-item
 decreases-loop-item g l = length l.items.views

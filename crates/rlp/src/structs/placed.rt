@@ -1,0 +1,179 @@
+//! Where in its list a struct can't be read.
+
+ghost use Rattle.std.specs.Prelude.{◌≡◌, ◌⊎◌, IfOk, IsOkAnd, IsTrue, OnOk};
+ghost use Rattle.rlp_codec.specs.Form.{IsFound, IsPlaced, in_list, struct_reading};
+
+use crate::rlpin::{Fields, Rlp};
+use crate::structs::{DecodeFields, FixedFields, Groups, Joined, OptionalField, OptionalGroup};
+use crate::traits::{DecodePlaced, put_item_path};
+use std::alloc::{AllocError, Global};
+
+/// Fields that say which item of their list is at fault.
+pub trait DecodeFieldsPlaced: DecodeFields {
+    /// Appends the places that lead to the item at fault, as [`DecodePlaced::put_path`] does, if the
+    /// next items of a list of `count` items aren't the fields. Returns whether they have a fault.
+    /// If not, the items after the fields are left.
+    ///
+    /// Fails with `AllocError` if memory is refused.
+    fn put_path(
+        alloc: Global,
+        count: usize,
+        fields: &mut Fields<'_>,
+        path: &mut Vec<usize>,
+    ) -> Result<bool, AllocError>
+        ensures found { IfOk result (λ found. IsFound found
+            (in_list count (Self.reading.read fields.old.views)) path.old.items path.new.items) }
+        ensures left { IfOk result (λ found. IsTrue found
+            ⊎ IsOkAnd (Self.reading.read fields.old.views).result (λ t. t.1 ≡ fields.new.views)) };
+}
+
+impl DecodeFieldsPlaced for () {
+    fn put_path(
+        _alloc: Global,
+        _count: usize,
+        _fields: &mut Fields<'_>,
+        _path: &mut Vec<usize>,
+    ) -> Result<bool, AllocError> {
+        Ok(false)
+    }
+}
+
+impl<T: DecodePlaced, Q: DecodeFieldsPlaced> DecodeFieldsPlaced for (T, Q) {
+    fn put_path(
+        alloc: Global,
+        count: usize,
+        fields: &mut Fields<'_>,
+        path: &mut Vec<usize>,
+    ) -> Result<bool, AllocError> {
+        let Some(item) = fields.next() else {
+            path.push(count.saturating_sub(1))?;
+            return Ok(true);
+        };
+        let place = count.saturating_sub(1).saturating_sub(fields.count_left());
+        if put_item_path::<T>(alloc, place, &item, path)? {
+            return Ok(true);
+        }
+        Q::put_path(alloc, count, fields, path)
+    }
+}
+
+impl<P: DecodeFieldsPlaced + FixedFields, Q: DecodeFieldsPlaced> DecodeFieldsPlaced
+    for Joined<P, Q> {
+    fn put_path(
+        alloc: Global,
+        count: usize,
+        fields: &mut Fields<'_>,
+        path: &mut Vec<usize>,
+    ) -> Result<bool, AllocError> {
+        if P::put_path(alloc, count, fields, path)? {
+            return Ok(true);
+        }
+        Q::put_path(alloc, count, fields, path)
+    }
+}
+
+impl<T: DecodePlaced> DecodeFieldsPlaced for OptionalField<T> {
+    fn put_path(
+        alloc: Global,
+        count: usize,
+        fields: &mut Fields<'_>,
+        path: &mut Vec<usize>,
+    ) -> Result<bool, AllocError> {
+        let Some(item) = fields.next() else {
+            return Ok(false);
+        };
+        let place = count.saturating_sub(1).saturating_sub(fields.count_left());
+        put_item_path::<T>(alloc, place, &item, path)
+    }
+}
+
+impl<S: DecodeFieldsPlaced> DecodeFieldsPlaced for OptionalGroup<S> {
+    fn put_path(
+        alloc: Global,
+        count: usize,
+        fields: &mut Fields<'_>,
+        path: &mut Vec<usize>,
+    ) -> Result<bool, AllocError> {
+        if fields.is_empty() {
+            return Ok(false);
+        }
+        S::put_path(alloc, count, fields, path)
+    }
+}
+
+impl<G: DecodeFieldsPlaced + FixedFields> DecodeFieldsPlaced for Groups<G> {
+    #[tactic(auto, using(rlp_codec::proofs::PathLaws::groups_found))]
+    fn put_path(
+        alloc: Global,
+        count: usize,
+        fields: &mut Fields<'_>,
+        path: &mut Vec<usize>,
+    ) -> Result<bool, AllocError> {
+        let mut turns = fields.count_left();
+        while turns > 0 {
+            if fields.is_empty() {
+                return Ok(false);
+            }
+            if G::put_path(alloc, count, fields, path)? {
+                return Ok(true);
+            }
+            turns -= 1;
+        }
+        Ok(false)
+    }
+}
+
+/// Appends the places that lead to the item at fault of a struct with these fields, as
+/// [`DecodePlaced::put_path`] does. [`put_struct_path!`](crate::put_struct_path) calls it.
+pub fn put_path_of<F: DecodeFieldsPlaced>(
+    alloc: Global,
+    rlp: &Rlp<'_>,
+    path: &mut Vec<usize>,
+) -> Result<(), AllocError>
+    ensures { OnOk result (IsPlaced ((struct_reading F.reading).read rlp.now)
+        path.old.items path.new.items) }
+{
+    let Ok(mut fields) = Fields::counted(rlp) else {
+        return Ok(());
+    };
+    let count = fields.count_left();
+    if !F::accepts(count) || F::put_path(alloc, count, &mut fields, path)? || fields.is_empty() {
+        return Ok(());
+    }
+    path.push(count.saturating_sub(fields.count_left()))?;
+    Ok(())
+}
+
+/// Appends the places that lead to the item at fault of a struct. It is the whole body of a
+/// [`DecodePlaced::put_path`]. The arguments are the allocator, the view, the path, and the types of
+/// the fields in order. A list of values is a [`ListField`](crate::ListField). After a `;` stands
+/// what may be missing, such as an [`OptionalField`](crate::OptionalField).
+///
+/// ```rust
+/// fn put_path(alloc: Global, rlp: &Rlp<'_>, path: &mut Vec<usize>) -> Result<(), AllocError> {
+///     rlp::put_struct_path!(alloc, rlp, path, Address, ListField<Hash>; OptionalField<u64>)
+/// }
+/// ```
+#[macro_export]
+macro_rules! put_struct_path {
+    ($alloc:expr, $rlp:expr, $path:expr, $($types:tt)*) => {
+        $crate::put_path_of::<$crate::field_types!($($types)*)>($alloc, $rlp, $path)
+    };
+}
+
+/// The types of fields as nested pairs, which end with `()` or with the type after a `;`.
+#[macro_export]
+macro_rules! field_types {
+    () => {
+        ()
+    };
+    ($type:ty) => {
+        ($type, ())
+    };
+    ($type:ty; $last:ty) => {
+        ($type, $last)
+    };
+    ($type:ty, $($others:tt)*) => {
+        ($type, $crate::field_types!($($others)*))
+    };
+}

@@ -1,5 +1,0 @@
-use Rattle.rlp_c.proofs.Statuses.{not_ok}
-use Rattle.rlp_c.proofs.values.rlp_decode_bytes.Goals as goal
-
-pub returns-in-Err-clause-row : goal.returns-in-Err-clause-row
-returns-in-Err-clause-row c = not_ok c.in-Err.fault c.status_of.result c.status_of.ensures

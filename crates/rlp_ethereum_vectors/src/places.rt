@@ -1,0 +1,155 @@
+//! Where in their bytes records have faults: the paths to the items at fault. The bytes of most are
+//! records of which one item was changed by a Python script, and the path leads to that item. Short
+//! ones were worked out by hand.
+
+use rlp::{DecodePlaced, DecoderError, Rlp};
+use rlp_ethereum::{
+    Account, AnyTransaction, Block, NodeRecord, TrieNode, TypedReceipt, Withdrawal,
+};
+use rlp_rows::Line;
+use std::alloc::Global;
+use std::fmt;
+use std::fmt::Write;
+
+/// Rows of records with a fault.
+pub(crate) const ROWS: &str = "
+    Transactions by themselves: an address and a key of an access list, an item of one with one
+    field, a parity that is 2, a recipient of five bytes, the second authorization, and the second
+    hash of a blob. The path is that in the payload. A type that isn't known and a byte that follows
+    are faults of the whole.
+    place: transaction | 01f89d0180843b9aca008252088080826000f84ef7945df9b87991262f6ba471f09758cde1\
+     c0fc1de734e1a0000102030405060708090a0b0c0d0e0f101112131415161718191a1b1c1d1e1fd593010203040506\
+     0708090a0b0c0d0e0f10111213c001a0+ff*32+9b184f03e93ff9f4daa797ed6e38ed64bf6a1f01+00*8 | [7, 1, \
+     0] RlpIsTooShort
+    place: transaction | 01f8ab0180843b9aca008252088080826000f85cf85a945df9b87991262f6ba471f09758cd\
+     e1c0fc1de734f843a0000102030405060708090a0b0c0d0e0f101112131415161718191a1b1c1d1e1fa10001020304\
+     05060708090a0b0c0d0e0f101112131415161718191a1b1c1d1e1f0001a0+ff*32+9b184f03e93ff9f4daa797ed6e3\
+     8ed64bf6a1f01+00*8 | [7, 0, 1, 1] RlpIsTooBig
+    place: transaction | 01f8640180843b9aca008252088080826000d6d5945df9b87991262f6ba471f09758cde1c0\
+     fc1de73401a0+ff*32+9b184f03e93ff9f4daa797ed6e38ed64bf6a1f01+00*8 | [7, 0] RlpIncorrectListLen
+    place: transaction | 02f853818988+ff*8+80880de0b6b3a7640000827530940102030405060708090a0b0c0d0e\
+     0f1011121314a0dd15fe86affad91249ef0eb713f39ebeaa987b6e6fd2a0+00*9+80c0020708 | [9] Custom(\"in\
+     valid boolean value\")
+    place: transaction | 02f844818988+ff*8+80880de0b6b3a7640000827530850102030405a0dd15fe86affad912\
+     49ef0eb713f39ebeaa987b6e6fd2a0+00*9+80c0800708 | [5] RlpIsTooShort
+    place: transaction | 04f8b088+ff*8+800102825208940102030405060708090a0b0c0d0e0f1011121314880de0\
+     b6b3a7640000821234c0f85adb80945df9b87991262f6ba471f09758cde1c0fc1de7340581ff090af83ca0+ff*32+9\
+     40102030405060708090a0b0c0d0e0f10111213148082010080800180a0+ff*32 | [9, 1, 3] RlpIsTooBig
+    place: transaction | 03f8c4010780843b9aca00830f4240945df9b87991262f6ba471f09758cde1c0fc1de73480\
+     80f838f7940102030405060708090a0b0c0d0e0f1011121314e1a0000102030405060708090a0b0c0d0e0f10111213\
+     1415161718191a1b1c1d1e1f03f841a0010102030405060708090a0b0c0d0e0f101112131415161718191a1b1c1d1e\
+     1f9f01+ee*30+80a080+00*31+01 | [10, 1] RlpIsTooShort
+    place: transaction | 85f853818988+ff*8+80880de0b6b3a7640000827530940102030405060708090a0b0c0d0e\
+     0f1011121314a0dd15fe86affad91249ef0eb713f39ebeaa987b6e6fd2a0+00*9+80c0800708 | [] Custom(\"unk\
+     nown transaction type\")
+    place: transaction | 02f853818988+ff*8+80880de0b6b3a7640000827530940102030405060708090a0b0c0d0e\
+     0f1011121314a0dd15fe86affad91249ef0eb713f39ebeaa987b6e6fd2a0+00*9+80c080070800 | [] RlpIsTooBi\
+     g
+
+    A topic of a receipt's second log, the balance of an account, and a withdrawal that is cut off.
+    place: receipt | f9019f01825208b901+00*257+f896f85c945df9b87991262f6ba471f09758cde1c0fc1de734f8\
+     42a0000102030405060708090a0b0c0d0e0f101112131415161718191a1b1c1d1e1fa0+ff*32+820102f7945df9b87\
+     991262f6ba471f09758cde1c0fc1de734e09f000102030405060708090a0b0c0d0e0f101112131415161718191a1b1\
+     c1d1e80 | [3, 1, 1, 0] RlpIsTooShort
+    place: account | f86501a1+01*33+a0000102030405060708090a0b0c0d0e0f101112131415161718191a1b1c1d1\
+     e1fa0+ff*32 | [1] RlpIsTooBig
+    place: withdrawal | e588+ff*8+80945df9b87991262f6ba471f09758cde1c0fc1de7348507735940 | [] RlpIs\
+     TooShort
+
+    Blocks: the limit of gas in the header, a header with too few fields, the second transaction,
+    the recipient of a transaction with a type, and the address of a withdrawal.
+    place: block | f90224f9021ea0000102030405060708090a0b0c0d0e0f101112131415161718191a1b1c1d1e1fa0\
+     +ff*32+945df9b87991262f6ba471f09758cde1c0fc1de734a0000102030405060708090a0b0c0d0e0f10111213141\
+     5161718191a1b1c1d1e1fa0+ff*32+a0000102030405060708090a0b0c0d0e0f101112131415161718191a1b1c1d1e\
+     1fb9010001+00*254+808083c5d4888200058084610bdaa6826869a0+ff*32+88+00*8+843b9aca00a000010203040\
+     5060708090a0b0c0d0e0f101112131415161718191a1b1c1d1e1fc0c0c0 | [0, 9] RlpInvalidIndirection
+    place: block | f901f7f901f1a0000102030405060708090a0b0c0d0e0f101112131415161718191a1b1c1d1e1fa0\
+     +ff*32+945df9b87991262f6ba471f09758cde1c0fc1de734a0000102030405060708090a0b0c0d0e0f10111213141\
+     5161718191a1b1c1d1e1fa0+ff*32+a0000102030405060708090a0b0c0d0e0f101112131415161718191a1b1c1d1e\
+     1fb9010001+00*254+808083c5d4888401ca35428084610bdaa6826869a0+ff*32+c0c0c0 | [0] RlpIncorrectLi\
+     stLen
+    place: block | f90248f90220a0000102030405060708090a0b0c0d0e0f101112131415161718191a1b1c1d1e1fa0\
+     +ff*32+945df9b87991262f6ba471f09758cde1c0fc1de734a0000102030405060708090a0b0c0d0e0f10111213141\
+     5161718191a1b1c1d1e1fa0+ff*32+a0000102030405060708090a0b0c0d0e0f101112131415161718191a1b1c1d1e\
+     1fb9010001+00*254+808083c5d4888401ca35428084610bdaa6826869a0+ff*32+88+00*8+843b9aca00a00001020\
+     30405060708090a0b0c0d0e0f101112131415161718191a1b1c1d1e1fe29002ce01800102825208808060c00103049\
+     085ce01800102825208808060c0010304c0c0 | [1, 1] Custom(\"unknown transaction type\")
+    place: block | f902ddf90220a0000102030405060708090a0b0c0d0e0f101112131415161718191a1b1c1d1e1fa0\
+     +ff*32+945df9b87991262f6ba471f09758cde1c0fc1de734a0000102030405060708090a0b0c0d0e0f10111213141\
+     5161718191a1b1c1d1e1fa0+ff*32+a0000102030405060708090a0b0c0d0e0f101112131415161718191a1b1c1d1e\
+     1fb9010001+00*254+808083c5d4888401ca35428084610bdaa6826869a0+ff*32+88+00*8+843b9aca00a00001020\
+     30405060708090a0b0c0d0e0f101112131415161718191a1b1c1d1e1ff8b6b8b403f8b1010780843b9aca00830f424\
+     0808080f838f7940102030405060708090a0b0c0d0e0f1011121314e1a0000102030405060708090a0b0c0d0e0f101\
+     112131415161718191a1b1c1d1e1f03f842a0010102030405060708090a0b0c0d0e0f101112131415161718191a1b1\
+     c1d1e1fa001+ee*31+80a080+00*31+01c0c0 | [1, 0, 5] RlpIsTooShort
+    place: block | f90240f90220a0000102030405060708090a0b0c0d0e0f101112131415161718191a1b1c1d1e1fa0\
+     +ff*32+945df9b87991262f6ba471f09758cde1c0fc1de734a0000102030405060708090a0b0c0d0e0f10111213141\
+     5161718191a1b1c1d1e1fa0+ff*32+a0000102030405060708090a0b0c0d0e0f101112131415161718191a1b1c1d1e\
+     1fb9010001+00*254+808083c5d4888401ca35428084610bdaa6826869a0+ff*32+88+00*8+843b9aca00a00001020\
+     30405060708090a0b0c0d0e0f101112131415161718191a1b1c1d1e1fc0c0dad98001955df9b87991262f6ba471f09\
+     758cde1c0fc1de7340005 | [3, 0, 2] RlpIsTooBig
+
+    Node records: the second key, the sequence number, and an odd number of keys and values. Keys
+    that aren't in order are a fault of the whole.
+    place: node record | f84db8407098ad865b00a582051940cb9cf36836572411a47278783077011599ed5cd16b76\
+     f2635f4e234738f30813a89eb9137e3e3df5266e3a1f11df72ecf1145ccb9c01826964827634c0827634 | [4] Rlp\
+     ExpectedToBeData
+    place: node record | f84bb8407098ad865b00a582051940cb9cf36836572411a47278783077011599ed5cd16b76\
+     f2635f4e234738f30813a89eb9137e3e3df5266e3a1f11df72ecf1145ccb9c820001826964827634 | [1] RlpInva\
+     lidIndirection
+    place: node record | f846b8407098ad865b00a582051940cb9cf36836572411a47278783077011599ed5cd16b76\
+     f2635f4e234738f30813a89eb9137e3e3df5266e3a1f11df72ecf1145ccb9c01826964 | [] RlpIncorrectListLe\
+     n
+    place: node record | c6800162056105 | [] Custom(\"keys are not in order\")
+
+    A branch whose place 2 holds a string of one byte, and an extension whose child is a list with a
+    longer spelling.
+    place: node | f180a0+11*32+05+80*13+76 | [2] RlpIsTooShort
+    place: node | c411c28105 | [1] Custom(\"item is not canonical\")
+";
+
+/// Tells where and why a record can't be read.
+pub(crate) fn tell(alloc: Global, name: &str, bytes: &[u8], out: &mut Line) -> fmt::Result {
+    match name {
+        "account" => tell_strict::<Account>(alloc, bytes, out),
+        "block" => tell_strict::<Block>(alloc, bytes, out),
+        "node" => tell_strict::<TrieNode>(alloc, bytes, out),
+        "node record" => tell_strict::<NodeRecord>(alloc, bytes, out),
+        "withdrawal" => tell_strict::<Withdrawal>(alloc, bytes, out),
+        _ => tell_alone(alloc, name, bytes, out),
+    }
+}
+
+/// Tells where and why a transaction or a receipt by itself can't be read.
+fn tell_alone(alloc: Global, name: &str, bytes: &[u8], out: &mut Line) -> fmt::Result {
+    let mut path = Vec::new(alloc);
+    let (fault, put) = if name == "receipt" {
+        (
+            TypedReceipt::from_bytes(alloc, bytes).err(),
+            TypedReceipt::put_path_alone(alloc, bytes, &mut path),
+        )
+    } else {
+        (
+            AnyTransaction::from_bytes(alloc, bytes).err(),
+            AnyTransaction::put_path_alone(alloc, bytes, &mut path),
+        )
+    };
+    match (fault, put) {
+        (Some(fault), Ok(())) => tell_placed(path.as_slice(), &fault, out),
+        _ => out.write_str("read"),
+    }
+}
+
+/// Tells where and why a value can't be read strictly.
+fn tell_strict<T: DecodePlaced>(alloc: Global, bytes: &[u8], out: &mut Line) -> fmt::Result {
+    match rlp::decode_placed::<T>(alloc, &Rlp::new_strict(bytes)) {
+        Ok(_) => out.write_str("read"),
+        Err(placed) => tell_placed(placed.path.as_slice(), &placed.fault, out),
+    }
+}
+
+/// Tells a path and a fault.
+fn tell_placed(path: &[usize], found: &DecoderError, out: &mut Line) -> fmt::Result {
+    out.debug(path)?;
+    out.then(found)
+}

@@ -1,0 +1,105 @@
+-- Bytes that stand by themselves give what they give as an item.
+use Rattle.std.proofs.Common.{◌≡◌, ◌≢◌, ◌<◌, ◌≤◌, ◌^◌, ◌⊎◌, inl, inr, ℕ, Bool, true, false, List, [], ◌∷◌, length, refl, sym, ap, ◌∙◌, Ok, Err}
+use Rattle.std.proofs.Common.{arith, leb-true, le-ltb, ltb}
+use Rattle.std.proofs.lemmas.Bool.{cond-true, cond-false}
+use Rattle.rlp.specs.DecoderError.{DecoderError}
+use Rattle.rlp.specs.DecoderError.TheVariants.{OutOfMemory, RlpExpectedToBeData}
+use Rattle.rlp.specs.Format.{Encoding.encoding, Encoding.string, Framing.begins_as_list, Framing.read_string}
+use Rattle.rlp.specs.Views.View.{View, strict_view_of}
+use Rattle.rlp_reading.proofs.Lemmas.Strings.{string_list}
+use Rattle.rlp_reading.proofs.Lemmas.StringsHeld.{held_fault, held_only}
+use Rattle.rlp_reading.proofs.Lemmas.Depths.{not_list}
+use Rattle.std.proofs.lemmas.List.{append-nil}
+use Rattle.rlp_codec.specs.Form.{Answer, Fault, fault_of, go_on, here, map_answer, seen_fault, string_of}
+use Rattle.rlp_codec.specs.Sums.{envelope_of, read_either}
+use Rattle.rlp_records.specs.Alone.{read_alone}
+use Rattle.rlp_headers.specs.TypedReceipt.{receipt_alone, typed_receipt, typed_receipts}
+use Rattle.rlp_headers.specs.Receipt.{receipt}
+use Rattle.rlp_transactions.specs.AnyTransaction.{any_alone, any_transaction}
+use Rattle.rlp_transactions.specs.LegacyTransaction.{signed_legacy_transaction}
+use Rattle.rlp_transactions.specs.OtherStrings.{string_or}
+use Rattle.rlp_transactions.specs.OtherTransaction.{is_other}
+use Rattle.rlp_transactions.specs.Transaction.{transaction, transaction_alone, typed_transactions}
+use Rattle.rlp_transactions.specs.UnsignedTransaction.{unsigned_alone}
+use Rattle.rlp_print.specs.Records.{typed_receipt_display}
+use Rattle.rlp_print.specs.Transactions.{any_transaction_display}
+use Rattle.rlp_show.specs.Shown.{item_alone, receipt_shown, transaction_shown, unsigned_or, signed_shown}
+
+-- a list is its own item, and other bytes are the string of their item
+pub list_item : (b : List ℕ) → begins_as_list b ≡ true → b ≡ item_alone b
+list_item b kind = sym (cond-true (begins_as_list b) b (encoding (string b)) kind)
+
+pub string_item : (b d : List ℕ) → begins_as_list b ≡ false → d ≡ encoding (string b) → d ≡ item_alone b
+string_item b d kind is = is ∙ sym (cond-false (begins_as_list b) b (encoding (string b)) kind)
+
+-- the string of an item that is a list, and of the item of a string
+list_string : (b : List ℕ) → begins_as_list b ≡ true → string_of (strict_view_of b) ≡ Err (fault_of RlpExpectedToBeData)
+list_string b kind = ap seen_fault (held_fault (strict_view_of b) RlpExpectedToBeData (by b kind))
+  where
+    by : (b : List ℕ) → begins_as_list b ≡ true → read_string b ≡ Err RlpExpectedToBeData
+    by [] kind = absurd (let no : ⊥ = cc in no)
+    by (first ∷ rest) kind = string_list first rest (leb-true 0xc0 first kind)
+
+string_string : (b : List ℕ) → length (encoding (string b)) < 2 ^ 64 → string_of (strict_view_of (encoding (string b))) ≡ Ok b
+string_string b short = ap seen_fault (held_only (strict_view_of (encoding (string b))) b short refl)
+
+string_kind : (b : List ℕ) → length (encoding (string b)) < 2 ^ 64 → begins_as_list (encoding (string b)) ≡ false
+string_kind b short = not_list b (encoding (string b)) short ([], sym (append-nil (encoding (string b))))
+
+module _ {M N : Type 0} (lists : View → Answer M Fault) (typed : ℕ → View → Answer N Fault) where
+  abbrev held : View → Answer N Fault
+  held v = go_on (here (string_of v)) (envelope_of typed)
+
+  pub either_alone : (b : List ℕ) (kind : Bool) → begins_as_list b ≡ kind → length (item_alone b) < 2 ^ 64
+      → read_alone lists typed b ≡ read_either lists held (strict_view_of (item_alone b))
+  either_alone b true kind short =
+      cond-true (begins_as_list b) _ _ kind ∙ sym (cond-true (begins_as_list b) _ _ kind)
+      ∙ ap (λ d. read_either lists held (strict_view_of d)) (list_item b kind)
+  either_alone b false kind short =
+      let is = string_item b (encoding (string b)) kind refl in
+      let few : length (encoding (string b)) < 2 ^ 64 = omega (arith, short, ap length is) in
+      cond-false (begins_as_list b) _ _ kind
+      ∙ ap (λ r. map_answer inr (go_on (here r) (envelope_of typed))) (sym (string_string b few))
+      ∙ sym (cond-false (begins_as_list (encoding (string b))) _ _ (string_kind b few))
+      ∙ ap (λ d. read_either lists held (strict_view_of d)) is
+
+pub receipt_read : (b : List ℕ) → length (item_alone b) < 2 ^ 64 → typed_receipt.reading.read (strict_view_of (item_alone b)) ≡ receipt_alone b
+receipt_read b short = sym (either_alone receipt.reading.read typed_receipts.cases.read b (begins_as_list b) refl short)
+
+transaction_read : (b : List ℕ) → length (item_alone b) < 2 ^ 64 → transaction.reading.read (strict_view_of (item_alone b)) ≡ transaction_alone b
+transaction_read b short = sym (either_alone signed_legacy_transaction.reading.read typed_transactions.cases.read b (begins_as_list b) refl short)
+
+list_known : (d : List ℕ) → begins_as_list d ≡ true → is_other d ≡ false
+list_known [] kind = refl
+list_known (first ∷ rest) kind =
+    let above : 0xc0 ≤ first = leb-true 0xc0 first kind in
+    let large : ltb first 0x80 ≡ false = le-ltb first 0x80 (omega (arith, above)) in
+    cc
+
+any_by : (b : List ℕ) (kind : Bool) → begins_as_list b ≡ kind → length (item_alone b) < 2 ^ 64
+    → string_or is_other (transaction_alone b) (string_of (strict_view_of (item_alone b))) ≡ any_alone b
+any_by b true kind short =
+    ap (string_or is_other (transaction_alone b)) (ap (λ d. string_of (strict_view_of d)) (sym (list_item b kind)) ∙ list_string b kind)
+    ∙ sym (cond-false (is_other b) _ _ (list_known b kind))
+any_by b false kind short =
+    let is = string_item b (encoding (string b)) kind refl in
+    ap (string_or is_other (transaction_alone b)) (ap (λ d. string_of (strict_view_of d)) (sym is) ∙ string_string b (omega (arith, short, ap length is)))
+
+pub any_read : (b : List ℕ) → length (item_alone b) < 2 ^ 64 → any_transaction.reading.read (strict_view_of (item_alone b)) ≡ any_alone b
+any_read b short =
+    ap (λ a. string_or is_other a (string_of (strict_view_of (item_alone b)))) (transaction_read b short) ∙ any_by b (begins_as_list b) refl short
+
+pub unsigned_faulty : (b : List ℕ) (e : Fault) → (unsigned_alone b).result ≡ Err e → transaction_shown b ≡ signed_shown b
+unsigned_faulty b e is = ap (unsigned_or (signed_shown b)) is
+
+-- bytes that no transaction has that isn't signed, as the function that reads them says
+pub signed_given : (b : List ℕ) (e : DecoderError) (P : Type 0) → ((unsigned_alone b).result ≡ Err (fault_of e)) ⊎ ((e ≡ OutOfMemory) × P) → e ≢ OutOfMemory
+    → length (item_alone b) < 2 ^ 64
+    → map_answer any_transaction_display.shown (any_transaction.reading.read (strict_view_of (item_alone b))) ≡ transaction_shown b
+signed_given b e P (inl is) other short =
+    ap (map_answer any_transaction_display.shown) (any_read b short) ∙ sym (unsigned_faulty b (fault_of e) is)
+signed_given b e P (inr full) other short = absurd (other full.0)
+
+pub receipt_given : (b : List ℕ) → length (item_alone b) < 2 ^ 64
+    → map_answer typed_receipt_display.shown (typed_receipt.reading.read (strict_view_of (item_alone b))) ≡ receipt_shown b
+receipt_given b short = ap (map_answer typed_receipt_display.shown) (receipt_read b short)

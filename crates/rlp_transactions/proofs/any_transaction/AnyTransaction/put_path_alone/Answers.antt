@@ -1,0 +1,8 @@
+use Rattle.std.specs.Prelude.{Ok}
+use Rattle.rlp_transactions.specs.OtherTransaction.{is_other}
+use Rattle.rlp_transactions.specs.Transaction.{transaction_alone}
+use Rattle.rlp_transactions.proofs.Placed.{string_placed}
+use Rattle.rlp_transactions.proofs.any_transaction.AnyTransaction.put_path_alone.Goals as goal
+
+pub returns : goal.returns
+returns c = string_placed is_other (transaction_alone c.args.bytes.now) (Ok c.args.bytes.now) _ _ c.put_path_alone.result c.put_path_alone.ensures
