@@ -1,5 +1,6 @@
 """The tries of bodies: which share a check, and what each check says of them."""
 
+import random
 import sys
 import threading
 import time
@@ -118,8 +119,8 @@ class Queue:
 class Tries:
     """All crates that are still to be checked, the queues of those that are, and the workers: each has a copy of its own."""
 
-    def __init__(self, base, bodies, folder, jobs, say, keep=None):
-        self.base, self.bodies, self.folder, self.jobs, self.say, self.keep = base, bodies, folder, jobs, say, keep
+    def __init__(self, base, bodies, folder, jobs, say, keep=None, end=None):
+        self.base, self.bodies, self.folder, self.jobs, self.say, self.keep, self.end = base, bodies, folder, jobs, say, keep, end
         self.todo, self.checked, self.queues = self.to_check(), set(), []
         self.lock, self.count, self.waiting, self.fault = threading.Condition(), 0, 0, None
 
@@ -134,7 +135,12 @@ class Tries:
         return {body: result for queue in self.queues for body, result in queue.results.items()}
 
     def to_check(self):
-        """The crates to check as they stand: those below first, unless their libraries are there, else those with the most bodies."""
+        """The crates to check as they stand: those below first, unless their libraries are there, else those with the most bodies.
+
+        Where the time is bounded they are in another order each day, so that no crate is always left out.
+        """
+        if self.base.built and self.end:
+            return random.Random(time.strftime("%F")).sample(sorted(self.bodies), len(self.bodies))
         if self.base.built:
             return sorted(self.bodies, key=lambda crate: -len(self.bodies[crate]))
         return with_lower(self.base.crates, self.bodies)
@@ -144,14 +150,14 @@ class Tries:
         return bool(self.base.built) or self.checked.issuperset(with_lower(self.base.crates, [crate])[:-1])
 
     def next(self, last):
-        """What a worker does next: a crate to check, else the queue that it was at, else the longest one, else nothing more."""
+        """What a worker does next: the queue that it was at, else a crate to check, else the longest queue, else nothing more."""
         with self.lock:
-            while not self.fault:
+            while not self.fault and not (self.end and time.time() > self.end):
+                full = [queue for queue in self.queues if queue.todo]
                 free = [crate for crate in self.todo if self.is_free(crate)]
-                if free:
+                if free and last not in full:
                     self.todo.remove(free[0])
                     return self.check, (free[0], 1 + self.waiting // len(free))
-                full = [queue for queue in self.queues if queue.todo]
                 if full:
                     queue = last if last in full else max(full, key=lambda one: len(one.todo))
                     return self.try_together, (queue, *queue.take(self.most()))
@@ -176,11 +182,13 @@ class Tries:
             step, given = self.next(last)
             if not step:
                 return
-            step(copy, *given)
-            last = given[0]
+            last = step(copy, *given)
 
     def check(self, _, crate, jobs):
-        """Checks a crate as it stands, with this number of jobs: of a built library the functions that bodies change, and what they call."""
+        """Checks a crate as it stands, with this number of jobs: of a built library the functions that bodies change, and what they call.
+
+        It returns the queue of its bodies.
+        """
         begin = time.time()
         self.base.fetch(crate, "incremental")
         self.base.fetch(crate, "rlib")
@@ -193,12 +201,14 @@ class Tries:
             if not report.is_proved:
                 self.fault = self.fault or f"{crate} must be proved first: {report.first_error()}"
             elif crate in self.bodies:
-                self.queues.append(queue or Queue(crate, self.bodies[crate], self.base, report.verdicts))
+                queue = queue or Queue(crate, self.bodies[crate], self.base, report.verdicts)
+                self.queues.append(queue)
             self.checked.add(crate)
             self.lock.notify_all()
+        return queue
 
     def try_together(self, copy, queue, pack, texts):
-        """Checks a crate with some bodies, and takes over what the check says of them."""
+        """Checks a crate with some bodies, and takes over what the check says of them. It returns their queue."""
         begin = time.time()
         try:
             copy.prepare(queue.crate)
@@ -221,3 +231,4 @@ class Tries:
                 if word != "refused":
                     self.say(f"{word}: {body}: {why[:200]}")
             self.lock.notify_all()
+        return queue
