@@ -112,6 +112,7 @@ impl<T: Decodable, Q: DecodeFields> DecodeFields for (T, Q) {
         let Some(item) = fields.next() else {
             return Err(DecoderError::RlpIncorrectListLen);
         };
+        // With `?` the values of the fields are copied once more.
         match T::decode(alloc, &item) {
             Ok(value) => match Q::decode_fields(alloc, fields) {
                 Ok(others) => Ok((value, others)),
