@@ -3,20 +3,21 @@ use Rattle.std.proofs.Common.{◌≡◌, ◌≢◌, ◌<◌, ◌-◌, ℕ, zero,
 use Rattle.rlp.specs.{Views.View.item_views, Views.View.view_of, DecoderError.DecoderError, Format.Framing.read_string, Values.RawItem.string_or_none}
 use Rattle.rlp_trie.specs.{TrieNodeLaws.trie_node, declared.trie_node.TrieNode.TrieNode}
 use Rattle.rlp_trie.specs.declared.trie_node.TrieNode.TheVariants as node
-use Rattle.rlp_print.specs.Items.{hashed_node, item_shown, items_shown, node_bytes, node_shown, shown_within, whole_node}
+use Rattle.rlp_print.specs.Items.{hashed_node, item_shown, items_shown, node_shown, shown_within, whole_node}
 use Rattle.rlp_print.specs.Value.{Steps, Value, after, after_items, array, bytes, content, values_of}
-use Rattle.rlp_print.specs.{declared.sink.Bracket.TheVariants.Square, declared.sink.BytesKind.TheVariants.Any}
+use Rattle.rlp_print.specs.declared.sink.{Bracket.TheVariants.CloseSquare, Bracket.TheVariants.OpenSquare, BytesKind.TheVariants.Any}
+use Rattle.rlp_print.specs.Records.{written}
 use Rattle.rlp_print.specs.NodeRecords.{key_value, key_value_by, string_content}
 
 -- ---- lists
 
 pub items_taken : {A S : Type 0} (shown : A → Value) (st : Steps S) (name : List ℕ) (xs : List A) (s : S) → 0 < length xs
-    → after st name (array (values_of shown xs)) s ≡ st.finish Square (after_items st name 0 (values_of shown xs) (st.begin Square s))
+    → after st name (array (values_of shown xs)) s ≡ st.bracket CloseSquare (after_items st name 0 (values_of shown xs) (st.bracket OpenSquare s))
 items_taken shown st name [] s some = absurd (omega (arith, some))
 items_taken shown st name (x ∷ xs) s some = refl
 
 pub seen_taken : {A M S : Type 0} (seen : A → M) (shown : M → Value) (st : Steps S) (name : List ℕ) (xs : List A) (s : S) → 0 < length xs
-    → after st name (array (values_of shown (map seen xs))) s ≡ st.finish Square (after_items st name 0 (values_of shown (map seen xs)) (st.begin Square s))
+    → after st name (array (values_of shown (map seen xs))) s ≡ st.bracket CloseSquare (after_items st name 0 (values_of shown (map seen xs)) (st.bracket OpenSquare s))
 seen_taken seen shown st name [] s some = absurd (omega (arith, some))
 seen_taken seen shown st name (x ∷ xs) s some = refl
 
@@ -54,7 +55,7 @@ nodes_shown (suc most) true b e is some kind =
 nodes_shown (suc most) false b e is some kind = absurd cc
 
 -- nodes by themselves
-pub other_nodes : (n : TrieNode) → n ≢ node.Empty → whole_node (trie_node.reading.seen n) ≡ hashed_node (node_bytes (trie_node.reading.seen n))
+pub other_nodes : (n : TrieNode) → n ≢ node.Empty → whole_node (trie_node.reading.seen n) ≡ hashed_node (written trie_node.reading (trie_node.reading.seen n))
 other_nodes node.Empty other = absurd (other refl)
 other_nodes (node.Leaf l) other = refl
 other_nodes (node.Extension e) other = refl

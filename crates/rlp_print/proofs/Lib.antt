@@ -1,5 +1,3 @@
-pub mod NumberLemmas
+pub mod TextLemmas
 pub mod ItemLemmas
-pub mod DumpLemmas
-pub mod WordLemmas
-pub mod Written
+pub mod Hashes

@@ -1,16 +1,12 @@
 -- What is shown of headers of blocks, and of blocks.
 use Rattle.std.specs.Prelude.{codes, ℕ, List, length, map}
 use Rattle.keccak.specs.Keccak.{keccak256}
-use Rattle.rlp.specs.Format.Encoding.{encoding}
-use Rattle.rlp_records.specs.declared.hash.Hash.{Hash}
 use Rattle.rlp_headers.specs.{Header.header, declared.header.Header.Header}
 use Rattle.rlp_headers.specs.Forks.{cancun_fields, london_fields, shanghai_fields}
 use Rattle.rlp_ethereum.specs.{Block.block, Body.body}
 use Rattle.rlp_print.specs.Display.{Display, Fields, a_list, a_number, a_string, after_derived, an_object, bytes_as, derived, end, field, if_there, in_forms, in_order, one, one_if, same, through}
-use Rattle.rlp_print.specs.{Records.hash_entries, Records.withdrawal_display, Transactions.any_transaction_display}
+use Rattle.rlp_print.specs.{Records.hash_entries, Records.withdrawal_display, Records.written, Transactions.any_transaction_display}
 use Rattle.rlp_print.specs.declared.sink.BytesKind.TheVariants.{Sparse}
-
--- ---- headers
 
 -- what forks added
 abbrev pub cancun_display : Fields cancun_fields.reading.M
@@ -37,11 +33,11 @@ header_fields_display =
     same (codes "nonce") a_string (if_there london_display)))))))))))))))
 
 -- the hash of a header
-unfoldable pub header_hash : header.reading.M → List ℕ
-header_hash h = keccak256 (encoding (header.reading.item h))
+abbrev pub header_hash : header.reading.M → List ℕ
+header_hash h = keccak256 (written header.reading h)
 
-abbrev pub seen_hash : Header → Hash
-seen_hash h = record { 0 = header_hash (header.reading.seen h) }
+unfoldable pub seen_hash : Header → List ℕ
+seen_hash h = header_hash (header.reading.seen h)
 
 -- the hash of a header, and its fields
 abbrev pub hashed_header_display : Fields header.reading.M
@@ -49,8 +45,6 @@ hashed_header_display = after_derived (λ h. hash_entries (header_hash h)) heade
 
 abbrev pub header_display : Display header.reading.M
 header_display = an_object hashed_header_display
-
--- ---- blocks
 
 -- the fields of a body, which also stand in a block
 abbrev pub body_fields_display : Fields body.reading.M
@@ -60,7 +54,7 @@ body_fields_display =
 
 -- the number of bytes of a block
 unfoldable pub block_size : block.reading.M → ℕ
-block_size b = length (encoding (block.reading.item b))
+block_size b = length (written block.reading b)
 
 -- what JSON has besides, as in the execution API: the hashes of the ommers, and the number of bytes of the block
 abbrev pub more_of_block : Fields block.reading.M

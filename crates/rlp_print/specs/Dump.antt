@@ -13,8 +13,6 @@ pub record Dump : Type 0 where
   pub size : ℕ
   pub rest : List ℕ
 
--- ---- rows
-
 -- bytes as hexadecimal digits, or a dash for none
 abbrev pub part_text : List ℕ → List ℕ
 part_text [] = codes "-"
@@ -68,8 +66,6 @@ enter (bytes Payload b) s = s
 enter (type_byte n) s = enter_envelope (enter_lists (length s.rest) s)
 enter _ s = enter_lists (length s.rest) s
 
--- ---- contents
-
 -- the bytes of a content in an encoding; the places and texts that are shown are in none
 abbrev pub encoded_bytes : Content → List ℕ
 encoded_bytes (number Place n) = []
@@ -99,8 +95,7 @@ dump_steps = record {
   is_json = false;
   key = λ json s. s;
   put = λ name c s. content_row (line name c) c (encoded_bytes c) (enter c s);
-  begin = λ bracket s. s;
-  finish = λ bracket s. s;
+  bracket = λ bracket s. s;
 }
 
 -- the rows of a value of this name, whose encoding is b

@@ -5,11 +5,11 @@ use Rattle.std.proofs.{lemmas.Bool.Decides.nat_tests, lemmas.List.length-map}
 use Rattle.keccak.specs.Keccak.{keccak256}
 use Rattle.rlp.specs.Format.Encoding.{Item, Items, string, list, no_items, item_and, items_from}
 use Rattle.rlp.specs.Values.RawItem.{item_by, item_within, raw_item_of, string_or_none}
-use Rattle.rlp.specs.{DecoderError.DecoderError, Format.Encoding.encoding, Format.Framing.read_string, Format.Framing.items, Views.View.View, Views.View.item_views, Views.View.view_of}
+use Rattle.rlp.specs.{DecoderError.DecoderError, Format.Framing.read_string, Format.Framing.items, Views.View.View, Views.View.item_views, Views.View.view_of}
 use Rattle.rlp_trie.specs.{HexPrefix.ends_in_leaf, TrieNodeLaws.trie_node}
 use Rattle.rlp_print.specs.Display.{Display, Fields, a_string, bytes_as, content_bytes, derived, one_if, same, through}
 use Rattle.rlp_print.specs.Value.{Value, Entries, Values, content, object, array, bytes, text, nothing, both, entry, by_form, no_values, value_and, values_of}
-use Rattle.rlp_print.specs.{Lines.digits_text, declared.sink.BytesKind.TheVariants.Any, declared.sink.BytesKind.TheVariants.Path}
+use Rattle.rlp_print.specs.{Lines.digits_text, Records.written, declared.sink.BytesKind.TheVariants.Any, declared.sink.BytesKind.TheVariants.Path}
 
 -- ---- the parts of nodes
 
@@ -174,28 +174,24 @@ raw_item_display = record { shown = shown_within 256 false; Told = Item; told = 
 
 -- ---- nodes by themselves
 
--- the encoding of a node
-unfoldable pub node_bytes : trie_node.reading.M → List ℕ
-node_bytes m = encoding (trie_node.reading.item m)
-
 -- the node that these bytes are, which are a list, with its hash
 abbrev pub hashed_node : List ℕ → Value
 hashed_node b = node_shown (shown_within 256) (Some (keccak256 b)) (item_views (view_of b))
 
 -- A node is shown by its encoding. The empty trie is a string, which has nothing to show but its hash and its kind.
 abbrev pub whole_node : trie_node.reading.M → Value
-whole_node (inl empty) = object (kind_entries (Some (keccak256 (node_bytes (inl empty)))) (codes "empty"))
-whole_node (inr m) = hashed_node (node_bytes (inr m))
+whole_node (inl empty) = object (kind_entries (Some (keccak256 (written trie_node.reading (inl empty)))) (codes "empty"))
+whole_node (inr m) = hashed_node (written trie_node.reading (inr m))
 
 -- what is told of a node: the empty string for the empty trie, or the items of the list
 abbrev pub node_told : trie_node.reading.M → Item
 node_told (inl empty) = string []
-node_told (inr m) = list (items_from (map raw_item_of (items (node_bytes (inr m)))))
+node_told (inr m) = list (items_from (map raw_item_of (items (written trie_node.reading (inr m)))))
 
 told_back : (m : trie_node.reading.M) → shown_item (whole_node m) ≡ node_told m
 told_back (inl empty) = refl
 told_back (inr m) =
-    node_back (shown_within 256) raw_item_of (within_back 256) (string_within 256) (Some (keccak256 (node_bytes (inr m)))) (items (node_bytes (inr m)))
+    node_back (shown_within 256) raw_item_of (within_back 256) (string_within 256) (Some (keccak256 (written trie_node.reading (inr m)))) (items (written trie_node.reading (inr m)))
 
 pub node_apart : (m n : trie_node.reading.M) → whole_node m ≡ whole_node n → node_told m ≡ node_told n
 node_apart m n is = sym (told_back m) ∙ ap shown_item is ∙ told_back n

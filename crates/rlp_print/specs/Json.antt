@@ -4,7 +4,7 @@ use Rattle.rlp_print.specs.Value.{Steps, after, Content, Value, number, type_byt
 use Rattle.rlp_print.specs.Lines.{bytes_text, hex_text, ip_text, number_text, word_text}
 use Rattle.rlp_print.specs.declared.{sink.NumberKind.NumberKind, sink.NumberKind.TheVariants.Place, sink.BytesKind.BytesKind}
 use Rattle.rlp_print.specs.declared.sink.BytesKind.TheVariants.{Ip, Null, Word}
-use Rattle.rlp_print.specs.declared.{sink.Bracket.Bracket, sink.Bracket.TheVariants.Brace, sink.Bracket.TheVariants.Square}
+use Rattle.rlp_print.specs.declared.sink.{Bracket.Bracket, Bracket.TheVariants.CloseBrace, Bracket.TheVariants.CloseSquare, Bracket.TheVariants.OpenBrace, Bracket.TheVariants.OpenSquare}
 
 -- the text so far, and whether a value may come next without a comma before it
 pub record Json : Type 0 where
@@ -39,18 +39,16 @@ content_json (bytes kind b) = bytes_json kind b
 content_json (text t) = quoted t
 content_json empty_list = codes "[]"
 
--- the bracket that opens an object or a list, and the bracket that closes it
-abbrev pub begin_text : Bracket → List ℕ
-begin_text Brace = codes "{"
-begin_text Square = codes "["
-
-abbrev pub finish_text : Bracket → List ℕ
-finish_text Brace = codes "}"
-finish_text Square = codes "]"
-
 -- a text after a comma, if one is needed
 abbrev pub put_text : List ℕ → Bool → Json → Json
 put_text t fresh s = record { text = s.text ++ comma s.is_fresh ++ t; is_fresh = fresh }
+
+-- the bracket that begins an object or a list, and the bracket that ends it
+abbrev pub put_bracket : Bracket → Json → Json
+put_bracket OpenBrace s = put_text (codes "{") true s
+put_bracket OpenSquare s = put_text (codes "[") true s
+put_bracket CloseBrace s = record { text = s.text ++ codes "}"; is_fresh = false }
+put_bracket CloseSquare s = record { text = s.text ++ codes "]"; is_fresh = false }
 
 -- how JSON takes a value
 abbrev pub json_steps : Steps Json
@@ -58,8 +56,7 @@ json_steps = record {
   is_json = true;
   key = λ json s. put_text (quoted json ++ codes ":") true s;
   put = λ name c s. put_text (content_json c) false s;
-  begin = λ bracket s. put_text (begin_text bracket) true s;
-  finish = λ bracket s. record { text = s.text ++ finish_text bracket; is_fresh = false };
+  bracket = put_bracket;
 }
 
 -- the JSON of a value

@@ -9,8 +9,6 @@ pub mod Json
 pub mod Display
 -- where contents stand in the encoding
 pub mod Dump
--- the numbers of types, and sums of types
-pub mod Types
 -- records, and the faults of records
 pub mod Records
 -- items, nodes of the trie and node records

@@ -3,7 +3,7 @@ use Rattle.std.specs.Prelude.{ℕ, ◌-◌, ◌+◌, ◌/◌, ◌%◌, ◌^◌, 
 use Rattle.std.specs.{Char.is_ascii_digit, Char.is_ascii_lowercase, Fmt.digit_glyph, List.list_all, Net.Addr.segments_of, Net.Text.ipv4_text, Net.Text.ipv6_text}
 use Rattle.hex.specs.Hex.{encode_lower}
 use Rattle.rlp.specs.{NumberText.number_text as text_in_base, Values.Value.bit}
-use Rattle.rlp_transactions.specs.declared.eip155.Eip155.{Eip155}
+use Rattle.rlp_transactions.specs.{Eip155.said_by, declared.eip155.Eip155.Eip155}
 use Rattle.rlp_print.specs.Value.{Steps, after, Content, Value, number, type_byte, bytes, text, empty_list}
 use Rattle.rlp_print.specs.declared.{sink.NumberKind.NumberKind, sink.BytesKind.BytesKind}
 use Rattle.rlp_print.specs.declared.sink.NumberKind.TheVariants.{Decimal, LegacyV, Place, Quantity}
@@ -27,13 +27,6 @@ sparse_text b = if list_all (λ byte. byte == 0) b then decimal (length b) ++ co
 
 -- ---- what `v` says in the signature of a transaction without a type, as in EIP-155
 
--- 27 and 28 say the parity, and the numbers from 35 on the chain and the parity, if the number of the chain has at most 64 bits
-abbrev pub said_by : ℕ → Option Eip155
-said_by v =
-    if (v == 27) || (v == 28) then Some (record { chain_id = None; y_parity = v == 28 })
-    else if nat_lt v 35 || nat_lt (2 ^ 65 + 34) v then None
-    else Some (record { chain_id = Some ((v - 35) / 2); y_parity = (v - 35) % 2 == 1 })
-
 -- the chain, if there is one, and the parity
 abbrev pub said_text : Option ℕ → Bool → List ℕ
 said_text (Some chain) parity = codes " (chain " ++ decimal chain ++ codes ", parity " ++ decimal (bit parity) ++ codes ")"
@@ -48,24 +41,21 @@ meaning_text None = []
 abbrev pub v_text : ℕ → List ℕ
 v_text v = number_text v ++ meaning_text (said_by v)
 
--- ---- paths of the trie
-
 -- the nibbles of a hex-prefix encoded path as hexadecimal digits: after the flag, which is the first digit, there is a 0 before an even number of nibbles
 abbrev pub digits_text : List ℕ → List ℕ
 digits_text [] = []
 digits_text (first ∷ more) = if first / 16 % 2 == 1 then digit_glyph false (first % 16) ∷ encode_lower more else encode_lower more
 
+abbrev pub nibbles_text : List ℕ → List ℕ
+nibbles_text d = codes " (nibbles [" ++ digits_text d ++ codes "])"
+
 -- a hex-prefix encoded path: its bytes, and its nibbles in brackets
 abbrev pub path_text : List ℕ → List ℕ
-path_text d = bytes_text d ++ codes " (nibbles [" ++ digits_text d ++ codes "])"
-
--- ---- addresses
+path_text d = bytes_text d ++ nibbles_text d
 
 -- an IPv4 address has 4 bytes, and an IPv6 address 16; other bytes are in hexadecimal
 abbrev pub ip_text : List ℕ → List ℕ
 ip_text d = if length d == 4 then ipv4_text d else if length d == 16 then ipv6_text (segments_of d) else bytes_text d
-
--- ---- words
 
 -- whether a byte is a lower-case letter or a digit
 abbrev pub is_word_byte : ℕ → Bool
@@ -116,8 +106,7 @@ line_steps = record {
   is_json = false;
   key = λ json s. s;
   put = λ name c s. s ++ line name c;
-  begin = λ bracket s. s;
-  finish = λ bracket s. s;
+  bracket = λ bracket s. s;
 }
 
 -- the lines of a value with a name

@@ -17,8 +17,6 @@ reason_of (inr reason) = reason
 abbrev pub disconnect_display : Display disconnect.reading.M
 disconnect_display = an_object (through reason_of (one (codes "reason") (codes "reason") a_number))
 
--- ---- greetings
-
 abbrev pub capability_display : Display capability.reading.M
 capability_display = an_object (same (codes "name") (bytes_as Word) (same (codes "version") a_number end))
 
@@ -65,8 +63,6 @@ status69_display = an_object (
     field (codes "genesis_hash") (codes "genesisHash") a_string (
     field (codes "fork_id") (codes "forkId") fork_id_display range_display))))
 
--- ---- announcements
-
 abbrev pub new_block_hash_display : Display new_block_hash.reading.M
 new_block_hash_display = an_object (same (codes "hash") a_string (same (codes "number") a_number end))
 
@@ -102,8 +98,6 @@ abbrev pub get_block_headers_display : Display get_block_headers.reading.M
 get_block_headers_display = an_object (
     field (codes "start_block") (codes "startBlock") hash_or_number_display (same (codes "limit") a_number (
     same (codes "skip") a_number (same (codes "reverse") a_bit end))))
-
--- ---- receipts of blocks
 
 -- a receipt since `eth/69`
 abbrev pub receipt69_display : Display receipt69.reading.M

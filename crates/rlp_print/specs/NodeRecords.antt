@@ -55,8 +55,6 @@ by_strings key other b c (Err d) (Ok e) first second is = let items = ap (item_s
 pub key_apart : (p q : List ℕ × List ℕ) → key_value p.0 p.1 ≡ key_value q.0 q.1 → key_told_by p.0 p.1 (read_string p.1) ≡ key_told_by q.0 q.1 (read_string q.1)
 key_apart p q is = by_strings p.0 q.0 p.1 q.1 (read_string p.1) (read_string q.1) refl refl is
 
--- ---- records
-
 -- values, each with its key
 abbrev pub key_value_display : Display (List ℕ × List ℕ)
 key_value_display = record {

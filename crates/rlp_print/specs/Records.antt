@@ -1,9 +1,9 @@
 -- What is shown of withdrawals, accounts, logs and receipts, and of the fault of a record.
 use Rattle.std.specs.Prelude.{codes, refl, ℕ, List, ◌≡◌, Option, Some, None}
+use Rattle.rlp.specs.{Form.Reading, Format.Encoding.encoding}
 use Rattle.rlp_headers.specs.{Account.account, Log.log, Receipt.receipt_fields, ReceiptStatus.receipt_status, TypedReceipt.typed_receipt, Withdrawal.withdrawal}
-use Rattle.rlp_print.specs.Display.{Display, Fields, a_bit, a_list, a_number, a_string, a_text, after_derived, an_object, bytes_as, end, field, field_if, in_order, number_as, one, same}
+use Rattle.rlp_print.specs.Display.{Display, Fields, a_bit, a_list, a_number, a_string, a_text, after_derived, an_object, and_type, bytes_as, end, field, field_if, in_order, last_type, no_type_entries, number_as, of_type, one, same}
 use Rattle.rlp_print.specs.Value.{Entries, bytes, content, entry, by_form}
-use Rattle.rlp_print.specs.Types.{and_type, last_type, no_type_entries, of_type}
 use Rattle.rlp_print.specs.declared.{sink.NumberKind.TheVariants.Place, sink.BytesKind.TheVariants.Any, sink.BytesKind.TheVariants.Sparse}
 
 -- An object with the one member `error`: the place of a field, if the fault is in one; the name of an item; and the fault.
@@ -11,6 +11,10 @@ abbrev pub fault_display : Display (Option ℕ × (List ℕ × List ℕ))
 fault_display = an_object (one (codes "error") (codes "error") (an_object (
     field_if (codes "field") (codes "field") (number_as Place) (
     same (codes "name") a_text (one (codes "fault") (codes "fault") a_text)))))
+
+-- the encoding of a value, by what contracts see of the value
+unfoldable pub written : {A : Type 0} (r : Reading A) → r.M → List ℕ
+written r m = encoding (r.item m)
 
 -- the hash that names a record
 abbrev pub hash_entries : List ℕ → Entries
@@ -28,8 +32,6 @@ account_display = an_object (
 
 abbrev pub log_display : Display log.reading.M
 log_display = an_object (same (codes "address") a_string (same (codes "topics") (a_list a_string) (same (codes "data") a_string end)))
-
--- ---- receipts
 
 -- The status of a receipt. In lines it is the bytes of the field. JSON has the status as a number, or before Byzantium the root of the trie of the state.
 abbrev pub status_entries : receipt_status.reading.M → Entries

@@ -4,17 +4,16 @@ use Rattle.std.proofs.Common.{inl, inr, ap, sym, ◌∙◌}
 use Rattle.keccak.specs.Keccak.{keccak256}
 use Rattle.rlp.specs.{Format.Encoding.encoding, Format.Encoding.list_of, Form.FieldsReading}
 use Rattle.rlp_records.specs.Alone.{bytes_alone}
-use Rattle.rlp_transactions.specs.{declared.eip155.Eip155.Eip155, Signatures.number_of, UnsignedTransaction.unsigned_transaction}
+use Rattle.rlp_transactions.specs.{declared.eip155.Eip155.Eip155, Eip155.said_by, Signatures.number_of, UnsignedTransaction.unsigned_transaction}
 use Rattle.rlp_transactions.specs.declared.signed.Signed.{Signed}
 use Rattle.rlp_transactions.specs.{Access.access_list, Access.access_list_item, AccessListTransaction.access_list_transaction_fields, AnyTransaction.any_transaction, Authorization.authorization_fields}
 use Rattle.rlp_transactions.specs.{Authorization.signed_authorization, BlobTransaction.blob_transaction_fields, BlobTransaction.signed_blob_transaction, Recipient.recipient}
 use Rattle.rlp_transactions.specs.{BlobWrapper.with_cell_proofs, BlobWrapper.with_proofs, FeeMarketTransaction.fee_market_transaction_fields, Transaction.transaction}
 use Rattle.rlp_transactions.specs.{LegacyTransaction.legacy_transaction_fields, LegacyTransaction.signed_legacy_transaction, OtherTransaction.other_type}
 use Rattle.rlp_transactions.specs.{SetCodeTransaction.set_code_transaction_fields, UnsignedLegacyTransaction.chain_fields, UnsignedLegacyTransaction.unsigned_legacy_transaction}
-use Rattle.rlp_print.specs.Display.{Display, Fields, a_bit, a_content, a_list, a_number, a_quantity, a_string, a_type, after_derived, an_object, bytes_as, derived, end, field, field_if, if_there, in_order, one, one_if, same, through}
-use Rattle.rlp_print.specs.{Lines.said_by, Records.hash_entries, declared.sink.NumberKind.TheVariants.Decimal, declared.sink.NumberKind.TheVariants.LegacyV}
+use Rattle.rlp_print.specs.Display.{Display, Fields, a_bit, a_content, a_list, a_number, a_quantity, a_string, a_type, after_derived, an_object, and_type, bytes_as, derived, either, end, field, field_if, if_there, in_order, last_type, no_type_entries, of_type, one, one_if, same, through}
+use Rattle.rlp_print.specs.{Records.hash_entries, Records.written, declared.sink.NumberKind.TheVariants.Decimal, declared.sink.NumberKind.TheVariants.LegacyV}
 use Rattle.rlp_print.specs.Value.{Content, Entries, both, by_form, bytes, content, entries_if, entry, nothing, number}
-use Rattle.rlp_print.specs.Types.{and_type, either, last_type, no_type_entries, of_type}
 use Rattle.rlp_print.specs.declared.sink.BytesKind.TheVariants.{Any, Null, Payload, Sparse}
 
 -- the bytes of an account, or none for a transaction that creates a contract
@@ -145,8 +144,8 @@ abbrev pub said_display : Fields (Option ℕ × Bool)
 said_display = field_if (codes "chain_id") (codes "chainId") a_number (one (codes "y_parity") (codes "yParity") a_bit)
 
 -- the hash that is signed of a payload, with the number of the chain if that is signed
-unfoldable pub legacy_hash : legacy_transaction_fields.reading.M → Option ℕ → List ℕ
-legacy_hash t chain = keccak256 (encoding (unsigned_legacy_transaction.reading.item (t, option_map chain_fields.reading.seen chain)))
+abbrev pub legacy_hash : legacy_transaction_fields.reading.M → Option ℕ → List ℕ
+legacy_hash t chain = keccak256 (written unsigned_legacy_transaction.reading (t, option_map chain_fields.reading.seen chain))
 
 -- the hash that is signed, if `v` says what that is
 abbrev pub legacy_signing_hash : legacy_transaction_fields.reading.M → Option Eip155 → Option (List ℕ)
@@ -206,10 +205,6 @@ any_transaction_display = an_object (after_derived (λ t. hash_entries (transact
 abbrev pub unsigned_legacy_display : Fields unsigned_legacy_transaction.reading.M
 unsigned_legacy_display = after_derived (λ t. no_type_entries) (
     in_order legacy_display (if_there (through (λ c. c.0) (one (codes "chain_id") (codes "chainId") a_number))))
-
--- the number of a type, and the fields of a payload
-abbrev pub after_type : {M : Type 0} → Fields M → Fields (ℕ × M)
-after_type f = same (codes "type") a_type f
 
 abbrev pub payload_display : Fields unsigned_transaction.reading.M
 payload_display = (

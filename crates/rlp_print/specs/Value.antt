@@ -1,7 +1,7 @@
 -- What is shown of a value, and how a sink takes it.
 use Rattle.std.specs.Prelude.{ℕ, List, [], ◌∷◌, Option, Some, None, ◌+◌, Bool, if◌then◌else◌, ◌++◌, codes, decimal}
 use Rattle.std.specs.Int.Digits.{number_from_digits}
-use Rattle.rlp_print.specs.declared.{sink.Bracket.Bracket, sink.Bracket.TheVariants.Brace, sink.Bracket.TheVariants.Square}
+use Rattle.rlp_print.specs.declared.sink.{Bracket.Bracket, Bracket.TheVariants.CloseBrace, Bracket.TheVariants.CloseSquare, Bracket.TheVariants.OpenBrace, Bracket.TheVariants.OpenSquare}
 use Rattle.rlp_print.specs.declared.{sink.NumberKind.NumberKind, sink.BytesKind.BytesKind, sink.Shown.Shown}
 use Rattle.rlp_print.specs.declared.sink.Shown.TheVariants.{Bytes, EmptyList, Number, Text, TypeByte}
 
@@ -67,16 +67,15 @@ pub record Steps (S : Type 0) : Type 0 where
   pub is_json : Bool
   pub key : List ℕ → S → S
   pub put : List ℕ → Content → S → S
-  pub begin : Bracket → S → S
-  pub finish : Bracket → S → S
+  pub bracket : Bracket → S → S
 
 -- what a sink holds after it took a value with this name, fields of a value with this name, or the items from place i on of a list with this name
 abbrev mutual
   pub after : {S : Type 0} → Steps S → List ℕ → Value → S → S
   after st name (content c) s = st.put name c s
-  after st name (object es) s = st.finish Brace (after_fields st name es (st.begin Brace s))
+  after st name (object es) s = st.bracket CloseBrace (after_fields st name es (st.bracket OpenBrace s))
   after st name (array no_values) s = st.put name empty_list s
-  after st name (array (value_and v vs)) s = st.finish Square (after_items st name 0 (value_and v vs) (st.begin Square s))
+  after st name (array (value_and v vs)) s = st.bracket CloseSquare (after_items st name 0 (value_and v vs) (st.bracket OpenSquare s))
 
   pub after_fields : {S : Type 0} → Steps S → List ℕ → Entries → S → S
   after_fields st name nothing s = s

@@ -4,16 +4,14 @@ ghost use Rattle.std.specs.Prelude.{◌≡◌, IfOk, map};
 ghost use Rattle.rlp_headers.specs.Forks.{cancun_fields, london_fields, shanghai_fields};
 ghost use Rattle.rlp_headers.specs.Header.{header};
 ghost use Rattle.rlp_ethereum.specs.{Block.block, Body.body};
-ghost use Rattle.rlp_print.specs.Blocks.{block_display, block_size, body_fields_display, cancun_display, hashed_header_display, header_display, seen_hash, london_display, more_of_block, shanghai_display};
+ghost use Rattle.rlp_print.specs.Blocks.{block_display, block_size, body_fields_display, cancun_display, hashed_header_display, header_display, london_display, more_of_block, seen_hash, shanghai_display};
 ghost use Rattle.rlp_print.specs.Display.{an_object, seen_as};
 
-use crate::show::{
-    ByForm, Items, Object, Show, ShowFields, field, fields, give_fields, show_fields,
-};
-use crate::sink::{BytesKind, Shown, Sink, bytes};
+use crate::records::{hash_of, written};
+use crate::show::{ByForm, Items, Object, Show, ShowFields, fields, give_fields, show_fields};
+use crate::sink::{BytesKind, Shown, Sink};
 use rlp_ethereum::{Block, Body};
 use rlp_headers::{Cancun, Header, London, Shanghai};
-use rlp_records::Hash;
 use std::alloc::{AllocError, Global};
 
 impl ShowFields for Cancun {
@@ -42,13 +40,6 @@ impl ShowFields for London {
     fn give<S: Sink>(&self, alloc: Global, name: &str, sink: &mut S) -> Result<(), AllocError> {
         give_fields!(alloc, name, sink; self.base_fee_per_gas "baseFeePerGas"; &self.since_shanghai)
     }
-}
-
-/// Returns the hash of a header.
-fn hash_of(alloc: Global, whole: &Header) -> Result<Hash, AllocError>
-    ensures { IfOk result (λ h. h ≡ seen_hash whole.now) }
-{
-    whole.hash(alloc)
 }
 
 /// The hash of the header, and its fields.
@@ -91,25 +82,33 @@ impl Show for Body {
     }
 }
 
+/// Returns the hash of a header.
+#[tactic(auto, unfolding(crate::specs::Blocks::seen_hash))]
+fn header_hash(alloc: Global, whole: &Header) -> Result<[u8; 32], AllocError>
+    ensures { IfOk result (λ h. h ≡ seen_hash whole.now) }
+{
+    hash_of(alloc, whole)
+}
+
 /// Returns the hashes of headers.
-fn hashes_of(alloc: Global, headers: &[Header]) -> Result<Vec<Hash>, AllocError>
+fn hashes_of(alloc: Global, headers: &[Header]) -> Result<Vec<[u8; 32]>, AllocError>
     ensures { IfOk result (λ hs. hs.items ≡ map seen_hash headers.now) }
 {
     let mut hashes = Vec::new(alloc);
     let mut rest = headers;
     while let [first, others @ ..] = rest {
-        hashes.push(hash_of(alloc, first)?)?;
+        hashes.push(header_hash(alloc, first)?)?;
         rest = others;
     }
     Ok(hashes)
 }
 
 /// Returns the number of bytes of a block.
-#[tactic(auto, using(crate::proofs::Written::block_written))]
+#[tactic(auto, unfolding(crate::specs::Blocks::block_size))]
 fn size_of(alloc: Global, whole: &Block) -> Result<u64, AllocError>
     ensures { IfOk result (λ n. n ≡ block_size (block.reading.seen whole.now)) }
 {
-    let bytes = rlp::encode(alloc, whole)?;
+    let bytes = written(alloc, whole)?;
     Ok(bytes.len() as u64)
 }
 
@@ -120,7 +119,7 @@ struct More<'a>(&'a Block);
 impl ShowFields for More<'_> {
     ghost fields = { seen_as (λ b. block.reading.seen b.0.now) more_of_block };
 
-    #[tactic(auto, using(crate::proofs::Written::hashes_seen))]
+    #[tactic(auto, using(crate::proofs::Hashes::hashes_seen))]
     fn give<S: Sink>(&self, alloc: Global, name: &str, sink: &mut S) -> Result<(), AllocError> {
         let uncles = hashes_of(alloc, self.0.ommers.as_slice())?;
         let size = size_of(alloc, self.0)?;
@@ -133,7 +132,7 @@ impl Show for Block {
 
     fn show<S: Sink>(&self, alloc: Global, name: &str, sink: &mut S) -> Result<(), AllocError> {
         show_fields!(alloc, name, sink;
-            ByForm(field!("header" "header" &self.header), &self.header);
+            ByForm(fields!("header" "header" &self.header), &self.header);
             fields!(
                 "transactions" "transactions" Items(&self.transactions);
                 "ommers" "ommers" Items(&self.ommers);

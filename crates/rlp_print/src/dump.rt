@@ -147,7 +147,7 @@ impl<'a> Dump<'a> {
     }
 
     /// Appends rows for the headers of the lists that come next.
-    #[tactic(auto, using(crate::proofs::DumpLemmas::lists_entered))]
+    #[tactic(auto, using(crate::proofs::TextLemmas::lists_entered))]
     fn enter_lists(&mut self) -> Result<(), AllocError>
         ensures { OnOk result (self.new ≡ enter_lists (length self.old.rest) self.old) }
     {
@@ -217,11 +217,7 @@ impl Sink for Dump<'_> {
         put_line(name, shown, &mut self.rows)
     }
 
-    fn begin(&mut self, _bracket: Bracket) -> Result<(), AllocError> {
-        Ok(())
-    }
-
-    fn finish(&mut self, _bracket: Bracket) -> Result<(), AllocError> {
+    fn bracket(&mut self, _bracket: Bracket) -> Result<(), AllocError> {
         Ok(())
     }
 }

@@ -4,15 +4,13 @@ ghost use Rattle.std.specs.Prelude.{◌≡◌, IfOk, not, OnOk, true, false, opt
 ghost use Rattle.rlp.specs.{Codec.raw_item, Views.View.item_views};
 ghost use Rattle.rlp_trie.specs.TrieNodeLaws.{trie_node};
 ghost use Rattle.rlp_print.specs.Display.{seen_as};
-ghost use Rattle.rlp_print.specs.Items.{branch_entries, items_shown, key_of, kind_of, node_bytes, node_display, node_shown, pair_entries, raw_item_display, shown_within, string_at};
+ghost use Rattle.rlp_print.specs.Items.{branch_entries, items_shown, key_of, kind_of, node_display, node_shown, pair_entries, raw_item_display, shown_within, string_at};
 ghost use Rattle.rlp_print.specs.Value.{after, object, values_of};
 
-use crate::show::{
-    ByForm, Show, ShowFields, field, fields, give_fields, inside, place_in, show_fields,
-};
+use crate::records::written;
+use crate::show::{ByForm, Show, ShowFields, fields, give_fields, inside, place_in, show_fields};
 use crate::sink::{Bracket, BytesKind, Shown, Sink, bytes};
 use crate::texts::put_digits;
-use bytes::BytesMut;
 use keccak::keccak256;
 use rlp::{RawItem, Rlp};
 use rlp_records::Hash;
@@ -101,7 +99,7 @@ fn show_items<S: Sink>(
     if items.is_empty() {
         return sink.put(name, Shown::EmptyList);
     }
-    sink.begin(Bracket::Square)?;
+    sink.bracket(Bracket::OpenSquare)?;
     let mut rest = items;
     let mut index = 0;
     while let [first, others @ ..] = rest {
@@ -110,7 +108,7 @@ fn show_items<S: Sink>(
         rest = others;
         index += 1;
     }
-    sink.finish(Bracket::Square)
+    sink.bracket(Bracket::CloseSquare)
 }
 
 /// Gives a list of items to a sink as a node: a leaf, an extension or a branch, which begins with the
@@ -173,16 +171,16 @@ fn show_pair<S: Sink>(
     let field = inside(alloc, name, key)?;
     let mut digits = String::new(alloc);
     put_digits(path, &mut digits)?;
-    sink.begin(Bracket::Brace)?;
+    sink.bracket(Bracket::OpenBrace)?;
     give_fields!(alloc, name, sink;
         "hash" "hash" ? &hash;
         "node" "node" Shown::Text(kind);
         "path" "path" Shown::Bytes(BytesKind::Path, path);
-        ByForm((), field!("nibbles" "nibbles" Shown::Text(digits.as_str())))
+        ByForm((), fields!("nibbles" "nibbles" Shown::Text(digits.as_str())))
     )?;
     sink.key(key)?;
     show_item(alloc, field.as_str(), raw, most, !is_leaf, sink)?;
-    sink.finish(Bracket::Brace)
+    sink.bracket(Bracket::CloseBrace)
 }
 
 /// Gives a branch with these children to a sink. Its value is the item that bytes begin with.
@@ -203,7 +201,7 @@ fn show_branch<S: Sink>(
 {
     let children_name = inside(alloc, name, "children")?;
     let value_name = inside(alloc, name, "value")?;
-    sink.begin(Bracket::Brace)?;
+    sink.bracket(Bracket::OpenBrace)?;
     give_fields!(alloc, name, sink;
         "hash" "hash" ? &hash;
         "node" "node" Shown::Text("branch")
@@ -212,15 +210,7 @@ fn show_branch<S: Sink>(
     show_items(alloc, children_name.as_str(), children, most, true, sink)?;
     sink.key("value")?;
     show_item(alloc, value_name.as_str(), raw, most, false, sink)?;
-    sink.finish(Bracket::Brace)
-}
-
-/// Returns the encoding of a node.
-#[tactic(auto, using(crate::proofs::Written::node_written))]
-fn node_bytes(alloc: Global, node: &TrieNode) -> Result<BytesMut, AllocError>
-    ensures { IfOk result (λ b. b.items ≡ node_bytes (trie_node.reading.seen node.now)) }
-{
-    rlp::encode(alloc, node)
+    sink.bracket(Bracket::CloseBrace)
 }
 
 /// The hash of the node, its kind and its fields.
@@ -229,7 +219,7 @@ impl Show for TrieNode {
 
     #[tactic(auto, using(crate::proofs::ItemLemmas::other_nodes))]
     fn show<S: Sink>(&self, alloc: Global, name: &str, sink: &mut S) -> Result<(), AllocError> {
-        let bytes = node_bytes(alloc, self)?;
+        let bytes = written(alloc, self)?;
         let hash = Some(Hash(keccak256(bytes.as_slice())));
         if let TrieNode::Empty = self {
             return show_fields!(alloc, name, sink;

@@ -1,6 +1,6 @@
 //! JSON with the names of Ethereum's execution API.
 
-ghost use Rattle.std.specs.Prelude.{◌≡◌, ◌++◌, [], true, string_bytes, OnOk, IfOk};
+ghost use Rattle.std.specs.Prelude.{◌≡◌, ◌++◌, string_bytes, OnOk, IfOk};
 ghost use Rattle.rlp_print.specs.Json.{Json as JsonSeen, comma, content_json, json_steps, json_of};
 ghost use Rattle.rlp_print.specs.{Display.shown_of, Value.content_of};
 
@@ -11,20 +11,23 @@ use rlp::Uint;
 use std::alloc::{AllocError, Global};
 use std::fmt::Write;
 
-/// A text to which values are added as JSON, without spaces.
+/// JSON without spaces.
 #[derive(Drop)]
-pub struct Json {
+struct Json {
     /// The text so far.
-    pub text: String,
+    text: String,
     /// Whether a value may come next without a comma before it.
-    pub is_fresh: bool,
+    is_fresh: bool,
 }
 
 /// Returns the JSON of a value, without spaces.
 pub fn json_of<T: Show>(alloc: Global, value: &T) -> Result<String, AllocError>
     ensures { IfOk result (λ text. string_bytes text ≡ json_of (shown_of T.display value.now)) }
 {
-    let mut json = Json::new(alloc);
+    let mut json = Json {
+        text: String::new(alloc),
+        is_fresh: true,
+    };
     value.show(alloc, "", &mut json)?;
     Ok(json.text)
 }
@@ -57,17 +60,6 @@ fn put_content(shown: Shown<'_>, out: &mut String) -> Result<(), AllocError>
 }
 
 impl Json {
-    /// Returns no JSON yet.
-    pub fn new(alloc: Global) -> Json
-        ensures text { string_bytes result.text ≡ [] }
-        ensures fresh { result.is_fresh ≡ true }
-    {
-        Json {
-            text: String::new(alloc),
-            is_fresh: true,
-        }
-    }
-
     /// Appends a comma, if one is needed before the next value.
     fn put_comma(&mut self) -> Result<(), AllocError>
         ensures text { OnOk result
@@ -107,22 +99,17 @@ impl Sink for Json {
         Ok(())
     }
 
-    fn begin(&mut self, bracket: Bracket) -> Result<(), AllocError> {
-        self.put_comma()?;
-        match bracket {
-            Bracket::Brace => self.text.push('{')?,
-            Bracket::Square => self.text.push('[')?,
+    fn bracket(&mut self, bracket: Bracket) -> Result<(), AllocError> {
+        let (text, opens) = match bracket {
+            Bracket::OpenBrace => ('{', true),
+            Bracket::OpenSquare => ('[', true),
+            Bracket::CloseBrace => ('}', false),
+            Bracket::CloseSquare => (']', false),
+        };
+        if opens {
+            self.put_comma()?;
         }
-        self.is_fresh = true;
-        Ok(())
-    }
-
-    fn finish(&mut self, bracket: Bracket) -> Result<(), AllocError> {
-        match bracket {
-            Bracket::Brace => self.text.push('}')?,
-            Bracket::Square => self.text.push(']')?,
-        }
-        self.is_fresh = false;
-        Ok(())
+        self.is_fresh = opens;
+        self.text.push(text)
     }
 }

@@ -19,8 +19,8 @@ mod texts;
 mod transactions;
 
 pub use dump::dump_of;
-pub use json::{Json, json_of};
-pub use lines::{Lines, lines_of};
-pub use records::{Fault, Place};
+pub use json::json_of;
+pub use lines::lines_of;
+pub use records::Fault;
 pub use show::{ByForm, Items, Named, NamedIf, Object, Show, ShowFields};
 pub use sink::{Bracket, BytesKind, NumberKind, Shown, Sink};

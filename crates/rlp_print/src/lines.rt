@@ -1,6 +1,6 @@
 //! A line for each content.
 
-ghost use Rattle.std.specs.Prelude.{◌≡◌, ◌++◌, [], List, ℕ, string_bytes, OnOk, IfOk};
+ghost use Rattle.std.specs.Prelude.{◌≡◌, ◌++◌, List, ℕ, string_bytes, OnOk, IfOk};
 ghost use Rattle.rlp_print.specs.Lines.{content_text, line, line_steps, lines};
 ghost use Rattle.rlp_print.specs.{Display.shown_of, Value.content_of};
 
@@ -11,32 +11,14 @@ use rlp::Uint;
 use std::alloc::{AllocError, Global};
 use std::fmt::Write;
 
-/// A text to which a line is added for each content: its name, a colon and the content.
-#[derive(Drop)]
-pub struct Lines {
-    /// The lines so far.
-    pub text: String,
-}
-
-impl Lines {
-    /// Returns no lines.
-    pub fn new(alloc: Global) -> Lines
-        ensures { string_bytes result.text ≡ [] }
-    {
-        Lines {
-            text: String::new(alloc),
-        }
-    }
-}
-
 /// Returns the lines of a value of this name. A whole record has no name, and the lines of its
 /// fields have the names of the fields alone.
 pub fn lines_of<T: Show>(alloc: Global, name: &str, value: &T) -> Result<String, AllocError>
     ensures { IfOk result (λ text. string_bytes text ≡ lines name.now (shown_of T.display value.now)) }
 {
-    let mut lines = Lines::new(alloc);
+    let mut lines = String::new(alloc);
     value.show(alloc, name, &mut lines)?;
-    Ok(lines.text)
+    Ok(lines)
 }
 
 /// Appends the line of a content of this name.
@@ -70,10 +52,11 @@ fn put_content(shown: Shown<'_>, out: &mut String) -> Result<(), AllocError>
     }
 }
 
-impl Sink for Lines {
+/// A line for each content: its name, a colon and the content.
+impl Sink for String {
     ghost Seen = { List ℕ };
 
-    ghost seen = { λ s. string_bytes s.text };
+    ghost seen = { λ s. string_bytes s };
 
     ghost steps = { line_steps };
 
@@ -86,14 +69,10 @@ impl Sink for Lines {
     }
 
     fn put(&mut self, name: &str, shown: Shown<'_>) -> Result<(), AllocError> {
-        put_line(name, shown, &mut self.text)
+        put_line(name, shown, self)
     }
 
-    fn begin(&mut self, _bracket: Bracket) -> Result<(), AllocError> {
-        Ok(())
-    }
-
-    fn finish(&mut self, _bracket: Bracket) -> Result<(), AllocError> {
+    fn bracket(&mut self, _bracket: Bracket) -> Result<(), AllocError> {
         Ok(())
     }
 }

@@ -8,7 +8,7 @@ ghost use Rattle.rlp_print.specs.Display.{a_list, an_object, end, seen_as};
 ghost use Rattle.rlp_print.specs.Records.{typed_receipt_display};
 ghost use Rattle.rlp_print.specs.Messages as shown;
 
-use crate::show::{Items, Object, Show, ShowFields, field, fields, show_fields};
+use crate::show::{Items, Object, Show, ShowFields, give_fields, show_fields};
 use crate::sink::{BytesKind, Shown, Sink, bytes, number};
 use rlp_eth::{
     BlockRangeUpdate, BlockReceipts, BlockReceipts69, ForkId, GetBlockHeaders, HashOrNumber,
@@ -17,8 +17,6 @@ use rlp_eth::{
 };
 use rlp_p2p::{Capability, Disconnect, FurtherItem, Hello, Ping, Pong};
 use std::alloc::{AllocError, Global};
-
-// ---- what a client knows of the chain
 
 impl Show for ForkId {
     ghost display = { seen_as fork_id.reading.seen shown.fork_id_display };
@@ -66,8 +64,6 @@ impl Show for BlockRangeUpdate {
     }
 }
 
-// ---- announcements
-
 impl Show for NewBlockHash {
     ghost display = { seen_as new_block_hash.reading.seen shown.new_block_hash_display };
 
@@ -97,8 +93,6 @@ impl Show for NewBlock {
         )
     }
 }
-
-// ---- requests and their answers
 
 impl<T: Show> Show for WithRequestId<T> {
     ghost display = { seen_as (λ w. (w.request_id, T.display.seen w.content))
@@ -131,8 +125,6 @@ impl Show for GetBlockHeaders {
     }
 }
 
-// ---- receipts of blocks
-
 impl Show for BlockReceipts {
     ghost display = { seen_as block_receipts.reading.seen (a_list typed_receipt_display) };
 
@@ -145,8 +137,9 @@ impl Show for Receipt69 {
     ghost display = { seen_as receipt69.reading.seen shown.receipt69_display };
 
     fn show<S: Sink>(&self, alloc: Global, name: &str, sink: &mut S) -> Result<(), AllocError> {
+        let kind = number(self.transaction_type as u64);
         show_fields!(alloc, name, sink;
-            self.transaction_type "transactionType";
+            "transaction_type" "transactionType" kind;
             &self.status_or_state_root;
             self.cumulative_gas_used "cumulativeGasUsed";
             "logs" "logs" Items(&self.logs);
@@ -161,8 +154,6 @@ impl Show for BlockReceipts69 {
         Items(&self.0).show(alloc, name, sink)
     }
 }
-
-// ---- messages of `p2p`
 
 /// An object without fields.
 impl Show for Ping {
@@ -226,7 +217,7 @@ impl ShowFields for Further<'_> {
     fn give<S: Sink>(&self, alloc: Global, name: &str, sink: &mut S) -> Result<(), AllocError> {
         match self.0.as_slice() {
             [] => Ok(()),
-            [_, ..] => (field!("further" "further" Items(self.0)), ()).give(alloc, name, sink),
+            [_, ..] => give_fields!(alloc, name, sink; "further" "further" Items(self.0);),
         }
     }
 }

@@ -1,27 +1,34 @@
-//! Numbers and strings, withdrawals, accounts, logs, receipts, and faults of records.
+//! Encodings and hashes, numbers and strings, withdrawals, accounts, logs, receipts, and faults of records.
 
-ghost use Rattle.std.specs.{Prelude.option_map, Vec.vec_items};
+ghost use Rattle.std.specs.{Prelude.◌≡◌, Prelude.IfOk, Vec.vec_items};
+ghost use Rattle.keccak.specs.Keccak.{keccak256};
 ghost use Rattle.rlp.specs.Codec.{uint};
 ghost use Rattle.rlp_headers.specs.{Account.account, Log.log, Receipt.receipt, ReceiptStatus.receipt_status, TypedReceipt.typed_receipt, Withdrawal.withdrawal, Withdrawal.withdrawals};
-ghost use Rattle.rlp_print.specs.Display.{a_list, a_number, a_string, number_as, seen_as};
-ghost use Rattle.rlp_print.specs.declared.sink.NumberKind.TheVariants.{Place};
-ghost use Rattle.rlp_print.specs.Records.{account_display, fault_display, log_display, receipt_display, status_fields, typed_receipt_display, withdrawal_display};
+ghost use Rattle.rlp_print.specs.Display.{a_list, a_number, a_string, seen_as};
+ghost use Rattle.rlp_print.specs.Records.{account_display, fault_display, log_display, receipt_display, status_fields, typed_receipt_display, withdrawal_display, written};
 
-use crate::show::{
-    ByForm, Items, Object, Show, ShowFields, field, fields, give_fields, show_fields,
-};
+use crate::show::{ByForm, Items, Object, Show, ShowFields, fields, give_fields, show_fields};
 use crate::sink::{BytesKind, NumberKind, Shown, Sink, bytes, number};
-use rlp::Uint;
+use bytes::BytesMut;
+use keccak::keccak256;
+use rlp::{RoundTrip, Uint};
 use rlp_headers::{Account, Log, Receipt, ReceiptStatus, TypedReceipt, Withdrawal, Withdrawals};
 use rlp_records::{Address, Hash};
 use std::alloc::{AllocError, Global};
 
-impl Show for u8 {
-    ghost display = { seen_as (λ n. n) a_number };
+/// Returns the encoding of a value.
+pub(crate) fn written<T: RoundTrip>(alloc: Global, value: &T) -> Result<BytesMut, AllocError>
+    ensures { IfOk result (λ b. b.items ≡ written T.reading (T.reading.seen value.now)) }
+{
+    rlp::encode(alloc, value)
+}
 
-    fn show<S: Sink>(&self, _alloc: Global, name: &str, sink: &mut S) -> Result<(), AllocError> {
-        sink.put(name, number(u64::from(*self)))
-    }
+/// Returns the hash of the encoding of a value.
+pub(crate) fn hash_of<T: RoundTrip>(alloc: Global, value: &T) -> Result<[u8; 32], AllocError>
+    ensures { IfOk result (λ h. h ≡ keccak256 (written T.reading (T.reading.seen value.now))) }
+{
+    let bytes = written(alloc, value)?;
+    Ok(keccak256(bytes.as_slice()))
 }
 
 impl Show for u64 {
@@ -118,13 +125,13 @@ impl ShowFields for ReceiptStatus {
     fn give<S: Sink>(&self, alloc: Global, name: &str, sink: &mut S) -> Result<(), AllocError> {
         let (digits, success): (&[u8], u64) = match self {
             ReceiptStatus::StateRoot(root) => {
-                return field!("status_or_state_root" "root" root).give(alloc, name, sink);
+                return fields!("status_or_state_root" "root" root).give(alloc, name, sink);
             }
             ReceiptStatus::Failure => (&[], 0),
             ReceiptStatus::Success => (&[1], 1),
         };
-        let lines = field!("status_or_state_root" "status" bytes(digits));
-        let json = field!("status_or_state_root" "status" number(success));
+        let lines = fields!("status_or_state_root" "status" bytes(digits));
+        let json = fields!("status_or_state_root" "status" number(success));
         ByForm(lines, json).give(alloc, name, sink)
     }
 }
@@ -148,7 +155,7 @@ impl Show for TypedReceipt {
     fn show<S: Sink>(&self, alloc: Global, name: &str, sink: &mut S) -> Result<(), AllocError> {
         let (kind, receipt) = match self {
             TypedReceipt::Legacy(receipt) => {
-                let kind = ByForm((), field!("type" "type" Shown::TypeByte(0)));
+                let kind = ByForm((), fields!("type" "type" Shown::TypeByte(0)));
                 return Object(&(kind, receipt)).show(alloc, name, sink);
             }
             TypedReceipt::AccessList(receipt) => (1, receipt),
@@ -156,20 +163,8 @@ impl Show for TypedReceipt {
             TypedReceipt::Blob(receipt) => (3, receipt),
             TypedReceipt::SetCode(receipt) => (4, receipt),
         };
-        let kind = field!("type" "type" Shown::TypeByte(kind));
+        let kind = fields!("type" "type" Shown::TypeByte(kind));
         Object(&(kind, receipt)).show(alloc, name, sink)
-    }
-}
-
-/// A place, counted from 0.
-#[derive(Debug, Clone, Copy, PartialEq, Eq)]
-pub struct Place(pub u64);
-
-impl Show for Place {
-    ghost display = { seen_as (λ p. p.0) (number_as Place) };
-
-    fn show<S: Sink>(&self, _alloc: Global, name: &str, sink: &mut S) -> Result<(), AllocError> {
-        sink.put(name, Shown::Number(NumberKind::Place, Uint::from(self.0)))
     }
 }
 
@@ -179,7 +174,7 @@ impl Show for Place {
 pub struct Fault<'a> {
     /// The place of the field at fault, counted from 0 in the outermost record, or `None` if the
     /// record is at fault as a whole.
-    pub field: Option<Place>,
+    pub field: Option<u64>,
     /// The name of the item at fault.
     pub name: &'a str,
     /// The name of the fault, such as `RlpIsTooBig`, or its text. It has no quotes, backslashes and
@@ -189,14 +184,18 @@ pub struct Fault<'a> {
 
 impl Show for Fault<'_> {
     ghost display = { seen_as
-        (λ f. (option_map (λ p. p.0) f.field, (f.name.now, f.fault.now))) fault_display };
+        (λ f. (f.field, (f.name.now, f.fault.now))) fault_display };
 
     fn show<S: Sink>(&self, alloc: Global, name: &str, sink: &mut S) -> Result<(), AllocError> {
+        let place = match self.field {
+            Some(field) => Some(Shown::Number(NumberKind::Place, Uint::from(field))),
+            None => None,
+        };
         let fault = fields!(
-            "field" "field" ? &self.field;
+            "field" "field" ? &place;
             "name" "name" Shown::Text(self.name);
             "fault" "fault" Shown::Text(self.fault)
         );
-        Object(&field!("error" "error" Object(&fault))).show(alloc, name, sink)
+        Object(&fields!("error" "error" Object(&fault))).show(alloc, name, sink)
     }
 }

@@ -52,38 +52,24 @@ pub trait ShowFields {
 
 /// A field: its name in lines, its name in JSON, and its value.
 #[derive(Clone, Copy)]
-pub struct Named<'a, V> {
-    /// The name in lines.
-    pub name: &'a str,
-    /// The name in JSON.
-    pub json: &'a str,
-    /// The value.
-    pub value: V,
-}
+pub struct Named<'a, V>(pub &'a str, pub &'a str, pub V);
+
+/// A field that may be missing: its name in lines, its name in JSON, and its value.
+#[derive(Clone, Copy)]
+pub struct NamedIf<'a, V>(pub &'a str, pub &'a str, pub &'a Option<V>);
 
 /// Fields that are shown in lines, and fields that are shown in JSON in their place.
 #[derive(Clone, Copy)]
 pub struct ByForm<P, Q>(pub P, pub Q);
 
-/// A field that may be missing.
-#[derive(Clone, Copy)]
-pub struct NamedIf<'a, T> {
-    /// The name in lines.
-    pub name: &'a str,
-    /// The name in JSON.
-    pub json: &'a str,
-    /// The value, if there is one.
-    pub value: &'a Option<T>,
-}
-
 impl<V: Show> ShowFields for Named<'_, V> {
-    ghost fields = { seen_as (λ f. (f.name.now, (f.json.now, V.display.seen f.value)))
+    ghost fields = { seen_as (λ f. (f.0.now, (f.1.now, V.display.seen f.2)))
         (named V.display.form) };
 
     fn give<S: Sink>(&self, alloc: Global, name: &str, sink: &mut S) -> Result<(), AllocError> {
-        sink.key(self.json)?;
-        let name = inside(alloc, name, self.name)?;
-        self.value.show(alloc, name.as_str(), sink)
+        sink.key(self.1)?;
+        let name = inside(alloc, name, self.0)?;
+        self.2.show(alloc, name.as_str(), sink)
     }
 }
 
@@ -137,18 +123,13 @@ impl<T: ShowFields> ShowFields for Option<T> {
     }
 }
 
-impl<T: Show> ShowFields for NamedIf<'_, T> {
-    ghost fields = { seen_as (λ f. option_map (λ m. (f.name.now, (f.json.now, m)))
-        (option_map T.display.seen f.value.now)) (if_there (named T.display.form)) };
+impl<V: Show> ShowFields for NamedIf<'_, V> {
+    ghost fields = { seen_as (λ f. option_map (λ m. (f.0.now, (f.1.now, m)))
+        (option_map V.display.seen f.2.now)) (if_there (named V.display.form)) };
 
     fn give<S: Sink>(&self, alloc: Global, name: &str, sink: &mut S) -> Result<(), AllocError> {
-        match self.value {
-            Some(value) => Named {
-                name: self.name,
-                json: self.json,
-                value,
-            }
-            .give(alloc, name, sink),
+        match self.2 {
+            Some(value) => Named(self.0, self.1, value).give(alloc, name, sink),
             None => Ok(()),
         }
     }
@@ -162,9 +143,9 @@ impl<T: ShowFields> Show for Object<'_, T> {
     ghost display = { seen_as (λ o. T.fields.seen o.0.now) (an_object T.fields.form) };
 
     fn show<S: Sink>(&self, alloc: Global, name: &str, sink: &mut S) -> Result<(), AllocError> {
-        sink.begin(Bracket::Brace)?;
+        sink.bracket(Bracket::OpenBrace)?;
         self.0.give(alloc, name, sink)?;
-        sink.finish(Bracket::Brace)
+        sink.bracket(Bracket::CloseBrace)
     }
 }
 
@@ -182,7 +163,7 @@ impl<T: Show> Show for Items<'_, T> {
         if rest.is_empty() {
             return sink.put(name, Shown::EmptyList);
         }
-        sink.begin(Bracket::Square)?;
+        sink.bracket(Bracket::OpenSquare)?;
         let mut index = 0;
         while let Some((first, others)) = rest.split_first() {
             let place = place_in(alloc, name, index)?;
@@ -190,7 +171,7 @@ impl<T: Show> Show for Items<'_, T> {
             rest = others;
             index += 1;
         }
-        sink.finish(Bracket::Square)
+        sink.bracket(Bracket::CloseSquare)
     }
 }
 
@@ -218,22 +199,6 @@ pub(crate) fn place_in(alloc: Global, name: &str, index: usize) -> Result<String
     }
 }
 
-/// A field: its name in lines, its name in JSON, and its value.
-macro_rules! field {
-    ($name:literal $json:literal $value:expr) => {
-        $crate::show::Named { name: $name, json: $json, value: $value }
-    };
-    ($name:literal $json:literal ? $value:expr) => {
-        $crate::show::NamedIf { name: $name, json: $json, value: $value }
-    };
-    ($owner:tt . $field:ident $json:literal) => {
-        $crate::show::Named { name: stringify!($field), json: $json, value: &$owner.$field }
-    };
-    ($part:expr) => {
-        $part
-    };
-}
-
 /// Fields as nested pairs: for each the name in lines, the name in JSON and the value, or the fields
 /// of a part. After a `?` the value may be missing. A field of a struct that has its own name in lines
 /// is `self.gas_price "gasPrice"`, with the name in JSON. The last pair ends with the last field, or
@@ -242,20 +207,25 @@ macro_rules! fields {
     () => {
         ()
     };
-    ($name:literal $json:literal $value:expr; $($rest:tt)*) => {
-        ($crate::show::field!($name $json $value), $crate::show::fields!($($rest)*))
+    (@ $part:expr,) => {
+        $part
     };
-    ($name:literal $json:literal ? $value:expr; $($rest:tt)*) => {
-        ($crate::show::field!($name $json ? $value), $crate::show::fields!($($rest)*))
-    };
-    ($owner:tt . $field:ident $json:literal; $($rest:tt)*) => {
-        ($crate::show::field!($owner . $field $json), $crate::show::fields!($($rest)*))
-    };
-    ($part:expr; $($rest:tt)*) => {
+    (@ $part:expr, ; $($rest:tt)*) => {
         ($part, $crate::show::fields!($($rest)*))
     };
-    ($($last:tt)*) => {
-        $crate::show::field!($($last)*)
+    ($name:literal $json:literal ? $value:expr $(; $($rest:tt)*)?) => {
+        $crate::show::fields!(@ $crate::show::NamedIf($name, $json, $value), $(; $($rest)*)?)
+    };
+    ($name:literal $json:literal $value:expr $(; $($rest:tt)*)?) => {
+        $crate::show::fields!(@ $crate::show::Named($name, $json, $value), $(; $($rest)*)?)
+    };
+    ($owner:tt . $field:ident $json:literal $(; $($rest:tt)*)?) => {
+        $crate::show::fields!(
+            @ $crate::show::Named(stringify!($field), $json, &$owner.$field), $(; $($rest)*)?
+        )
+    };
+    ($part:expr $(; $($rest:tt)*)?) => {
+        $crate::show::fields!(@ $part, $(; $($rest)*)?)
     };
 }
 
@@ -273,7 +243,6 @@ macro_rules! show_fields {
     };
 }
 
-pub(crate) use field;
 pub(crate) use fields;
 pub(crate) use give_fields;
 pub(crate) use show_fields;

@@ -68,13 +68,17 @@ pub(crate) fn bytes(bytes: &[u8]) -> Shown<'_>
     Shown::Bytes(BytesKind::Any, bytes)
 }
 
-/// What stands between the fields of an object or the items of a list and what is around them.
+/// What stands around the fields of an object, and around the items of a list that has items.
 #[derive(Clone, Copy)]
 pub enum Bracket {
-    /// The brackets of an object.
-    Brace,
-    /// The brackets of a list.
-    Square,
+    /// The beginning of an object.
+    OpenBrace,
+    /// The end of an object.
+    CloseBrace,
+    /// The beginning of a list.
+    OpenSquare,
+    /// The end of a list.
+    CloseSquare,
 }
 
 /// What takes a value, part by part and in order.
@@ -102,11 +106,7 @@ pub trait Sink {
         ensures { OnOk result
             (seen self.new ≡ steps.put name.now (content_of shown.entry) (seen self.old)) };
 
-    /// Takes the beginning of an object or of a list that has items.
-    fn begin(&mut self, bracket: Bracket) -> Result<(), AllocError>
-        ensures { OnOk result (seen self.new ≡ steps.begin bracket (seen self.old)) };
-
-    /// Takes the end of it.
-    fn finish(&mut self, bracket: Bracket) -> Result<(), AllocError>
-        ensures { OnOk result (seen self.new ≡ steps.finish bracket (seen self.old)) };
+    /// Takes the beginning or the end of an object or of a list that has items.
+    fn bracket(&mut self, bracket: Bracket) -> Result<(), AllocError>
+        ensures { OnOk result (seen self.new ≡ steps.bracket bracket (seen self.old)) };
 }

@@ -2,7 +2,7 @@
 
 ghost use Rattle.std.specs.Prelude.{◌≡◌, ◌==◌, ◌++◌, string_bytes, OnOk, Some, ◌<◌, [], ◌∷◌, false};
 ghost use Rattle.std.specs.{Fmt.digit_glyph, Int.Digits.number_from_digits, List.list_all};
-ghost use Rattle.rlp_print.specs.Lines.{bytes_text, digits_text, hex_text, ip_text, is_word, is_word_byte, meaning_text, path_text, said_by, sparse_text, v_text, word_text};
+ghost use Rattle.rlp_print.specs.Lines.{bytes_text, digits_text, hex_text, ip_text, is_word, is_word_byte, meaning_text, nibbles_text, path_text, sparse_text, v_text, word_text};
 
 use rlp::Uint;
 use rlp_lines::push_bytes;
@@ -74,14 +74,6 @@ pub(crate) fn put_sparse(bytes: &[u8], out: &mut String) -> Result<(), AllocErro
     put_bytes(bytes, out)
 }
 
-/// Returns what `v` says of the chain and the parity.
-#[tactic(auto, using(crate::proofs::NumberLemmas::what_v_says))]
-pub(crate) fn said_by(v: &Uint<32>) -> Option<Eip155>
-    ensures { result ≡ said_by (number_from_digits 256 v.now.bytes) }
-{
-    Eip155::from_v(v)
-}
-
 /// Appends what a `v` says, if it says something.
 fn put_meaning(said: Option<Eip155>, out: &mut String) -> Result<(), AllocError>
     ensures { OnOk result (string_bytes out.new ≡ string_bytes out.old ++ meaning_text said) }
@@ -102,7 +94,7 @@ pub(crate) fn put_v(v: &Uint<32>, out: &mut String) -> Result<(), AllocError>
         ≡ string_bytes out.old ++ v_text (number_from_digits 256 v.now.bytes)) }
 {
     write!(out, "{v}")?;
-    put_meaning(said_by(v), out)
+    put_meaning(Eip155::from_v(v), out)
 }
 
 /// Appends a nibble as a hexadecimal digit.
@@ -132,14 +124,22 @@ pub(crate) fn put_digits(path: &[u8], out: &mut String) -> Result<(), AllocError
     push_bytes(rest, out)
 }
 
+/// Appends the nibbles of an encoded path, in brackets.
+fn put_nibbles(path: &[u8], out: &mut String) -> Result<(), AllocError>
+    ensures { OnOk result (string_bytes out.new ≡ string_bytes out.old ++ nibbles_text path.now) }
+{
+    out.push_str(" (nibbles [")?;
+    put_digits(path, out)?;
+    out.push_str("])")?;
+    Ok(())
+}
+
 /// Appends the bytes of an encoded path, and its nibbles.
 pub(crate) fn put_path(path: &[u8], out: &mut String) -> Result<(), AllocError>
     ensures { OnOk result (string_bytes out.new ≡ string_bytes out.old ++ path_text path.now) }
 {
     put_bytes(path, out)?;
-    out.push_str(" (nibbles [")?;
-    put_digits(path, out)?;
-    out.push_str("])")
+    put_nibbles(path, out)
 }
 
 /// Returns whether all bytes are lower-case letters and digits.
@@ -162,7 +162,7 @@ fn is_word(bytes: &[u8]) -> bool
 }
 
 /// Appends a word as it is, and other bytes in hexadecimal.
-#[tactic(auto, using(crate::proofs::WordLemmas::words_are_text))]
+#[tactic(auto, using(crate::proofs::TextLemmas::words_are_text))]
 pub(crate) fn put_word_or_bytes(bytes: &[u8], out: &mut String) -> Result<(), AllocError>
     ensures { OnOk result (string_bytes out.new ≡ string_bytes out.old ++ word_text bytes.now) }
 {

@@ -2,7 +2,7 @@
 //! blobs.
 
 ghost use Rattle.std.specs.Int.Digits.{number_from_digits};
-ghost use Rattle.std.specs.Prelude.{◌≡◌, ◌==◌, IfOk, option_map};
+ghost use Rattle.std.specs.Prelude.{◌≡◌, ◌==◌, IfOk};
 ghost use Rattle.rlp_transactions.specs.{Access.access_list_item, AccessListTransaction.access_list_transaction_fields, AnyTransaction.any_transaction, Authorization.authorization_fields};
 ghost use Rattle.rlp_transactions.specs.{Authorization.signed_authorization, Blob.blob, BlobTransaction.blob_transaction_fields, BlobTransaction.signed_blob_transaction, Recipient.recipient};
 ghost use Rattle.rlp_transactions.specs.{BlobWrapper.with_cell_proofs, BlobWrapper.with_proofs, FeeMarketTransaction.fee_market_transaction_fields, Transaction.transaction};
@@ -11,9 +11,10 @@ ghost use Rattle.rlp_transactions.specs.{UnsignedLegacyTransaction.unsigned_lega
 ghost use Rattle.rlp_print.specs.{Display.bytes_as, Display.seen_as, Value.content_of, declared.sink.BytesKind.TheVariants.Sparse};
 ghost use Rattle.rlp_print.specs.Transactions as shown;
 
-use crate::show::{ByForm, Items, Show, ShowFields, field, fields, give_fields, show_fields};
+use crate::records::hash_of;
+use crate::show::{ByForm, Items, Show, ShowFields, fields, give_fields, show_fields};
 use crate::sink::{BytesKind, NumberKind, Shown, Sink, bytes, number};
-use crate::texts::{are_zero, said_by};
+use crate::texts::are_zero;
 use keccak::keccak256;
 use rlp::Uint;
 use rlp_records::Hash;
@@ -144,7 +145,7 @@ impl<T: TypedTransaction + ShowFields> ShowFields for Signed<T, bool> {
             "type" "type" Shown::TypeByte(T::TAG);
             &self.payload;
             "y_parity" "yParity" number(self.v as u64);
-            ByForm((), field!("v" "v" number(self.v as u64)));
+            ByForm((), fields!("v" "v" number(self.v as u64)));
             "r" "r" Shown::Number(NumberKind::Quantity, self.r);
             "s" "s" Shown::Number(NumberKind::Quantity, self.s);
             "signing_hash" "signingHash" &hash
@@ -160,7 +161,7 @@ impl Show for SignedAuthorization {
         let hash = signing_hash_of(alloc, &self.payload)?;
         show_fields!(alloc, name, sink;
             &self.payload;
-            "y_parity" "yParity" &self.v;
+            "y_parity" "yParity" number(u64::from(self.v));
             "r" "r" Shown::Number(NumberKind::Quantity, self.r);
             "s" "s" Shown::Number(NumberKind::Quantity, self.s);
             "signing_hash" "signingHash" &hash
@@ -180,23 +181,13 @@ impl ShowFields for Eip155 {
     }
 }
 
-/// Returns the hash that is signed of a transaction without a type.
-#[tactic(auto, using(crate::proofs::Written::legacy_written))]
-fn legacy_hash(alloc: Global, unsigned: &UnsignedLegacyTransaction) -> Result<Hash, AllocError>
-    ensures { IfOk result (λ h. h.0 ≡ shown.legacy_hash
-        (legacy_transaction_fields.reading.seen unsigned.now.payload) unsigned.now.chain_id) }
-{
-    let bytes = rlp::encode(alloc, unsigned)?;
-    Ok(Hash(keccak256(bytes.as_slice())))
-}
-
 /// Returns the hash that is signed of a transaction without a type, if `v` says what that is.
 fn legacy_signing_hash(
     alloc: Global,
     payload: &LegacyTransaction,
     said: Option<Eip155>,
-) -> Result<Option<Hash>, AllocError>
-    ensures { IfOk result (λ h. option_map (λ h. h.0) h
+) -> Result<Option<[u8; 32]>, AllocError>
+    ensures { IfOk result (λ h. h
         ≡ shown.legacy_signing_hash (legacy_transaction_fields.reading.seen payload.now) said) }
 {
     let Some(said) = said else {
@@ -206,12 +197,12 @@ fn legacy_signing_hash(
         payload: payload.clone()?,
         chain_id: said.chain_id,
     };
-    let hash = legacy_hash(alloc, &unsigned)?;
+    let hash = hash_of(alloc, &unsigned)?;
     Ok(Some(hash))
 }
 
 /// Returns whether a number is zero.
-#[tactic(auto, using(crate::proofs::NumberLemmas::zero_digits))]
+#[tactic(auto, using(crate::proofs::TextLemmas::zero_digits))]
 fn is_zero(number: &Uint<32>) -> bool
     ensures { result ≡ (number_from_digits 256 number.now.bytes == 0) }
 {
@@ -226,7 +217,7 @@ fn said_of(tx: &SignedLegacyTransaction) -> Option<Eip155>
     if is_zero(&tx.r) && is_zero(&tx.s) {
         return None;
     }
-    said_by(&tx.v)
+    Eip155::from_v(&tx.v)
 }
 
 /// Returns the `v` of a transaction, which comes with what it says if the transaction is signed.
@@ -247,7 +238,7 @@ impl ShowFields for SignedLegacyTransaction {
         let said = said_of(self);
         let hash = legacy_signing_hash(alloc, &self.payload, said)?;
         give_fields!(alloc, name, sink;
-            ByForm((), field!("type" "type" Shown::TypeByte(0)));
+            ByForm((), fields!("type" "type" Shown::TypeByte(0)));
             &self.payload;
             "v" "v" v_of(self);
             ByForm((), &said);
@@ -273,8 +264,8 @@ impl ShowFields for Transaction {
 }
 
 /// Returns the hash of a transaction.
-#[tactic(auto, using(crate::proofs::Written::transaction_written))]
-fn hash_of(alloc: Global, tx: &AnyTransaction) -> Result<Hash, AllocError>
+#[tactic(auto, using(crate::proofs::Hashes::transaction_written))]
+fn transaction_hash(alloc: Global, tx: &AnyTransaction) -> Result<Hash, AllocError>
     ensures { IfOk result
         (λ h. h.0 ≡ shown.transaction_hash (any_transaction.reading.seen tx.now)) }
 {
@@ -285,7 +276,7 @@ impl Show for AnyTransaction {
     ghost display = { seen_as any_transaction.reading.seen shown.any_transaction_display };
 
     fn show<S: Sink>(&self, alloc: Global, name: &str, sink: &mut S) -> Result<(), AllocError> {
-        let hash = hash_of(alloc, self)?;
+        let hash = transaction_hash(alloc, self)?;
         match self {
             AnyTransaction::Known(tx) => show_fields!(alloc, name, sink; "hash" "hash" &hash; tx),
             AnyTransaction::Other(tx) => show_fields!(alloc, name, sink;
@@ -302,25 +293,19 @@ impl ShowFields for UnsignedLegacyTransaction {
         shown.unsigned_legacy_display };
 
     fn give<S: Sink>(&self, alloc: Global, name: &str, sink: &mut S) -> Result<(), AllocError> {
-        let kind = ByForm((), field!("type" "type" Shown::TypeByte(0)));
-        (kind, &self.payload).give(alloc, name, sink)?;
-        match &self.chain_id {
-            Some(chain) => field!("chain_id" "chainId" chain).give(alloc, name, sink),
-            None => Ok(()),
-        }
+        give_fields!(alloc, name, sink;
+            ByForm((), fields!("type" "type" Shown::TypeByte(0)));
+            &self.payload;
+            "chain_id" "chainId" ? &self.chain_id
+        )
     }
 }
 
-/// The number of a type, and a payload.
-#[derive(Clone, Copy)]
-struct Typed<'a, T>(u8, &'a T);
-
-impl<T: ShowFields> ShowFields for Typed<'_, T> {
-    ghost fields = { seen_as (λ t. (t.0, T.fields.seen t.1.now)) (shown.after_type T.fields.form) };
-
-    fn give<S: Sink>(&self, alloc: Global, name: &str, sink: &mut S) -> Result<(), AllocError> {
-        give_fields!(alloc, name, sink; "type" "type" Shown::TypeByte(self.0); self.1)
-    }
+/// Gives the number of a type and the fields of a payload to a sink.
+macro_rules! give_typed {
+    ($alloc:expr, $name:expr, $sink:expr; $number:literal $payload:expr) => {
+        give_fields!($alloc, $name, $sink; "type" "type" Shown::TypeByte($number); $payload)
+    };
 }
 
 /// The fields without the hash that is signed.
@@ -330,16 +315,16 @@ impl ShowFields for UnsignedTransaction {
     fn give<S: Sink>(&self, alloc: Global, name: &str, sink: &mut S) -> Result<(), AllocError> {
         match self {
             UnsignedTransaction::Legacy(tx) => tx.give(alloc, name, sink),
-            UnsignedTransaction::AccessList(tx) => Typed(1, tx).give(alloc, name, sink),
-            UnsignedTransaction::FeeMarket(tx) => Typed(2, tx).give(alloc, name, sink),
-            UnsignedTransaction::Blob(tx) => Typed(3, tx).give(alloc, name, sink),
-            UnsignedTransaction::SetCode(tx) => Typed(4, tx).give(alloc, name, sink),
+            UnsignedTransaction::AccessList(tx) => give_typed!(alloc, name, sink; 1 tx),
+            UnsignedTransaction::FeeMarket(tx) => give_typed!(alloc, name, sink; 2 tx),
+            UnsignedTransaction::Blob(tx) => give_typed!(alloc, name, sink; 3 tx),
+            UnsignedTransaction::SetCode(tx) => give_typed!(alloc, name, sink; 4 tx),
         }
     }
 }
 
 /// Returns the hash that is signed of a transaction.
-#[tactic(auto, using(crate::proofs::Written::payload_written))]
+#[tactic(auto, using(crate::proofs::Hashes::payload_written))]
 fn payload_hash(alloc: Global, tx: &UnsignedTransaction) -> Result<Hash, AllocError>
     ensures { IfOk result
         (λ h. h.0 ≡ shown.payload_hash (unsigned_transaction.reading.seen tx.now)) }
@@ -366,7 +351,7 @@ impl Show for Blob {
 
 /// Returns the hash that names a transaction with blobs, which is the hash of the transaction without
 /// its blobs.
-#[tactic(auto, using(crate::proofs::Written::blob_written))]
+#[tactic(auto, using(crate::proofs::Hashes::blob_written))]
 fn blob_hash(alloc: Global, tx: &Signed<BlobTransaction>) -> Result<Hash, AllocError>
     ensures { IfOk result
         (λ h. h.0 ≡ shown.blob_hash (signed_blob_transaction.reading.seen tx.now)) }
@@ -383,8 +368,7 @@ impl Show for BlobTransactionWithProofs {
         show_fields!(alloc, name, sink;
             "hash" "hash" &hash;
             &self.transaction;
-            "blobs" "blobs" Items(&self.blobs);
-            "commitments" "commitments" Items(&self.commitments);
+            "blobs" "blobs" Items(&self.blobs); "commitments" "commitments" Items(&self.commitments);
             "proofs" "proofs" Items(&self.proofs);
         )
     }
@@ -399,8 +383,7 @@ impl Show for BlobTransactionWithCellProofs {
             "hash" "hash" &hash;
             &self.transaction;
             "wrapper_version" "wrapperVersion" &1_u64;
-            "blobs" "blobs" Items(&self.blobs);
-            "commitments" "commitments" Items(&self.commitments);
+            "blobs" "blobs" Items(&self.blobs); "commitments" "commitments" Items(&self.commitments);
             "cell_proofs" "proofs" Items(&self.cell_proofs);
         )
     }

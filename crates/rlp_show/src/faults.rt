@@ -8,7 +8,7 @@ ghost use Rattle.rlp_show.specs.Answers.{error_answer, fault_answer, fault_name,
 
 use crate::answers::Form;
 use rlp::DecoderError;
-use rlp_print::{Fault, Place, json_of};
+use rlp_print::{Fault, json_of};
 use std::alloc::{AllocError, Global};
 use std::fmt::Write;
 
@@ -75,7 +75,7 @@ fn fault_json(
         ≡ json_of (fault_display.shown (place, (name.now, fault.now)))) }
 {
     let field = match place {
-        Some(place) => Some(Place(place as u64)),
+        Some(place) => Some(place as u64),
         None => None,
     };
     json_of(alloc, &Fault { field, name, fault })

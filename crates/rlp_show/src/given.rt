@@ -109,12 +109,7 @@ fn json_under<T: Show>(alloc: Global, name: &str, value: &T) -> Result<String, A
 {
     let mut json = String::new(alloc);
     put_camel(name.as_bytes(), &mut json)?;
-    let member = Named {
-        name: "",
-        json: json.as_str(),
-        value,
-    };
-    json_of(alloc, &Object(&member))
+    json_of(alloc, &Object(&Named("", json.as_str(), value)))
 }
 
 /// Returns the field that a fault is in, by the places that lead to the fault.

@@ -22,7 +22,7 @@ use messages::MESSAGES;
 use records::{BLOCK, RECORDS};
 use rlp::DecoderError;
 use rlp_ethereum::{BlobTransactionWithCellProofs, BlobTransactionWithProofs, Enveloped, Log};
-use rlp_print::{Fault, Place, Show, json_of};
+use rlp_print::{Fault, Show, json_of};
 use rlp_rows::{Line, number};
 use rlp_show::{Form, Kind};
 use serde_json::Value;
@@ -210,7 +210,7 @@ fn faults_are_json(rt: HostRuntime) -> Result<(), Fail> {
     let faults = [
         (
             Fault {
-                field: Some(Place(9)),
+                field: Some(9),
                 name: "gasLimit",
                 fault: "RlpIsTooBig",
             },

@@ -1,7 +1,7 @@
 use Rattle.std.proofs.Common.{◌≡◌, ◌+◌, ◌*◌, ◌<◌, ◌^◌, length}
 use Rattle.rlp.specs.Views.View.{View}
 use Rattle.rlp_print.specs.Value.{after, after_items, values_of}
-use Rattle.rlp_print.specs.{declared.sink.Bracket.TheVariants.Square, Items.items_shown, Items.shown_within}
+use Rattle.rlp_print.specs.{declared.sink.Bracket.TheVariants.CloseSquare, Items.items_shown, Items.shown_within}
 use Rattle.rlp_print.proofs.items.+items.Given as goal
 
 -- each call goes through one list more
@@ -24,7 +24,7 @@ decreases-show_node g l = 4 * l.most + 3
 abbrev pub invariant-show_items-loop-rest : goal.invariant-show_items-loop-rest
 invariant-show_items-loop-rest g l = record {
   left : after g.S.Sink.steps l.name (items_shown (shown_within l.most) l.is_node l.items) (g.S.Sink.seen l.fn.sink)
-      ≡ g.S.Sink.steps.finish Square (
+      ≡ g.S.Sink.steps.bracket CloseSquare (
       after_items g.S.Sink.steps l.name l.index (values_of (λ (v : View). shown_within l.most l.is_node v.bytes) l.rest) (g.S.Sink.seen l.sink));
   few : l.index + length l.rest < 2 ^ 64;
 }

@@ -1,0 +1,30 @@
+-- Hashes of what transactions are written as, by what contracts see of the transactions.
+use Rattle.std.proofs.Common.{◌≡◌, ◌∙◌, List, ℕ, [], ◌∷◌, Bool, map, refl, sym, ap}
+use Rattle.keccak.specs.Keccak.{keccak256}
+use Rattle.rlp.specs.Format.Encoding.{encoding}
+use Rattle.rlp_records.specs.Alone.{bytes_alone}
+use Rattle.rlp_transactions.specs.declared.{any_transaction.AnyTransaction.AnyTransaction, blob_transaction.BlobTransaction.BlobTransaction}
+use Rattle.rlp_transactions.specs.declared.{signed.Signed.Signed, unsigned_transaction.UnsignedTransaction.UnsignedTransaction}
+use Rattle.rlp_transactions.specs.{AnyTransaction.any_transaction, BlobTransaction.signed_blob_transaction, UnsignedTransaction.unsigned_transaction}
+use Rattle.rlp_headers.specs.{Header.header, declared.header.Header.Header}
+use Rattle.rlp_print.specs.Blocks.{header_hash, seen_hash}
+use Rattle.rlp_print.specs.Transactions.{blob_hash, payload_hash, transaction_hash}
+
+pub transaction_written : (t : AnyTransaction) (d : List ℕ) → d ≡ keccak256 (bytes_alone (any_transaction.item t)) → d ≡ transaction_hash (any_transaction.reading.seen t)
+unfolding transaction_hash
+transaction_written t d is = is ∙ ap (λ x. keccak256 (bytes_alone x)) (sym (any_transaction.reads_strictly.told.written t))
+
+pub payload_written : (t : UnsignedTransaction) (d : List ℕ) → d ≡ keccak256 (bytes_alone (unsigned_transaction.item t))
+    → d ≡ payload_hash (unsigned_transaction.reading.seen t)
+unfolding payload_hash
+payload_written t d is = is ∙ ap (λ x. keccak256 (bytes_alone x)) (sym (unsigned_transaction.reads_strictly.told.written t))
+
+pub blob_written : (t : Signed BlobTransaction Bool) (d : List ℕ) → d ≡ 3 ∷ encoding (signed_blob_transaction.item t)
+    → keccak256 d ≡ blob_hash (signed_blob_transaction.reading.seen t)
+unfolding blob_hash
+blob_written t d is = ap keccak256 (is ∙ ap (λ x. 3 ∷ encoding x) (sym (signed_blob_transaction.reads_strictly.told.written t)))
+
+pub hashes_seen : (hs : List Header) → map (λ (d : List ℕ). d) (map seen_hash hs) ≡ map header_hash (map header.reading.seen hs)
+unfolding seen_hash
+hashes_seen [] = refl
+hashes_seen (h ∷ hs) = cc (hashes_seen hs)
