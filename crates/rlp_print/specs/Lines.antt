@@ -1,5 +1,5 @@
 -- The lines of a value: for each content its name, a colon and its text.
-use Rattle.std.specs.Prelude.{ℕ, ◌-◌, ◌+◌, ◌/◌, ◌%◌, ◌^◌, ◌==◌, ◌&&◌, ◌||◌, nat_lt, if◌then◌else◌, Bool, false, List, ◌++◌, [], ◌∷◌, codes, decimal, length, Option, Some, None}
+use Rattle.std.specs.Prelude.{ℕ, ◌/◌, ◌%◌, ◌==◌, ◌&&◌, ◌||◌, if◌then◌else◌, Bool, false, List, ◌++◌, [], ◌∷◌, codes, decimal, length, Option, Some, None}
 use Rattle.std.specs.{Char.is_ascii_digit, Char.is_ascii_lowercase, Fmt.digit_glyph, List.list_all, Net.Addr.segments_of, Net.Text.ipv4_text, Net.Text.ipv6_text}
 use Rattle.hex.specs.Hex.{encode_lower}
 use Rattle.rlp.specs.{NumberText.number_text as text_in_base, Values.Value.bit}
