@@ -45,7 +45,7 @@ def copied(one, other):
 class Copy:
     """A copy of the tree. It takes over the work that was kept of a crate when it is first checked.
 
-    Given `built`, a tree in which `rt ci` has built the libraries, it asks `rattle` itself over those: `rt` would build them anew.
+    Given `built`, a tree in which `rt ci` has proved and built the libraries, it asks `rattle` itself over those: `rt` would build them anew.
     """
 
     def __init__(self, root, origin, crates, built=None):
@@ -77,11 +77,23 @@ class Copy:
         self.held.add((crate, part))
 
     def prepare(self, crate):
-        """Takes over the libraries that a crate rests on, and anew the work that was kept of it: a check of bodies loses a part of that."""
-        for lower in with_lower(self.crates, [crate])[:-1] if not self.built else []:
-            self.fetch(lower, "rlib")
-        self.held.discard((crate, "incremental"))
+        """Takes over the libraries that a crate rests on, and the work that was kept of it.
+
+        It takes that work anew before each check, since a check of bodies loses a part of it. Over built libraries the crate as it stands
+        wasn't checked, so there the copy goes on with what its own checks have kept.
+        """
+        if not self.built:
+            for lower in with_lower(self.crates, [crate])[:-1]:
+                self.fetch(lower, "rlib")
+            self.held.discard((crate, "incremental"))
         self.fetch(crate, "incremental")
+
+    def keep(self, other, crate):
+        """Keeps the work of another copy on a crate, for the copies that begin with this crate later."""
+        path = Path("crates") / crate / "out" / "incremental"
+        if not (self.root / path).exists() and (other.root / path).exists():
+            shutil.copytree(other.root / path, self.root / f"{path}.new", symlinks=True, copy_function=copied)
+            (self.root / f"{path}.new").rename(self.root / path)
 
     def names_built(self, crate):
         """The names of the functions in the built library of a crate, as a check prints them, if there is one."""

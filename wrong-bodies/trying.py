@@ -185,20 +185,19 @@ class Tries:
             last = step(copy, *given)
 
     def check(self, _, crate, jobs):
-        """Checks a crate as it stands, with this number of jobs: of a built library the functions that bodies change, and what they call.
-
-        It returns the queue of its bodies.
-        """
-        begin = time.time()
-        self.base.fetch(crate, "incremental")
-        self.base.fetch(crate, "rlib")
+        """Checks a crate as it stands, with this number of jobs, unless its library is built. It returns the queue of its bodies."""
+        begin, report = time.time(), None
         built = self.base.names_built(crate)
         queue = Queue(crate, self.bodies[crate], self.base, built) if built else None
-        report = Report(self.base.check(crate, jobs=jobs, only=queue.verdicts() if queue else ()))
-        self.base.build(crate)
+        if not queue:
+            self.base.fetch(crate, "incremental")
+            self.base.fetch(crate, "rlib")
+            report = Report(self.base.check(crate, jobs=jobs))
+            self.base.build(crate)
         with self.lock:
-            self.say(f"{crate}: checked in {time.time() - begin:.0f} s")
-            if not report.is_proved:
+            if report:
+                self.say(f"{crate}: checked in {time.time() - begin:.0f} s")
+            if report and not report.is_proved:
                 self.fault = self.fault or f"{crate} must be proved first: {report.first_error()}"
             elif crate in self.bodies:
                 queue = queue or Queue(crate, self.bodies[crate], self.base, report.verdicts)
@@ -218,6 +217,8 @@ class Tries:
         with self.lock:
             self.count += 1
             queue.running -= 1
+            if self.base.built:
+                self.base.keep(copy, queue.crate)
             if isinstance(report, Exception):
                 queue.results.update((body, ("unclear", repr(report))) for body in pack)
                 refused = 0
