@@ -32,6 +32,16 @@ def with_lower(crates, names):
     return found
 
 
+def words_over(root, crate):
+    """The words by which `rattle` reads a crate over the libraries that `rt ci` has built in a tree."""
+    rows, crates = rows_of(root), crates_of(root)
+    top = "src/main.rt" if (root / "crates" / crate / "src" / "main.rt").exists() else "src/lib.rt"
+    library = lambda name: root / "crates" / name / "out" / "rlib" if name in crates else KIT / "rlibs"
+    words = ["--crate-name", crate, top, "--antt-project", KIT / "rattle" / "logic" / "antt-project.json", "--logic-built", KIT / "logic_built"]
+    words += [word for name in ["std", *rows[crate]] for word in ("--extern", f"{name}={library(name) / name}.rlib")]
+    return [*words, *[word for name in [*with_lower(crates, [crate])[:-1], "std"] for word in ("-L", f"dependency={library(name)}")]]
+
+
 def copied(one, other):
     """Copies a file, or gives what was proved a second name: a check replaces such a file, and changes none."""
     if one.endswith(".oantt"):
@@ -109,7 +119,7 @@ class Copy:
                 (folder / file).write_text(text, encoding="utf-8")
             words = ["--jobs", str(jobs), *(word for name in only for word in ("--only", name.partition("::")[2]))]
             if self.built:
-                return self.run(crate, KIT / "bin" / "rattle", "check", *self.words(crate), "--incremental", "out/incremental", *words)
+                return self.run(crate, KIT / "bin" / "rattle", "check", *words_over(self.built, crate), "--incremental", "out/incremental", *words)
             return self.run(crate, "rt", "check", *words)
         finally:
             for file, data in kept.items():
@@ -119,15 +129,6 @@ class Copy:
         """Builds the library of a crate that was checked, if others rest on it."""
         if not self.built and any(crate in below for below in self.crates.values()):
             self.run(crate, "rt", "lib")
-
-    def words(self, crate):
-        """The words by which `rattle check` reads a crate over the libraries of the tree."""
-        top = "src/main.rt" if (self.root / "crates" / crate / "src" / "main.rt").exists() else "src/lib.rt"
-        library = lambda name: self.built / "crates" / name / "out" / "rlib" if name in self.crates else KIT / "rlibs"
-        named, below = ["std", *rows_of(self.root)[crate]], [*with_lower(self.crates, [crate])[:-1], "std"]
-        words = ["--crate-name", crate, top, "--antt-project", KIT / "rattle" / "logic" / "antt-project.json", "--logic-built", KIT / "logic_built"]
-        words += [word for name in named for word in ("--extern", f"{name}={library(name) / name}.rlib")]
-        return [*words, *[word for name in below for word in ("-L", f"dependency={library(name)}")]]
 
     def run(self, crate, *words):
         """Runs a command in the folder of a crate, and returns what it printed."""
