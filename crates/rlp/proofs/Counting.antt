@@ -1,18 +1,24 @@
 -- What a struct gives, by the number of items that a view has.
-use Rattle.std.proofs.Common.{◌≡◌, ℕ, true, false, [], length, None, Ok, Err, sym, ap, ◌∙◌}
+use Rattle.std.proofs.Common.{◌≡◌, ◌≢◌, ℕ, ◌-◌, true, false, List, [], ◌∷◌, length, None, Some, Ok, Err, arith, refl, sym, ap, ◌∙◌}
 use Rattle.std.specs.List.{slice_get}
 use Rattle.std.proofs.lemmas.List.{length-map}
 use Rattle.rlp_reading.specs.declared.error.DecoderError.{DecoderError}
+use Rattle.rlp_reading.specs.declared.error.DecoderError.TheVariants.{RlpIncorrectListLen}
 use Rattle.rlp_reading.specs.Format.Framing.{items}
 use Rattle.rlp_reading.specs.Views.View.{View, item_count, item_views}
 use Rattle.rlp_reading.proofs.Lemmas.Numbered.{item_count-told}
 use Rattle.rlp_reading.proofs.Views.InOrder.{counted_told}
-use Rattle.rlp_codec.specs.Form.{Fault, FieldsReading, Path, and_then, fault_of, incorrect_list_len, items_of, map_value, path_by, read_struct, seen_fault, struct_reading}
+use Rattle.rlp_codec.specs.Form.{Fault, Faults, FieldsReading, Gives, Path, all_taken, and_then, fault_of, incorrect_list_len, items_of, map_value, path_by, read_struct, seen_fault, struct_reading, take_all, wrong_number}
 use Rattle.rlp_codec.proofs.ListLaws.{items_told}
-use Rattle.rlp_codec.proofs.StructLaws.{other_number}
-use Rattle.rlp.specs.Left.{AreAccepted}
+use Rattle.rlp_codec.proofs.StructLaws.{other_number, struct_given, this_number}
+use Rattle.rlp.specs.Left.{AreFaulty}
 
 module _ {P : Type 0} (r : FieldsReading P) (v : View) where
+  -- The struct has a fault, which is in the item at the place.
+  pub record FailsAt (e : DecoderError) (i : ℕ) : Type 0 where
+    pub fault : Faults (struct_reading r) v e
+    pub place : slice_get ((struct_reading r).read v).path 0 ≡ Some i
+
   -- The struct has a fault, and no item of the list is at fault.
   pub record FailsAsList (e : Fault) : Type 0 where
     pub fault : ((struct_reading r).read v).result ≡ Err e
@@ -25,15 +31,20 @@ module _ {P : Type 0} (r : FieldsReading P) (v : View) where
       same ∙ sym (length-map (items v.bytes) (λ b. record v { bytes = b }))
 
   -- the number of items is possible
-  pub count_accepted : (n : ℕ) → item_count v ≡ Ok n → r.accepts n ≡ true → AreAccepted r v
-  count_accepted n count right =
-      record { listed = items_told v (counted_told v n count); many = ap r.accepts (sym (numbered n count)) ∙ right }
+  pub fault_at : (n : ℕ) (e : DecoderError) (left : ℕ) → item_count v ≡ Ok n → AreFaulty r (item_views v) left e → r.accepts n ≡ true → FailsAt e (n - 1 - left)
+  fault_at n e left count faulty right =
+      let h = this_number r.accepts r.read v (item_views v) (faulty.after, fault_of e) (items_told v (counted_told v n count)) (ap r.accepts (sym (numbered n count)) ∙ right) faulty.fault in
+      record { fault = h.fault; place = ap (λ (p : Path). slice_get p 0) h.at ∙ ap Some (omega (arith, numbered n count, faulty.many)) }
 
   -- the number of items is wrong
-  pub count_refused : (n : ℕ) → item_count v ≡ Ok n → r.accepts n ≡ false → FailsAsList incorrect_list_len
-  count_refused n count wrong =
-      let h = other_number r.accepts r.read v (item_views v) (items_told v (counted_told v n count)) (ap r.accepts (sym (numbered n count)) ∙ wrong) in
+  pub count_refused : (n : ℕ) (e : DecoderError) (left : ℕ) → item_count v ≡ Ok n → AreFaulty r (item_views v) left e → r.accepts n ≡ false → FailsAsList (wrong_number (fault_of e))
+  count_refused n e left count faulty wrong =
+      let h = other_number r.accepts r.read v (item_views v) (faulty.after, fault_of e) (items_told v (counted_told v n count)) (ap r.accepts (sym (numbered n count)) ∙ wrong) faulty.fault in
       record { fault = h.fault; place = ap (λ (p : Path). slice_get p 0) h.at }
+
+  -- the items of a list that has a number of items
+  pub listed : (n : ℕ) → item_count v ≡ Ok n → items_of v ≡ Ok (item_views v)
+  listed n count = items_told v (counted_told v n count)
 
   -- there is no number of items
   pub count_failed : (e : DecoderError) → item_count v ≡ Err e → FailsAsList (fault_of e)
@@ -43,3 +54,36 @@ module _ {P : Type 0} (r : FieldsReading P) (v : View) where
         fault = ap (λ i. and_then i (λ vs. (read_struct r.accepts r.read vs).result)) items;
         place = ap (λ i. slice_get (path_by i [] (λ vs. (read_struct r.accepts r.read vs).path)) 0) items;
       }
+
+  -- the items give the fields, and nothing is left
+  pub fields_given : (vs rest : List View) (x : P) → items_of v ≡ Ok vs → (r.read vs).result ≡ Ok (r.seen x, rest) → rest ≡ [] → Gives (struct_reading r) v x
+  fields_given vs rest x items is none = struct_given r.accepts r.read v vs (r.seen x) items (is ∙ ap (λ ws. Ok (r.seen x, ws)) none)
+
+  -- a field has a fault
+  pub field_faulty : (vs after : List View) (left : ℕ) (e : DecoderError) → vs ≡ item_views v → (r.read vs).result ≡ Err (after, fault_of e) → left ≡ length after
+      → AreFaulty r (item_views v) left e
+  field_faulty vs after left e items is many = record {
+    after = after;
+    fault = ap (λ ws. (take_all r.read ws).result) (sym items) ∙ ap (λ x. and_then x (λ (t : r.M × List View). (all_taken t.0 t.1).result)) is;
+    many = sym many;
+  }
+
+  not_all : (m : r.M) (rest : List View) (left : ℕ) → rest ≢ [] → left ≡ length rest - 1
+      → (after : List View) × ((all_taken m rest).result ≡ Err (after, incorrect_list_len)) × (length after ≡ left)
+  not_all m [] left some many = absurd (some refl)
+  not_all m (w ∷ ws) left some many = (ws, refl, omega (arith, many))
+
+  -- items are left after the fields
+  pub items_over : (vs rest : List View) (left : ℕ) (m : r.M) → vs ≡ item_views v → (r.read vs).result ≡ Ok (m, rest) → rest ≢ [] → left ≡ length rest - 1
+      → AreFaulty r (item_views v) left RlpIncorrectListLen
+  items_over vs rest left m items is some many =
+      let h = not_all m rest left some many in
+      record {
+        after = h.0;
+        fault = ap (λ ws. (take_all r.read ws).result) (sym items) ∙ ap (λ x. and_then x (λ (t : r.M × List View). (all_taken t.0 t.1).result)) is ∙ h.1;
+        many = h.2;
+      }
+
+pub ruleset struct_answers = (fields_given, field_faulty, items_over)
+
+pub ruleset counted_faults = (fault_at, count_refused, listed)

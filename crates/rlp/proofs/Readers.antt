@@ -1,17 +1,18 @@
 -- The items of a view, as a reader of items begins with them.
-use Rattle.std.proofs.Common.{◌≡◌, ℕ, ◌≤◌, ◌+◌, suc, ◌↔◌, Option, IsTrue, true, false, MatchResult, IfOk, List, [], ◌∷◌, ◌++◌, length, map, ◌<◌, ◌^◌, Bool, arith, Result, Ok, Err, None, Some, refl, sym, ap, ◌∙◌}
+use Rattle.std.proofs.Common.{◌≡◌, ℕ, ◌≤◌, ◌↔◌, Option, IsTrue, true, false, MatchResult, IfOk, List, [], ◌∷◌, ◌++◌, length, take, drop, map, ◌<◌, ◌^◌, Bool, arith, Result, Ok, Err, None, Some, refl, sym, ap, ◌∙◌}
 use Rattle.std.proofs.lemmas.Bool.{cond-true, cond-false}
+use Rattle.std.proofs.lemmas.List.{length-map}
 use Rattle.rlp_reading.specs.declared.error.DecoderError.{DecoderError}
 use Rattle.rlp_reading.specs.declared.error.DecoderError.TheVariants.{RlpExpectedToBeList}
 use Rattle.rlp_reading.specs.declared.header.PayloadInfo.{PayloadInfo}
-use Rattle.rlp_reading.specs.Format.Framing.{fault, framing, value, begins_as_list, items, payload, payload_in, split, after_items, fault_of_some, strict_fault, strict_list_fault}
+use Rattle.rlp_reading.specs.Format.Framing.{fault, framing, map_ok, value, begins_as_list, items, payload, payload_in, split, after_items, fault_of_some, strict_fault, strict_list_fault}
 use Rattle.rlp_reading.proofs.Lemmas.Numbered.{item_count-fault, item_count-told, payload-fault, told_begins}
 use Rattle.rlp_reading.specs.Views.View.{View, item_at, item_count, item_views, items_fault, list_fault}
 use Rattle.rlp_reading.proofs.Format.Splits.{length-split, split-nil}
 use Rattle.rlp_reading.proofs.Format.StrictLists.{after_items-next, after_items-nil, after_items-none, strict_counted, strict_not_whole, strict_whole, value-items}
 use Rattle.rlp_reading.proofs.Views.InOrder.{counted_told, framed_place, unframed_place}
 use Rattle.rlp_codec.specs.Form.{fault_of, items_of, list_of_views, map_value, seen_fault}
-use Rattle.rlp.specs.Left.{AreCounted, ItemsLeft, ListRead, after_next}
+use Rattle.rlp.specs.Left.{ItemsLeft, after_next}
 
 no_items : (b : List ℕ) → payload b ≡ [] → items b ≡ []
 unfolding items
@@ -45,12 +46,22 @@ pub past_framed : (v : View) (q : PayloadInfo) (p : List ℕ) (i : ℕ) → item
     → length (items v.bytes) ≤ i → item_at v i ≡ Err (fault (after_items p))
 past_framed v q p i told framed is past = (framed_place v q p p told framed is refl).past i past
 
+framed_by : (b p : List ℕ) (r : Result PayloadInfo DecoderError) → framing b ≡ r → map_ok (λ (q : PayloadInfo). take q.value_len (drop q.header_len b)) r ≡ Ok p
+    → (q : PayloadInfo) × (framing b ≡ Ok q)
+framed_by b p (Ok q) framed is = (q, framed)
+framed_by b p (Err e) framed is = absurd (let no : ⊥ = cc in no)
+
+-- past the last item of a list whose value is known
+pub past_value : (v : View) (p : List ℕ) (i : ℕ) → items_fault v ≡ None → value v.bytes ≡ Ok p → length (items v.bytes) ≤ i → item_at v i ≡ Err (fault (after_items p))
+unfolding value
+past_value v p i told is past = let (q, framed) = framed_by v.bytes p (framing v.bytes) refl is in past_framed v q p i told framed is past
+
 -- past the last item of a list that isn't framed
 pub past_unframed : (v : View) (e : DecoderError) (i : ℕ) → items_fault v ≡ None → framing v.bytes ≡ Err e → split v.bytes ≡ []
     → length (items v.bytes) ≤ i → item_at v i ≡ Err (fault (after_items v.bytes))
 past_unframed v e i told framed none past = (unframed_place v e v.bytes told framed none refl).past i past
 
-pub ruleset items_by_frame = (none_of_other, none_of_unframed, items_of_framed, past_other, past_framed, past_unframed)
+pub ruleset items_by_frame = (none_of_other, none_of_unframed, items_of_framed, past_other, past_value, past_unframed)
 
 -- ---- the number of items
 
@@ -162,51 +173,39 @@ list_faulty v e fault = list_faulty_by v v.is_strict e refl fault
 
 -- ---- a reader of items
 
--- the items of a slice, not counted
-pub not_counted : (b : List ℕ) → length b < 2 ^ 64 → AreCounted 0 None (split b)
-not_counted b short = record { few = omega (arith, length-split b); exact = tt }
-
--- the items of a slice, counted
-pub all_counted : (b c : List ℕ) (n : ℕ) → b ≡ c → n ≡ length (split c) → n < 2 ^ 64 → AreCounted 0 (Some n) (split b)
-all_counted b c n same many few = let whole : length (split b) ≡ length (split c) = ap (λ b. length (split b)) same in record { few = omega arith; exact = omega arith }
-
-pub ruleset reader_starts = (not_counted, all_counted)
-
--- the list of a reader that has taken `taken` items and has the bytes `b` left
-abbrev pub list_in : ℕ → List ℕ → ListRead
-list_in taken b = record { count = taken + length (split b); after = after_items b }
-
--- what that reader has left
-abbrev pub left_in : Bool → ℕ → List ℕ → ItemsLeft
-left_in strict taken b = record {
+-- what a reader of the bytes has left
+abbrev pub left_in : Bool → List ℕ → ItemsLeft
+left_in strict b = record {
   views = map (λ b. record { bytes = b; is_strict = strict }) (split b);
   past = fault (after_items b);
-  list = list_in taken b;
+  after = after_items b;
 }
 
--- once an item is taken, the list is the same
-pub same_list : (taken : ℕ) (b item others : List ℕ) → split b ≡ item ∷ split others → b ≡ item ++ others → list_in (taken + 1) others ≡ list_in taken b
-same_list taken b item others parts whole =
-    let more : length (split b) ≡ suc (length (split others)) = ap length parts in
-    let many : taken + 1 + length (split others) ≡ taken + length (split b) = omega arith in
-    ap (λ n. record { count = n; after = after_items others }) many
-    ∙ ap (λ p. record { count = taken + length (split b); after = p }) (sym (after_items-next b item others parts whole))
+-- the items of a slice are few
+pub few_views : (strict : Bool) (b : List ℕ) → length b < 2 ^ 64 → length (left_in strict b).views < 2 ^ 64
+few_views strict b short =
+    let viewed : List ℕ → View = λ b. record { bytes = b; is_strict = strict } in omega (arith, length-map (split b) viewed, length-split b)
+
+-- an item is taken, and the same bytes follow the items
+pub after_taken : (b item others : List ℕ) → split b ≡ item ∷ split others → b ≡ item ++ others → after_items others ≡ after_items b
+after_taken b item others parts whole = sym (after_items-next b item others parts whole)
 
 -- one item is taken
-pub one_taken : (strict : Bool) (taken : ℕ) (b item others : List ℕ) → split b ≡ item ∷ split others → b ≡ item ++ others
-    → left_in strict (taken + 1) others ≡ after_next (left_in strict taken b)
-one_taken strict taken b item others parts whole =
-    ap (λ l. record { views = map (λ b. record { bytes = b; is_strict = strict }) (split others); past = fault l.after; list = l }) (same_list taken b item others parts whole)
-    ∙ ap (λ fs. after_next (record { views = map (λ b. record { bytes = b; is_strict = strict }) fs; past = fault (after_items b); list = list_in taken b })) (sym parts)
+pub one_taken : (strict : Bool) (b item others : List ℕ) → split b ≡ item ∷ split others → b ≡ item ++ others
+    → left_in strict others ≡ after_next (left_in strict b)
+one_taken strict b item others parts whole =
+    ap (λ p. record { views = map (λ b. record { bytes = b; is_strict = strict }) (split others); past = fault p; after = p })
+    (after_taken b item others parts whole)
+    ∙ ap (λ fs. after_next (record { views = map (λ b. record { bytes = b; is_strict = strict }) fs; past = fault (after_items b); after = after_items b })) (sym parts)
 
 -- nothing is left of no bytes
-pub none_left : (strict : Bool) (taken : ℕ) (b : List ℕ) → b ≡ [] → ((left_in strict taken b).views ≡ []) × (after_items b ≡ [])
-none_left strict taken b none = (ap (map (λ b. record { bytes = b; is_strict = strict })) (ap split none ∙ split-nil), ap after_items none ∙ after_items-nil)
+pub none_left : (strict : Bool) (b : List ℕ) → b ≡ [] → ((left_in strict b).views ≡ []) × (after_items b ≡ [])
+none_left strict b none = (ap (map (λ b. record { bytes = b; is_strict = strict })) (ap split none ∙ split-nil), ap after_items none ∙ after_items-nil)
 
 map-none : {A B : Type 0} (f : A → B) (xs : List A) → map f xs ≡ [] → xs ≡ []
 map-none f [] none = refl
 map-none f (x ∷ xs) none = absurd (let no : ⊥ = cc in no)
 
 -- where nothing is left, there are no bytes
-pub no_bytes_left : (strict : Bool) (taken : ℕ) (b : List ℕ) → (left_in strict taken b).views ≡ [] → after_items b ≡ [] → b ≡ []
-no_bytes_left strict taken b none ended = sym (after_items-none b (map-none _ (split b) none)) ∙ ended
+pub no_bytes_left : (strict : Bool) (b : List ℕ) → (left_in strict b).views ≡ [] → after_items b ≡ [] → b ≡ []
+no_bytes_left strict b none ended = sym (after_items-none b (map-none _ (split b) none)) ∙ ended

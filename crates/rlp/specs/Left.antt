@@ -1,19 +1,27 @@
 -- What a reader of the items of a list has left.
-use Rattle.std.specs.Prelude.{ℕ, ◌≡◌, ◌<◌, ◌+◌, ◌^◌, List, [], ◌∷◌, length, true, Option, IfSome, Result, Ok, Err}
+use Rattle.std.specs.Prelude.{ℕ, ◌≡◌, ◌≤◌, List, [], ◌∷◌, drop, length, None, Result, Ok, Err}
 use Rattle.rlp_reading.specs.declared.error.DecoderError.{DecoderError}
-use Rattle.rlp_reading.specs.Views.View.{View, item_views}
-use Rattle.rlp_codec.specs.Form.{FieldsReading, items_of}
+use Rattle.rlp_reading.specs.Format.Framing.{strict_fault, value}
+use Rattle.rlp_reading.specs.Views.View.{View}
+use Rattle.rlp_codec.specs.Form.{FieldsReading, fault_of, take_all}
 
--- The list that a reader goes over: the number of its items, and the bytes that follow the items in it.
-pub record ListRead : Type 0 where
-  pub count : ℕ
-  pub after : List ℕ
-
--- The views of the items that are left, in order, and the error past the last item; and the list, which is the same before and after an item is taken.
+-- The views of the items that are left, in order; the error past the last item; and the bytes that follow the items in the list, which are the same before and after
+-- an item is taken.
 pub record ItemsLeft : Type 0 where
   pub views : List View
   pub past : DecoderError
-  pub list : ListRead
+  pub after : List ℕ
+
+-- The views of the items that are left of a list, in order, and the number of all items of the list.
+pub record ItemsCounted : Type 0 where
+  pub views : List View
+  pub count : ℕ
+
+-- The bytes are exactly one item, and the value of the item begins after h bytes.
+pub record HasValueAfter (b : List ℕ) (h : ℕ) : Type 0 where
+  pub whole : strict_fault b ≡ None
+  pub content : value b ≡ Ok (drop h b)
+  pub within : h ≤ length b
 
 -- the first of the views, or the error if there is none
 abbrev pub first_view : DecoderError → List View → Result View DecoderError
@@ -33,12 +41,8 @@ next_item left = first_view left.past left.views
 abbrev pub after_next : ItemsLeft → ItemsLeft
 after_next left = record left { views = after_first left.views }
 
--- A list of which `taken` items were taken and `items` are left: fewer than 2^64 together, and if the items of the list were counted, as many as `count` says.
-pub record AreCounted (taken : ℕ) (count : Option ℕ) (items : List (List ℕ)) : Type 0 where
-  pub few : taken + length items < 2 ^ 64
-  pub exact : IfSome count (λ n. n ≡ taken + length items)
-
--- The view is a list, and the number of its items is one that the fields may have.
-pub record AreAccepted {P : Type 0} (r : FieldsReading P) (v : View) : Type 0 where
-  pub listed : items_of v ≡ Ok (item_views v)
-  pub many : r.accepts (length (item_views v)) ≡ true
+-- The views don't give the fields, or views are left after the fields: the error says why, and `left` views come after the view that has the fault.
+pub record AreFaulty {P : Type 0} (r : FieldsReading P) (vs : List View) (left : ℕ) (e : DecoderError) : Type 0 where
+  pub after : List View
+  pub fault : (take_all r.read vs).result ≡ Err (after, fault_of e)
+  pub many : length after ≡ left

@@ -34,7 +34,7 @@ pub use rlp_write::{
     ListOf, NULL_RLP, Optional, OptionalGroupOf, OptionalListOf, RlpStream, encode, encode_list,
     write_envelope, write_struct,
 };
-pub use rlpin::{BasicDecoder, Envelope, Fields, Rlp, RlpIterator};
+pub use rlpin::{BasicDecoder, CountedFields, Envelope, Fields, Rlp, RlpIterator};
 use std::alloc::Global;
 pub use structs::{
     DecodeFields, DecodeFieldsPlaced, FieldFault, FixedFields, Groups, Joined, ListField,

@@ -1,5 +1,6 @@
 //! Reading: views of bytes.
 
+mod counted_fields;
 mod decoder;
 mod display;
 mod envelope;
@@ -8,6 +9,7 @@ mod iter;
 mod rlp;
 mod splitting;
 
+pub use counted_fields::CountedFields;
 pub use decoder::BasicDecoder;
 pub(crate) use decoder::{may_end_at, short_string};
 pub use envelope::Envelope;

@@ -4,8 +4,9 @@ ghost use Rattle.std.specs.Prelude.{◌≡◌, ◌+◌, ◌⊎◌, ◌^◌, Ok, 
 ghost use Rattle.std.specs.Vec.{vec_items};
 ghost use Rattle.rlp_reading.specs.declared.error.DecoderError.TheVariants.{OutOfMemory};
 ghost use Rattle.rlp_reading.specs.Values.FaultText.{field_fault_text};
-ghost use Rattle.rlp_codec.specs.Form.{Faults, FieldsReading, Gives, fault_of, group_before, list_reading, no_fields, one_field, part_fields, struct_reading};
-ghost use Rattle.rlp.specs.Left.{AreAccepted};
+ghost use Rattle.rlp_reading.specs.Views.View.{item_views};
+ghost use Rattle.rlp_codec.specs.Form.{Faults, FieldsReading, Gives, fault_of, group_before, items_of, list_reading, no_fields, one_field, part_fields, struct_reading, wrong_number};
+ghost use Rattle.rlp.specs.Left.{AreFaulty};
 
 mod groups;
 mod optional;
@@ -83,7 +84,7 @@ pub trait DecodeFields: Sized + Drop {
         ensures fault { IfErr result (λ e. ((reading.read fields.old.views).result
             ≡ Err (fields.new.views, fault_of e))
             ⊎ ((e ≡ OutOfMemory) × IsTrue reading.takes_memory)) }
-        ensures list { fields.new.list ≡ fields.old.list };
+        ensures after { fields.new.after ≡ fields.old.after };
 }
 
 /// No more fields.
@@ -130,9 +131,10 @@ impl<T: Decodable, Q: DecodeFields> DecodeFields for (T, Q) {
 /// are. Also fails as [`Rlp::item_count`] does, with no place, and with the fault of the first field
 /// that fails and its place.
 ///
-/// It reads the items as they come, and walks over them only after a fault, to find which fault comes
-/// first. [`Groups`] count their items before they read them.
+/// It reads the header of each item once, and walks over the items only after a fault, to find which
+/// fault comes first.
 #[inline(always)]
+#[tactic(auto, using(crate::proofs::Counting::struct_answers))]
 pub fn decode_struct<F: DecodeFields>(alloc: Global, rlp: &Rlp<'_>) -> Result<F, FieldFault>
     ensures value { IfOk result (λ x. Gives (struct_reading F.reading) rlp.now x) }
     ensures fault { IfErr result (λ e. Faults (struct_reading F.reading) rlp.now e.fault
@@ -147,25 +149,24 @@ pub fn decode_struct<F: DecodeFields>(alloc: Global, rlp: &Rlp<'_>) -> Result<F,
     };
     match F::decode_fields(alloc, &mut fields) {
         Ok(values) => {
-            let has_ended = fields.has_ended() || !rlp.is_strict() && fields.is_empty();
-            if has_ended && F::accepts(fields.taken()) {
+            if fields.has_ended() || !rlp.is_strict() && fields.is_empty() {
                 return Ok(values);
             }
-            Err(first_fault::<F>(rlp, fields.taken(), DecoderError::RlpIncorrectListLen))
+            let after = fields.count_left().saturating_sub(1);
+            Err(first_fault::<F>(rlp, after, DecoderError::RlpIncorrectListLen))
         }
-        Err(fault) => Err(first_fault::<F>(rlp, fields.taken().saturating_sub(1), fault)),
+        Err(fault) => Err(first_fault::<F>(rlp, fields.count_left(), fault)),
     }
 }
 
 /// The fault of a struct whose fields [`decode_struct`] can't read: that of the list, or else a wrong
-/// number of items, or else what was found, at the place where it was found. It walks over the items.
+/// number of items, or else what was found in the item before the last `after` items. It walks over
+/// the items.
 #[inline(never)]
-fn first_fault<F: DecodeFields>(rlp: &Rlp<'_>, place: usize, found: DecoderError) -> FieldFault
-    requires fault { AreAccepted F.reading rlp.now
-        → Faults (struct_reading F.reading) rlp.now found
-        ⊎ ((found ≡ OutOfMemory) × IsTrue F.reading.takes_memory) }
-    requires place { AreAccepted F.reading rlp.now
-        → (slice_get ((struct_reading F.reading).read rlp.now).path 0 ≡ Some place)
+#[tactic(auto, using(crate::proofs::Counting::counted_faults))]
+fn first_fault<F: DecodeFields>(rlp: &Rlp<'_>, after: usize, found: DecoderError) -> FieldFault
+    requires found { items_of rlp.now ≡ Ok (item_views rlp.now)
+        → AreFaulty F.reading (item_views rlp.now) after found
         ⊎ ((found ≡ OutOfMemory) × IsTrue F.reading.takes_memory) }
     ensures fault { Faults (struct_reading F.reading) rlp.now result.fault
         ⊎ ((result.fault ≡ OutOfMemory) × IsTrue F.reading.takes_memory) }
@@ -178,13 +179,24 @@ fn first_fault<F: DecodeFields>(rlp: &Rlp<'_>, place: usize, found: DecoderError
     };
     if F::accepts(count) {
         return FieldFault {
-            place: Some(place),
+            place: Some(count.saturating_sub(1).saturating_sub(after)),
             fault: found,
         };
     }
     FieldFault {
         place: None,
-        fault: DecoderError::RlpIncorrectListLen,
+        fault: of_wrong_number(found),
+    }
+}
+
+/// The fault of a list with a wrong number of items, where this fault was found.
+fn of_wrong_number(found: DecoderError) -> DecoderError
+    ensures fault { fault_of result ≡ wrong_number (fault_of found) }
+    ensures memory { found ≡ OutOfMemory → result ≡ OutOfMemory }
+{
+    match found {
+        DecoderError::OutOfMemory => DecoderError::OutOfMemory,
+        _ => DecoderError::RlpIncorrectListLen,
     }
 }
 

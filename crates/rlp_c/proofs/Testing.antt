@@ -1,5 +1,5 @@
 -- Tests that keep nothing have the faults of the codecs.
-use Rattle.std.proofs.Common.{◌≡◌, ℕ, ◌+◌, ◌-◌, ◌<◌, ◌^◌, Bool, if◌then◌else◌, List, [], ◌∷◌, length, None, Some, Result, Ok, Err, refl, ap, arith}
+use Rattle.std.proofs.Common.{◌≡◌, ℕ, ◌+◌, ◌-◌, ◌<◌, ◌^◌, Bool, true, false, List, [], ◌∷◌, length, None, Some, Result, Ok, Err, refl, ap, arith}
 use Rattle.std.specs.Bool.{⊤}
 use Rattle.std.specs.List.{slice_get}
 use Rattle.rlp_reading.specs.Format.Framing.{payload, strict_list_fault}
@@ -7,7 +7,7 @@ use Rattle.rlp_reading.specs.Views.View.{View, item_views, strict_view_of}
 use Rattle.rlp_reading.proofs.Format.Splits.{length-item_views, length-split}
 use Rattle.rlp_reading.proofs.Lemmas.Slices.{payload_short}
 use Rattle.rlp_reading.proofs.Lemmas.StrictReads.{counted_told, told_whole}
-use Rattle.rlp_codec.specs.Form.{Answer, Fault, FieldsReading, Path, Taken, all_taken, go_on, here, in_list, incorrect_list_len}
+use Rattle.rlp_codec.specs.Form.{Answer, Fault, FieldsReading, Path, Taken, all_taken, go_on, if_possible, in_list}
 use Rattle.rlp_codec.specs.Form.{map_answer, map_taken, struct_reading}
 use Rattle.rlp_c.specs.Fields.{number_of, numbered}
 use Rattle.rlp_c.specs.Forgotten.{forgotten}
@@ -36,13 +36,16 @@ module _ {P : Type 0} (f : FieldsReading P) where
 
   -- what a list of n items gives, if this is what its items give
   abbrev whole : {M : Type 0} → ℕ → Bool → Taken M → Answer M Fault
-  whole n accepted t = if accepted then in_list n (go_on t (λ t. all_taken t.0 t.1)) else here (Err incorrect_list_len)
+  whole n accepted t = if_possible accepted (in_list n (go_on t (λ t. all_taken t.0 t.1)))
 
   all_forgotten : (n : ℕ) (accepted : Bool) (r : Result (f.M × List View) (List View × Fault)) (p : Path)
       → whole n accepted (map_taken forget (record { result = r; path = p })) ≡ map_answer forget (whole n accepted (record { result = r; path = p }))
-  all_forgotten n accepted (Ok (x, [])) p = grind arith
-  all_forgotten n accepted (Ok (x, v ∷ vs)) p = grind arith
-  all_forgotten n accepted (Err e) p = grind arith
+  all_forgotten n true (Ok (x, [])) p = grind arith
+  all_forgotten n true (Ok (x, v ∷ vs)) p = grind arith
+  all_forgotten n true (Err e) p = grind arith
+  all_forgotten n false (Ok (x, [])) p = grind arith
+  all_forgotten n false (Ok (x, v ∷ vs)) p = grind arith
+  all_forgotten n false (Err e) p = grind arith
 
   -- a struct that is forgotten has the answer of the struct, without the value
   pub struct_forgotten : (v : View) → untold v ≡ map_answer forget (told v)
@@ -56,9 +59,10 @@ module _ {P : Type 0} (f : FieldsReading P) where
 
   place_within : (n i : ℕ) → n < 2 ^ 64 → (accepted : Bool) (r : Result (f.M × List View) (List View × Fault)) (p : Path)
       → slice_get (whole n accepted (record { result = r; path = p })).path 0 ≡ Some i → i + 1 < 2 ^ 64
-  place_within n i short accepted (Ok (x, [])) p is = grind arith
-  place_within n i short accepted (Ok (x, v ∷ vs)) p is = grind arith
-  place_within n i short accepted (Err e) p is = grind arith
+  place_within n i short true (Ok (x, [])) p is = grind arith
+  place_within n i short true (Ok (x, v ∷ vs)) p is = grind arith
+  place_within n i short true (Err e) p is = grind arith
+  place_within n i short false r p is = absurd (let no : ⊥ = cc in no)
 
   -- the number of a field fits
   pub place_fits : (b : List ℕ) (i : ℕ) → length b < 2 ^ 64 → slice_get (untold (strict_view_of b)).path 0 ≡ Some i → i + 1 < 2 ^ 64

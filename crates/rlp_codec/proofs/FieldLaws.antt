@@ -1,13 +1,13 @@
 -- FieldsForm are read back, and strictly from nothing else.
-use Rattle.std.proofs.Common.{Bool, IfSome, List, None, Ok, Option, Result, Some, [], ap, append-nil, append_assoc, arith, false, le-leb, leb, length, length-append, option_map, refl, subst, suc, sym, true, zero, ℕ, ◌&&◌, ◌++◌, ◌-◌, ◌==◌, ◌||◌, ◌∙◌, ◌∷◌, ◌≡◌}
+use Rattle.std.proofs.Common.{Bool, Err, IfOk, IfSome, List, None, Ok, Option, Result, Some, [], ap, append-nil, append_assoc, arith, false, le-leb, leb, length, length-append, option_map, refl, subst, suc, sym, true, zero, ℕ, ◌&&◌, ◌+◌, ◌++◌, ◌-◌, ◌==◌, ◌||◌, ◌∙◌, ◌∷◌, ◌≡◌}
 use Rattle.std.proofs.lemmas.List.{map-append}
 use Rattle.std.specs.List.{AllByRecursion}
 use Rattle.rlp_format.specs.Format.Encoding.{IsSized, encoding, Item}
 use Rattle.rlp_format.specs.Values.Value.{items_if}
 use Rattle.rlp_reading.specs.Views.View.{View}
 use Rattle.rlp_codec.proofs.ListLaws.{not_faulty, goes_on, is_mapped, item_back, item_only, options_fit}
-use Rattle.rlp_codec.specs.Form.{Answer, Form, Fault, FieldsForm, Taken, and_then, each, end, field, group, map_fault, map_value, one, optional, optional_group, take_both, take_if, take_item}
-use Rattle.rlp_codec.specs.Laws.{AreLawful, AreSeen, GivesOnly, IsLawful, IsSeen, IsStrictPart, ReadsBack, TakesBack, TakesOnly, viewed, views_of}
+use Rattle.rlp_codec.specs.Form.{Answer, Form, Fault, FieldsForm, FieldsReading, Reading, Taken, and_then, each, end, field, group, group_before, map_fault, map_value, no_fields, one, one_field, optional, optional_group, part_fields, take_both, take_if, take_item}
+use Rattle.rlp_codec.specs.Laws.{AreLawful, AreSeen, GivesOnly, IsLawful, IsSeen, IsStrictPart, ReadsBack, TakeWidth, TakesBack, TakesOnly, viewed, views_of}
 
 -- ---- what was taken
 
@@ -39,6 +39,40 @@ item_taken {M} read (v ∷ vs) x rest is =
     let m = is_mapped (read v).result (λ (y : M). (y, vs)) (x, rest) (not_faulty (λ e. (vs, e)) (map_value (λ (y : M). (y, vs)) (read v).result) (x, rest) is) in
     record { item = v; all = ap (λ ws. v ∷ ws) (ap (λ p. p.1) m.then); is = m.is ∙ ap Ok (ap (λ p. p.0) m.then) }
 
+-- ---- fields that are always the same number of items
+
+pub end_wide : {P : Type 0} → TakeWidth (no_fields {P = P})
+end_wide = record { taken = λ vs. omega arith }
+
+one_wide_by : {M : Type 0} (r : Result M Fault) (v : View) (vs : List View)
+    → IfOk (map_fault {F = List View × Fault} (λ e. (vs, e)) (map_value {B = M × List View} (λ x. (x, vs)) r)) (λ t. length (v ∷ vs) ≡ 1 + length t.1)
+one_wide_by (Ok x) v vs = omega arith
+one_wide_by (Err e) v vs = tt
+
+pub one_wide : {A : Type 0} (r : Reading A) → TakeWidth (one_field r)
+one_wide r = record { taken = by }
+  where
+    by : (vs : List View) → IfOk (take_item r.read vs).result (λ t. length vs ≡ 1 + length t.1)
+    by [] = tt
+    by (v ∷ vs) = one_wide_by (r.read v).result v vs
+
+two_wide : {A B C : Type 0} (n m : ℕ) (f : A → B → C) (r : Result (B × List View) (List View × Fault)) (x : A) (vs left : List View) → length vs ≡ n + length left
+    → IfOk r (λ t. length left ≡ m + length t.1) → IfOk (map_value {B = C × List View} (λ t. (f x t.0, t.1)) r) (λ t. length vs ≡ (n + m) + length t.1)
+two_wide n m f (Ok t) x vs left first second = omega (arith, first, second)
+two_wide n m f (Err e) x vs left first second = tt
+
+both_wide : {A B : Type 0} (n m : ℕ) (r : Result (A × List View) (List View × Fault)) (more : List View → Taken B) (vs : List View)
+    → IfOk r (λ t. length vs ≡ n + length t.1) → ((left : List View) → IfOk (more left).result (λ t. length left ≡ m + length t.1))
+    → IfOk (and_then {B = (A × B) × List View} r (λ t. map_value (λ u. ((t.0, u.0), u.1)) (more t.1).result)) (λ t. length vs ≡ (n + m) + length t.1)
+both_wide n m (Ok t) more vs first second = two_wide n m (λ x y. (x, y)) (more t.1).result t.0 vs t.1 first (second t.1)
+both_wide n m (Err e) more vs first second = tt
+
+pub group_wide : {A P : Type 0} (value : P → A) (r : FieldsReading A) (more : FieldsReading P) → TakeWidth r → TakeWidth more → TakeWidth (group_before value r more)
+group_wide value r more law others = record { taken = λ vs. both_wide r.width more.width (r.read vs).result more.read vs (law.taken vs) others.taken }
+
+pub part_wide : {P Q : Type 0} (part : P → Q) (r : FieldsReading Q) → TakeWidth r → TakeWidth (part_fields part r)
+part_wide part r law = record { taken = law.taken }
+
 -- ---- no more fields
 
 pub end_back : {P : Type 0} (is_strict : Bool) → TakesBack is_strict (end {P = P})
@@ -54,7 +88,7 @@ pub end_told : {P : Type 0} → AreSeen (end {P = P})
 end_told = record { fits = λ p q same fit. tt; written = λ p. refl }
 
 pub end_lawful : {P : Type 0} → AreLawful (end {P = P})
-end_lawful = record { told = end_told; back = end_back; exact = end_only }
+end_lawful = record { told = end_told; wide = λ fixed. end_wide; back = end_back; exact = end_only }
 
 pub views_append : (is_strict : Bool) (xs ys : List Item) → views_of is_strict (xs ++ ys) ≡ views_of is_strict xs ++ views_of is_strict ys
 views_append is_strict xs ys = map-append (λ x. viewed is_strict (encoding x)) xs ys
@@ -86,7 +120,7 @@ module _ {A : Type 0} (c : Form A) where
   one_told law = record { fits = law.fits; written = λ x. ap (λ i. i ∷ []) (law.written x) }
 
   pub one_lawful : IsLawful c → AreLawful (one c)
-  one_lawful law = record { told = one_told law.told; back = λ is_strict. one_back is_strict (law.back is_strict); exact = one_only law.exact }
+  one_lawful law = record { told = one_told law.told; wide = λ fixed. one_wide c.reading; back = λ is_strict. one_back is_strict (law.back is_strict); exact = one_only law.exact }
 
 -- ---- fields of a part, before others
 
@@ -157,6 +191,7 @@ module _ {A P : Type 0} (value : P → A) (f : FieldsForm A) (more : FieldsForm 
   pub group_lawful : AreLawful f → AreLawful more → AreLawful (group value f more)
   group_lawful law others = record {
     told = group_told law.told others.told;
+    wide = λ last. group_wide value f.reading more.reading (law.wide fixed) (others.wide last);
     back = λ is_strict. group_back is_strict (law.back is_strict) (others.back is_strict);
     exact = group_only law.exact others.exact;
   }
@@ -245,6 +280,7 @@ module _ {A P : Type 0} (value : P → Option A) (f : FieldsForm A) where
   pub optional_group_lawful : f.reading.accepts 0 ≡ false → AreLawful f → AreLawful (optional_group value f)
   optional_group_lawful some law = record {
     told = optional_group_told law.told;
+    wide = λ last. absurd (let no : ⊥ = cc in no);
     back = λ is_strict. optional_group_back is_strict some (law.back is_strict);
     exact = optional_group_only law.exact;
   }

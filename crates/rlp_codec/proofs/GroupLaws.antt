@@ -1,5 +1,5 @@
 -- Groups of fields at the end of a struct.
-use Rattle.std.proofs.Common.{Bool, Err, List, Ok, Result, [], ap, append-nil, append_assoc, arith, eq-eqb, false, length, length-append, map, refl, subst, suc, sym, true, zero, ℕ, ◌%◌, ◌++◌, ◌-◌, ◌<◌, ◌==◌, ◌^◌, ◌∙◌, ◌∷◌, ◌≡◌, ◌≤◌}
+use Rattle.std.proofs.Common.{Bool, Err, IfOk, List, Ok, Result, [], ap, append-nil, append_assoc, arith, eq-eqb, false, length, length-append, map, refl, subst, suc, sym, true, zero, ℕ, ◌%◌, ◌+◌, ◌++◌, ◌<◌, ◌==◌, ◌^◌, ◌∙◌, ◌∷◌, ◌≡◌, ◌≤◌}
 use Rattle.std.proofs.Math.Nat.{mod-eq_of_lt}
 use Rattle.std.proofs.lemmas.List.{length-map, map-append}
 use Rattle.std.proofs.lemmas.List.Elements.{All-from_recursion, recursion_from_All}
@@ -9,11 +9,16 @@ use Rattle.rlp_format.specs.Values.Value.{all_items}
 use Rattle.rlp_reading.proofs.Lemmas.Groups.{groups_counted, groups_right}
 use Rattle.rlp_reading.specs.Views.View.{View}
 use Rattle.rlp_codec.proofs.ListLaws.{goes_on, is_mapped, lists_fit}
-use Rattle.rlp_codec.specs.Form.{Fault, FieldsForm, Taken, and_then, groups, map_value, take_each}
-use Rattle.rlp_codec.specs.Laws.{AreLawful, AreSeen, IsStrictPart, TakesBack, TakesOnly, viewed, views_of}
+use Rattle.rlp_codec.specs.Form.{Answer, Fault, FieldsForm, FieldsReading, Path, Taken, and_then, go_on, groups, map_taken, map_value, most_groups, take_each}
+use Rattle.rlp_codec.specs.Laws.{AreLawful, AreSeen, IsStrictPart, TakeWidth, TakesBack, TakesOnly, viewed, views_of}
 use Rattle.rlp_codec.proofs.FieldLaws.{all_first, ok_same, views_append}
 
 -- ---- groups at the end
+
+-- groups that have items are at most as many as the items
+pub as_many : (width n : ℕ) → 0 < width → most_groups width n ≡ n
+as_many zero n some = absurd (omega arith)
+as_many (suc width) n some = refl
 
 module _ {A P : Type 0} (values : P → List A) (f : FieldsForm A) (fixed : f.reading.is_fixed ≡ true) (some : (0 == f.reading.width) ≡ false) where
   not_zero : 0 < f.reading.width
@@ -75,7 +80,9 @@ module _ {A P : Type 0} (values : P → List A) (f : FieldsForm A) (fixed : f.re
   groups_back is_strict law = record {
     counted = λ p fit. groups_right_by is_strict law (values p);
     wide = λ p last. absurd (let no : ⊥ = cc in no);
-    back = λ p rest last fit sized. groups_back_by is_strict law p rest (last refl) (recursion_from_All f.Fits (values p) fit) sized;
+    back = λ p rest last fit sized.
+        let vs = views_of is_strict (all_items f.items (values p)) ++ rest in
+        ap (λ n. each n vs) (as_many f.reading.width (length vs) not_zero) ∙ groups_back_by is_strict law p rest (last refl) (recursion_from_All f.Fits (values p) fit) sized;
   }
 
   -- what is known of the groups that follow goes on with one more
@@ -118,7 +125,7 @@ module _ {A P : Type 0} (values : P → List A) (f : FieldsForm A) (fixed : f.re
   pub groups_only : TakesOnly f → TakesOnly (groups values f)
   groups_only law = record {
     only = λ p vs rest parts is.
-        let h = each_only law (length vs) vs rest (values p) parts is in (All-from_recursion f.Fits (values p) h.0, h.1);
+        let h = each_only law (most_groups f.reading.width (length vs)) vs rest (values p) parts is in (All-from_recursion f.Fits (values p) h.0, h.1);
   }
 
   each_written : AreSeen f → (xs : List A) → all_items f.reading.items (map f.reading.seen xs) ≡ all_items f.items xs
@@ -133,37 +140,71 @@ module _ {A P : Type 0} (values : P → List A) (f : FieldsForm A) (fixed : f.re
 
   -- that each group is the same number of items, and not none, is proved by `refl`
   pub groups_lawful : AreLawful f → AreLawful (groups values f)
-  groups_lawful law = record { told = groups_told law.told; back = λ is_strict. groups_back is_strict (law.back is_strict); exact = groups_only law.exact }
+  groups_lawful law = record { told = groups_told law.told; wide = λ last. absurd (let no : ⊥ = cc in no); back = λ is_strict. groups_back is_strict (law.back is_strict); exact = groups_only law.exact }
 
 -- ---- for bodies of `decode_fields`
 
--- one more turn takes one more group
-pub one_turn : {M : Type 0} (read : List View → Taken M) (n : ℕ) (vs left : List View) (m : M) → 0 < n → ¬ (vs ≡ []) → (read vs).result ≡ Ok (m, left)
-    → (take_each read n vs).result ≡ map_value (λ (t : List M × List View). (m ∷ t.0, t.1)) (take_each read (n - 1) left).result
-one_turn read zero vs left m some more is = absurd (omega arith)
-one_turn read (suc n) [] left m some more is = absurd (more refl)
-one_turn {M} read (suc n) (v ∷ vs) left m some more is =
-    let less : suc n - 1 ≡ n = omega arith in
-    ap (λ r. and_then r (λ (t : M × List View). map_value (λ (u : List M × List View). (t.0 ∷ u.0, u.1)) (take_each read n t.1).result)) is
-    ∙ ap (λ k. map_value (λ (t : List M × List View). (m ∷ t.0, t.1)) (take_each read k left).result) (sym less)
+-- what follows a value is the same, if it is the same for the value that there is
+same_after : {A B E : Type 0} (r : Result A E) (q : Path) (f g : A → Answer B E) → IfOk r (λ x. f x ≡ g x)
+    → go_on (record { result = r; path = q }) f ≡ go_on (record { result = r; path = q }) g
+same_after (Ok x) q f g same = ap (λ (a : Answer _ _). record { result = a.result; path = a.path }) same
+same_after (Err e) q f g same = refl
 
--- a turn whose group fails has the fault of the group
-pub turn_fails : {M : Type 0} (read : List View → Taken M) (n : ℕ) (vs : List View) (e : List View × Fault) → 0 < n → ¬ (vs ≡ []) → (read vs).result ≡ Err e
-    → (take_each read n vs).result ≡ Err e
-turn_fails read zero vs e some more is = absurd (omega arith)
-turn_fails read (suc n) [] e some more is = absurd (more refl)
-turn_fails {M} read (suc n) (v ∷ vs) e some more is =
-    ap (λ r. and_then r (λ (t : M × List View). map_value (λ (u : List M × List View). (t.0 ∷ u.0, u.1)) (take_each read n t.1).result)) is
+module _ {A : Type 0} (r : FieldsReading A) (law : TakeWidth r) (some : 0 < r.width) where
+  abbrev groups_from : List View → Result (List r.M × List View) (List View × Fault)
+  groups_from vs = (take_each r.read (length vs) vs).result
 
--- no turn is left, or no view
-pub no_turn : {M : Type 0} (read : List View → Taken M) (n : ℕ) (vs : List View) → n ≤ 0 → (take_each read n vs).result ≡ Ok ([], vs)
-no_turn read zero vs none = refl
-no_turn read (suc n) vs none = absurd (omega arith)
+  after_one : (turns others : ℕ) (x : Result (r.M × List View) (List View × Fault)) (v : View) (vs : List View)
+      → ((left : List View) → length left ≤ length vs → take_each r.read turns left ≡ take_each r.read others left)
+      → IfOk x (λ t. length (v ∷ vs) ≡ r.width + length t.1)
+      → IfOk x (λ t. map_taken (λ xs. t.0 ∷ xs) (take_each r.read turns t.1) ≡ map_taken (λ xs. t.0 ∷ xs) (take_each r.read others t.1))
+  after_one turns others (Ok t) v vs same many = ap (λ a. map_taken (λ xs. t.0 ∷ xs) a) (same t.1 (omega (arith, many, some)))
+  after_one turns others (Err e) v vs same many = tt
 
-pub no_view : {M : Type 0} (read : List View → Taken M) (n : ℕ) (vs : List View) → vs ≡ [] → (take_each read n vs).result ≡ Ok ([], vs)
-no_view read zero vs none = refl
-no_view read (suc n) [] none = refl
-no_view read (suc n) (v ∷ vs) none = absurd (let no : ⊥ = cc in no)
+  -- turns that are as many as the views are enough
+  enough_turns : (turns others : ℕ) (vs : List View) → length vs ≤ turns → length vs ≤ others → take_each r.read turns vs ≡ take_each r.read others vs
+  enough_turns zero zero vs few less = refl
+  enough_turns zero (suc others) [] few less = refl
+  enough_turns zero (suc others) (v ∷ vs) few less = absurd (omega (arith, few))
+  enough_turns (suc turns) zero [] few less = refl
+  enough_turns (suc turns) zero (v ∷ vs) few less = absurd (omega (arith, less))
+  enough_turns (suc turns) (suc others) [] few less = refl
+  enough_turns (suc turns) (suc others) (v ∷ vs) few less =
+      same_after (r.read (v ∷ vs)).result (r.read (v ∷ vs)).path (λ t. map_taken (λ xs. t.0 ∷ xs) (take_each r.read turns t.1)) (λ t. map_taken (λ xs. t.0 ∷ xs) (take_each r.read others t.1))
+      (after_one turns others (r.read (v ∷ vs)).result v vs (λ left many. enough_turns turns others left (omega (arith, many, few)) (omega (arith, many, less))) (law.taken (v ∷ vs)))
+
+  -- what a group leaves is less than what it was taken from
+  pub less_left : (vs left : List View) (m : r.M) → (r.read vs).result ≡ Ok (m, left) → length left < length vs
+  less_left vs left m is =
+      let many : IfOk (let x : Result (r.M × List View) (List View × Fault) = Ok (m, left) in x) (λ t. length vs ≡ r.width + length t.1) =
+      subst (λ x. IfOk x (λ t. length vs ≡ r.width + length t.1)) is (law.taken vs) in
+      omega (arith, many, some)
+
+  -- one group is taken, and then the groups from what it leaves
+  pub one_group : (vs left : List View) (m : r.M) → (r.read vs).result ≡ Ok (m, left)
+      → groups_from vs ≡ map_value (λ (t : List r.M × List View). (m ∷ t.0, t.1)) (groups_from left)
+  one_group [] left m is = absurd (omega (arith, less_left [] left m is))
+  one_group (v ∷ vs) left m is =
+      let less = less_left (v ∷ vs) left m is in
+      ap (λ x. and_then x (λ (t : r.M × List View). map_value (λ (u : List r.M × List View). (t.0 ∷ u.0, u.1)) (take_each r.read (length vs) t.1).result)) is
+      ∙ ap (λ (a : Taken (List r.M)). map_value (λ (t : List r.M × List View). (m ∷ t.0, t.1)) a.result) (enough_turns (length vs) (length left) left (omega (arith, less)) (omega arith))
+
+-- a group fails where there is a view
+pub group_fails : {M : Type 0} (read : List View → Taken M) (vs : List View) (e : List View × Fault) → ¬ (vs ≡ []) → (read vs).result ≡ Err e
+    → (take_each read (length vs) vs).result ≡ Err e
+group_fails read [] e more is = absurd (more refl)
+group_fails {M} read (v ∷ vs) e more is =
+    ap (λ r. and_then r (λ (t : M × List View). map_value (λ (u : List M × List View). (t.0 ∷ u.0, u.1)) (take_each read (length vs) t.1).result)) is
+
+-- there is no group where there is no view
+pub no_group : {M : Type 0} (read : List View → Taken M) (vs : List View) → vs ≡ [] → (take_each read (length vs) vs).result ≡ Ok ([], vs)
+no_group read [] none = refl
+no_group read (v ∷ vs) none = absurd (let no : ⊥ = cc in no)
+
+-- groups that have no items are not read
+pub none_read : {M : Type 0} (read : List View → Taken M) (width : ℕ) (vs : List View) → width ≡ 0 → (take_each read (most_groups width (length vs)) vs).result ≡ Ok ([], vs)
+none_read read zero vs none = refl
+none_read read (suc width) vs none = absurd (omega arith)
 
 -- one more group, after those that were read
 pub one_pushed : {A M : Type 0} (seen : A → M) (xs : List A) (x : A) (r : Result (List M × List View) (List View × Fault))
@@ -173,7 +214,7 @@ one_pushed seen xs x (Err e) = refl
 one_pushed seen xs x (Ok t) =
     ap (λ zs. Ok (zs, t.1)) (sym (append_assoc (map seen xs) (seen x ∷ []) t.0) ∙ ap (λ zs. zs ++ t.0) (sym (map-append seen xs (x ∷ []))))
 
-pub ruleset take_steps = (one_turn, turn_fails, no_turn, no_view, one_pushed)
+pub ruleset take_groups = (group_fails, no_group, none_read, one_pushed)
 
 -- a number of items that is smaller than the width is a number of whole groups if it is none
 pub few_items : (n w : ℕ) → 2 ^ 64 ≤ w → n < 2 ^ 64 → n % w ≡ n

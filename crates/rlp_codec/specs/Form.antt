@@ -367,10 +367,23 @@ path_in n (Err e) path = (n - 1 - length e.0) ∷ path
 abbrev pub in_list : {M : Type 0} → ℕ → Taken M → Answer M Fault
 in_list n t = record { result = map_fault (λ e. e.1) (map_value (λ m. m.0) t.result); path = path_in n t.result t.path }
 
--- What the fields take from the items of a list, if the number of items is possible and no item is left.
+-- The fault of a list with a wrong number of items, where a fault was found: a wrong number comes before every fault but the want of memory.
+abbrev pub wrong_number : Fault → Fault
+wrong_number out_of_memory = out_of_memory
+wrong_number e = incorrect_list_len
+
+-- The answer of a list whose number of items is possible or not, as the Bool says: if not, a fault is a fault of the list as a whole.
+abbrev pub if_possible : {M : Type 0} → Bool → Answer M Fault → Answer M Fault
+if_possible true a = a
+if_possible false a = here (map_fault wrong_number a.result)
+
+-- What the fields take from the items of a list, if no item is left.
+abbrev pub take_all : {M : Type 0} → (List View → Taken M) → List View → Taken M
+take_all read vs = go_on (read vs) (λ t. all_taken t.0 t.1)
+
+-- What the fields take from the items of a list, if no item is left; or a fault, which says first whether the number of items is possible.
 abbrev pub read_struct : {M : Type 0} → (ℕ → Bool) → (List View → Taken M) → List View → Answer M Fault
-read_struct accepts read vs =
-    if accepts (length vs) then in_list (length vs) (go_on (read vs) (λ t. all_taken t.0 t.1)) else here (Err incorrect_list_len)
+read_struct accepts read vs = if_possible (accepts (length vs)) (in_list (length vs) (take_all read vs))
 
 -- The reading of a struct from the list of the fields.
 abbrev pub struct_reading : {P : Type 0} → FieldsReading P → Reading P
@@ -434,13 +447,18 @@ optional_fields value r = record {
   takes_memory = r.takes_memory;
 }
 
+-- The most groups of `width` items that n items can be: none if a group has no items.
+abbrev pub most_groups : ℕ → ℕ → ℕ
+most_groups zero n = 0
+most_groups (suc width) n = n
+
 -- The reading of groups at the end, each of the same fields.
 abbrev pub group_fields : {A P : Type 0} → (P → List A) → FieldsReading A → FieldsReading P
 group_fields values r = record {
   M = List r.M;
   seen = λ p. map r.seen (values p);
   items = all_items r.items;
-  read = λ vs. take_each r.read (length vs) vs;
+  read = λ vs. take_each r.read (most_groups r.width (length vs)) vs;
   accepts = λ n. n % r.width == 0;
   width = 0;
   is_fixed = false;

@@ -1,5 +1,5 @@
 -- What codecs promise.
-use Rattle.std.specs.Prelude.{ℕ, ◌≡◌, ◌^◌, ◌<◌, ◌⊎◌, Bool, true, false, List, [], ◌++◌, length, map, Ok}
+use Rattle.std.specs.Prelude.{ℕ, ◌≡◌, ◌^◌, ◌<◌, ◌⊎◌, ◌+◌, Bool, true, false, List, [], ◌++◌, length, map, IfOk, Ok}
 use Rattle.std.specs.List.{AllByRecursion}
 use Rattle.rlp_format.specs.Format.Encoding.{Item, AreBytes, IsSized, encoding}
 use Rattle.rlp_reading.specs.Views.View.{View, Holds, strict_view_of}
@@ -79,9 +79,14 @@ pub record AreSeen {P : Type 0} (f : FieldsForm P) : Type 0 where
   pub fits : (p q : P) → f.reading.seen p ≡ f.reading.seen q → f.Fits p → f.Fits q
   pub written : (p : P) → f.reading.items (f.reading.seen p) ≡ f.items p
 
+-- The fields are always `width` items.
+pub record TakeWidth {P : Type 0} (r : FieldsReading P) : Type 0 where
+  pub taken : (vs : List View) → IfOk (r.read vs).result (λ t. length vs ≡ r.width + length t.1)
+
 -- FieldsForm that fit are read back, and strict views give no other fields.
 pub record AreLawful {P : Type 0} (f : FieldsForm P) : Type 0 where
   pub told : AreSeen f
+  pub wide : f.reading.is_fixed ≡ true → TakeWidth f.reading
   pub back : (is_strict : Bool) → TakesBack is_strict f
   pub exact : TakesOnly f
 

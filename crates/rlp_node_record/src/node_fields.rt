@@ -2,13 +2,14 @@
 
 ghost use Rattle.std.specs.Prelude.{◌≡◌, OnOk, IfOk};
 ghost use Rattle.rlp.specs.Format.Encoding.{encoding};
+ghost use Rattle.std.specs.Prelude.{refl};
 ghost use Rattle.rlp_node_record.specs.NodeFields.{pair_fields, node_fields};
 
 use bytes::BytesMut;
 use rlp::{
-    AppendFields, Decodable, DecodeFields, DecodeFieldsPlaced, DecodePlaced, DecoderError,
-    Encodable, Fields, FixedFields, Flattened, Groups, RawItem, Rlp, RlpStream, RoundTrip,
-    StrictRead,
+    AppendFields, CountedFields, Decodable, DecodeFields, DecodeFieldsPlaced, DecodePlaced,
+    DecoderError, Encodable, Fields, FixedFields, Flattened, Groups, RawItem, Rlp, RlpStream,
+    RoundTrip, StrictRead,
 };
 use std::alloc::{AllocError, Global};
 
@@ -65,11 +66,10 @@ impl DecodeFields for NodePair {
 impl DecodeFieldsPlaced for NodePair {
     fn put_path(
         alloc: Global,
-        count: usize,
-        fields: &mut Fields<'_>,
+        fields: &mut CountedFields<'_>,
         path: &mut Vec<usize>,
     ) -> Result<bool, AllocError> {
-        <(Vec<u8>, (RawItem, ())) as DecodeFieldsPlaced>::put_path(alloc, count, fields, path)
+        <(Vec<u8>, (RawItem, ())) as DecodeFieldsPlaced>::put_path(alloc, fields, path)
     }
 }
 
@@ -77,6 +77,8 @@ impl FixedFields for NodePair {
     fn width() -> Option<usize> {
         Some(2)
     }
+
+    ghost takes = { pair_fields.laws.wide refl };
 }
 
 impl Encodable for NodeFields {

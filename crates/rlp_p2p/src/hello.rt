@@ -1,11 +1,12 @@
 //! Greetings of the capability `p2p` of RLPx.
 
+ghost use Rattle.std.specs.Prelude.{refl};
 ghost use Rattle.rlp_p2p.specs.Hello.{node_id, capability, further_fields, hello};
 
 use rlp::{
-    AppendFields, Decodable, DecodeFields, DecodeFieldsPlaced, DecodePlaced, DecoderError,
-    Encodable, Fields, FixedFields, Flattened, Groups, ListField, ListOf, RawItem, Rlp, RlpStream,
-    RoundTrip, StrictRead,
+    AppendFields, CountedFields, Decodable, DecodeFields, DecodeFieldsPlaced, DecodePlaced,
+    DecoderError, Encodable, Fields, FixedFields, Flattened, Groups, ListField, ListOf, RawItem,
+    Rlp, RlpStream, RoundTrip, StrictRead,
 };
 use std::alloc::{AllocError, Global};
 
@@ -127,11 +128,10 @@ impl DecodeFields for FurtherItem {
 impl DecodeFieldsPlaced for FurtherItem {
     fn put_path(
         alloc: Global,
-        count: usize,
-        fields: &mut Fields<'_>,
+        fields: &mut CountedFields<'_>,
         path: &mut Vec<usize>,
     ) -> Result<bool, AllocError> {
-        <(RawItem, ()) as DecodeFieldsPlaced>::put_path(alloc, count, fields, path)
+        <(RawItem, ()) as DecodeFieldsPlaced>::put_path(alloc, fields, path)
     }
 }
 
@@ -139,6 +139,8 @@ impl FixedFields for FurtherItem {
     fn width() -> Option<usize> {
         Some(1)
     }
+
+    ghost takes = { further_fields.laws.wide refl };
 }
 
 /// The first message of a connection, 0x00 of `p2p`: the list of its five fields, and of further

@@ -1,6 +1,6 @@
 //! The first item of bytes. Its header is read once.
 
-ghost use Rattle.std.specs.Prelude.{◌≡◌, ◌↔◌, ◌+◌, ◌∷◌, ◌++◌, ◌<◌, ◌≤◌, [], length, Ok, Err, None, Some, IsTrue, IfOk, IfSome, MatchResult};
+ghost use Rattle.std.specs.Prelude.{◌≡◌, ◌↔◌, ◌+◌, ◌∷◌, ◌++◌, ◌<◌, ◌≤◌, [], drop, length, Ok, Err, None, Some, IsTrue, IfOk, IfSome, MatchResult};
 ghost use Rattle.rlp_reading.specs.Format.Framing.{HasHeader, IsFramedItem, fault, frame, framing, total_len, value, begins_as_list, split, is_followed, strict_fault};
 
 use crate::error::DecoderError;
@@ -14,6 +14,8 @@ pub struct Framed<'a> {
     pub content: &'a [u8],
     ghost reads: { value item.now ≡ Ok content.now },
     ghost ends: { total_len header ≡ length item.now },
+    ghost whole: { strict_fault item.now ≡ None },
+    ghost begins: { content.now ≡ drop header.header_len item.now },
 }
 
 impl<'a> Framed<'a> {

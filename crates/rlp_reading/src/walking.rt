@@ -179,7 +179,7 @@ pub fn put<R: Copy>(out: &mut [R], count: usize, row: R)
 
 /// Whether these bytes are a header in front of one byte that is its own encoding.
 #[inline(always)]
-fn is_needless(item: &[u8]) -> bool
+pub fn is_needless(item: &[u8]) -> bool
     ensures { result ≡ is_needless item.now }
 {
     match item {

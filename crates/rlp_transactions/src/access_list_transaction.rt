@@ -5,8 +5,8 @@ ghost use Rattle.rlp_transactions.specs.AccessListTransaction.{access_list_trans
 
 use crate::{AccessList, Payload, Recipient, Tagged, TypedTransaction};
 use rlp::{
-    AppendFields, DecodeFields, DecodeFieldsPlaced, DecoderError, Fields, FixedFields, RlpStream,
-    Uint,
+    AppendFields, CountedFields, DecodeFields, DecodeFieldsPlaced, DecoderError, Fields,
+    FixedFields, RlpStream, Uint,
 };
 use rlp_records::ACCESS_LIST_TYPE;
 use std::alloc::{AllocError, Global};
@@ -89,13 +89,12 @@ impl DecodeFields for AccessListTransaction {
 impl DecodeFieldsPlaced for AccessListTransaction {
     fn put_path(
         alloc: Global,
-        count: usize,
-        fields: &mut Fields<'_>,
+        fields: &mut CountedFields<'_>,
         path: &mut Vec<usize>,
     ) -> Result<bool, AllocError> {
         <rlp::field_types!(
             u64, u64, Uint<32>, u64, Recipient, Uint<32>, Vec<u8>, AccessList
-        ) as DecodeFieldsPlaced>::put_path(alloc, count, fields, path)
+        ) as DecodeFieldsPlaced>::put_path(alloc, fields, path)
     }
 }
 
@@ -103,6 +102,8 @@ impl FixedFields for AccessListTransaction {
     fn width() -> Option<usize> {
         Some(8)
     }
+
+    ghost takes = { access_list_transaction_fields.laws.wide refl };
 }
 
 impl Payload for AccessListTransaction {

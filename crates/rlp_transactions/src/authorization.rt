@@ -5,8 +5,8 @@ ghost use Rattle.rlp_transactions.specs.Authorization.{authorization_fields};
 
 use crate::{Payload, Signed, Tagged};
 use rlp::{
-    AppendFields, DecodeFields, DecodeFieldsPlaced, DecoderError, Fields, FixedFields, RlpStream,
-    Uint,
+    AppendFields, CountedFields, DecodeFields, DecodeFieldsPlaced, DecoderError, Fields,
+    FixedFields, RlpStream, Uint,
 };
 use rlp_records::Address;
 use std::alloc::{AllocError, Global};
@@ -70,13 +70,10 @@ impl DecodeFields for Authorization {
 impl DecodeFieldsPlaced for Authorization {
     fn put_path(
         alloc: Global,
-        count: usize,
-        fields: &mut Fields<'_>,
+        fields: &mut CountedFields<'_>,
         path: &mut Vec<usize>,
     ) -> Result<bool, AllocError> {
-        <(Uint<32>, (Address, (u64, ()))) as DecodeFieldsPlaced>::put_path(
-            alloc, count, fields, path,
-        )
+        <(Uint<32>, (Address, (u64, ()))) as DecodeFieldsPlaced>::put_path(alloc, fields, path)
     }
 }
 
@@ -84,6 +81,8 @@ impl FixedFields for Authorization {
     fn width() -> Option<usize> {
         Some(3)
     }
+
+    ghost takes = { authorization_fields.laws.wide refl };
 }
 
 impl Payload for Authorization {

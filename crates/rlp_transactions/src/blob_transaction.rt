@@ -5,8 +5,8 @@ ghost use Rattle.rlp_transactions.specs.BlobTransaction.{blob_transaction_fields
 
 use crate::{AccessList, Payload, Tagged, TypedTransaction};
 use rlp::{
-    AppendFields, DecodeFields, DecodeFieldsPlaced, DecoderError, Fields, FixedFields, ListField,
-    ListOf, RlpStream, Uint,
+    AppendFields, CountedFields, DecodeFields, DecodeFieldsPlaced, DecoderError, Fields,
+    FixedFields, ListField, ListOf, RlpStream, Uint,
 };
 use rlp_records::{Address, BLOB_TYPE, Hash};
 use std::alloc::{AllocError, Global};
@@ -103,14 +103,13 @@ impl DecodeFields for BlobTransaction {
 impl DecodeFieldsPlaced for BlobTransaction {
     fn put_path(
         alloc: Global,
-        count: usize,
-        fields: &mut Fields<'_>,
+        fields: &mut CountedFields<'_>,
         path: &mut Vec<usize>,
     ) -> Result<bool, AllocError> {
         <rlp::field_types!(
             u64, u64, Uint<32>, Uint<32>, u64, Address, Uint<32>, Vec<u8>, AccessList, Uint<32>,
             ListField<Hash>
-        ) as DecodeFieldsPlaced>::put_path(alloc, count, fields, path)
+        ) as DecodeFieldsPlaced>::put_path(alloc, fields, path)
     }
 }
 
@@ -118,6 +117,8 @@ impl FixedFields for BlobTransaction {
     fn width() -> Option<usize> {
         Some(11)
     }
+
+    ghost takes = { blob_transaction_fields.laws.wide refl };
 }
 
 impl Payload for BlobTransaction {

@@ -5,8 +5,8 @@ ghost use Rattle.rlp_transactions.specs.FeeMarketTransaction.{fee_market_transac
 
 use crate::{AccessList, Payload, Recipient, Tagged, TypedTransaction};
 use rlp::{
-    AppendFields, DecodeFields, DecodeFieldsPlaced, DecoderError, Fields, FixedFields, RlpStream,
-    Uint,
+    AppendFields, CountedFields, DecodeFields, DecodeFieldsPlaced, DecoderError, Fields,
+    FixedFields, RlpStream, Uint,
 };
 use rlp_records::FEE_MARKET_TYPE;
 use std::alloc::{AllocError, Global};
@@ -93,13 +93,12 @@ impl DecodeFields for FeeMarketTransaction {
 impl DecodeFieldsPlaced for FeeMarketTransaction {
     fn put_path(
         alloc: Global,
-        count: usize,
-        fields: &mut Fields<'_>,
+        fields: &mut CountedFields<'_>,
         path: &mut Vec<usize>,
     ) -> Result<bool, AllocError> {
         <rlp::field_types!(
             u64, u64, Uint<32>, Uint<32>, u64, Recipient, Uint<32>, Vec<u8>, AccessList
-        ) as DecodeFieldsPlaced>::put_path(alloc, count, fields, path)
+        ) as DecodeFieldsPlaced>::put_path(alloc, fields, path)
     }
 }
 
@@ -107,6 +106,8 @@ impl FixedFields for FeeMarketTransaction {
     fn width() -> Option<usize> {
         Some(9)
     }
+
+    ghost takes = { fee_market_transaction_fields.laws.wide refl };
 }
 
 impl Payload for FeeMarketTransaction {

@@ -8,8 +8,8 @@ ghost use Rattle.rlp_transactions.specs.Signatures.{IsNoV, SaysChain, number_of}
 
 use crate::{Eip155, Payload, Recipient, Signed};
 use rlp::{
-    AppendFields, DecodeFields, DecodeFieldsPlaced, DecoderError, Fields, FixedFields, RlpStream,
-    Uint,
+    AppendFields, CountedFields, DecodeFields, DecodeFieldsPlaced, DecoderError, Fields,
+    FixedFields, RlpStream, Uint,
 };
 use std::alloc::{AllocError, Global};
 
@@ -122,13 +122,12 @@ impl DecodeFields for LegacyTransaction {
 impl DecodeFieldsPlaced for LegacyTransaction {
     fn put_path(
         alloc: Global,
-        count: usize,
-        fields: &mut Fields<'_>,
+        fields: &mut CountedFields<'_>,
         path: &mut Vec<usize>,
     ) -> Result<bool, AllocError> {
         <rlp::field_types!(
             u64, Uint<32>, u64, Recipient, Uint<32>, Vec<u8>
-        ) as DecodeFieldsPlaced>::put_path(alloc, count, fields, path)
+        ) as DecodeFieldsPlaced>::put_path(alloc, fields, path)
     }
 }
 
@@ -136,6 +135,8 @@ impl FixedFields for LegacyTransaction {
     fn width() -> Option<usize> {
         Some(6)
     }
+
+    ghost takes = { legacy_transaction_fields.laws.wide refl };
 }
 
 impl Payload for LegacyTransaction {

@@ -5,8 +5,8 @@ ghost use Rattle.rlp_transactions.specs.SetCodeTransaction.{set_code_transaction
 
 use crate::{AccessList, Payload, SignedAuthorization, Tagged, TypedTransaction};
 use rlp::{
-    AppendFields, DecodeFields, DecodeFieldsPlaced, DecoderError, Fields, FixedFields, ListField,
-    ListOf, RlpStream, Uint,
+    AppendFields, CountedFields, DecodeFields, DecodeFieldsPlaced, DecoderError, Fields,
+    FixedFields, ListField, ListOf, RlpStream, Uint,
 };
 use rlp_records::{Address, SET_CODE_TYPE};
 use std::alloc::{AllocError, Global};
@@ -100,14 +100,13 @@ impl DecodeFields for SetCodeTransaction {
 impl DecodeFieldsPlaced for SetCodeTransaction {
     fn put_path(
         alloc: Global,
-        count: usize,
-        fields: &mut Fields<'_>,
+        fields: &mut CountedFields<'_>,
         path: &mut Vec<usize>,
     ) -> Result<bool, AllocError> {
         <rlp::field_types!(
             u64, u64, Uint<32>, Uint<32>, u64, Address, Uint<32>, Vec<u8>, AccessList,
             ListField<SignedAuthorization>
-        ) as DecodeFieldsPlaced>::put_path(alloc, count, fields, path)
+        ) as DecodeFieldsPlaced>::put_path(alloc, fields, path)
     }
 }
 
@@ -115,6 +114,8 @@ impl FixedFields for SetCodeTransaction {
     fn width() -> Option<usize> {
         Some(10)
     }
+
+    ghost takes = { set_code_transaction_fields.laws.wide refl };
 }
 
 impl Payload for SetCodeTransaction {

@@ -1,26 +1,28 @@
 //! A decoder of one string.
 
-ghost use Rattle.std.specs.Prelude.{◌≡◌, ◌+◌, ◌-◌, length, IsTrue, Ok, Err, IfOk, IfErr, IfSome, IsErrAnd, MatchResult};
+ghost use Rattle.std.specs.Prelude.{◌≡◌, ◌+◌, ◌-◌, length, IsTrue, None, Ok, Err, IfOk, IfErr, IfSome, IsErrAnd, MatchResult};
 ghost use Rattle.std.specs.Fn.{FnReturnsAt};
+ghost use Rattle.rlp_reading.specs.Format.Framing.{strict_fault, value};
 ghost use Rattle.rlp_reading.specs.Views.View.{HoldsNoString, HoldsString, view_of, view_string, View};
 
+use crate::rlpin::rlp::Rlp;
 use rlp_reading::error::DecoderError;
-use rlp_reading::framed::is_followed;
+use rlp_reading::framed::{begins_as_list, is_followed};
 use rlp_reading::string_reading::string_in;
+use rlp_reading::walking::is_needless;
 use std::marker::Model;
 
 /// A decoder of the string that bytes begin with. Contracts see it as the record `View` of its
 /// bytes and its kind.
 #[derive(Drop)]
 pub struct BasicDecoder<'a> {
-    rlp: &'a [u8],
-    strict: bool,
+    rlp: Rlp<'a>,
 }
 
 impl<'a> Model for BasicDecoder<'a> {
     ghost Value = { View };
 
-    ghost view = { λ d. record { bytes = d.rlp.now; is_strict = d.strict } };
+    ghost view = { λ d. d.rlp };
 }
 
 impl<'a> BasicDecoder<'a> {
@@ -28,14 +30,15 @@ impl<'a> BasicDecoder<'a> {
     pub fn new(rlp: &'a [u8]) -> BasicDecoder<'a>
         ensures { result ≡ view_of rlp.now }
     {
-        BasicDecoder::of_kind(rlp, false)
+        BasicDecoder::of(Rlp::new(rlp))
     }
 
-    /// A decoder of these bytes, lenient or strict.
-    pub(crate) fn of_kind(rlp: &'a [u8], strict: bool) -> BasicDecoder<'a>
-        ensures { result ≡ record { bytes = rlp.now; is_strict = strict } }
+    /// A decoder of the bytes of a view, of the same kind.
+    #[inline(always)]
+    pub(crate) fn of(rlp: Rlp<'a>) -> BasicDecoder<'a>
+        ensures { result ≡ rlp.entry }
     {
-        BasicDecoder { rlp, strict }
+        BasicDecoder { rlp }
     }
 
     /// Calls `f` with the string that the bytes begin with, without its header, and returns its
@@ -88,11 +91,15 @@ impl<'a> BasicDecoder<'a> {
         ensures held { MatchResult (view_string self.now) (λ d. HoldsString self.now d)
             (λ _. HoldsNoString self.now) }
     {
-        let string = match string_in(self.rlp) {
+        if let Some(string) = self.rlp.known_string() {
+            return Ok(string);
+        }
+        let bytes = self.rlp.as_raw();
+        let string = match string_in(bytes) {
             Ok(string) => string,
             Err(fault) => return Err(fault),
         };
-        if self.strict && is_followed(self.rlp) {
+        if self.rlp.is_strict() && is_followed(bytes) {
             return Err(DecoderError::RlpIsTooBig);
         }
         Ok(string)
@@ -106,11 +113,31 @@ impl<'a> BasicDecoder<'a> {
         ensures held { MatchResult (view_string self.now) (λ d. HoldsString self.now d)
             (λ _. HoldsNoString self.now) }
     {
-        match short_string(self.rlp, self.strict) {
+        if let Some(string) = self.rlp.known_string() {
+            return Ok(string);
+        }
+        match short_string(self.rlp.as_raw(), self.rlp.is_strict()) {
             Some(string) => Ok(string),
             None => self.string(),
         }
     }
+}
+
+/// The string whose encoding the bytes are, if they are a string in the shortest form. The bytes are
+/// exactly one item, which has this content. `None` says nothing about the bytes.
+#[inline(always)]
+pub(crate) fn item_string<'a>(bytes: &[u8], strict: bool, content: &'a [u8]) -> Option<&'a [u8]>
+    requires whole { strict_fault bytes.now ≡ None }
+    requires content { value bytes.now ≡ Ok content.now }
+    ensures held { IfSome result
+        (λ d. HoldsString (record { bytes = bytes.now; is_strict = strict }) d.now) }
+    ensures exact { IfSome result
+        (λ d. view_string (record { bytes = bytes.now; is_strict = strict }) ≡ Ok d.now) }
+{
+    if begins_as_list(bytes) || is_needless(bytes) {
+        return None;
+    }
+    Some(content)
 }
 
 /// Whether an item may end at `len`: nothing follows it if it is read strictly.

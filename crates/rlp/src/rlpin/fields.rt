@@ -1,11 +1,11 @@
 //! The items of a list, read in order as values.
 
-ghost use Rattle.std.specs.Prelude.{◌≡◌, ◌≢◌, ◌≤◌, ◌+◌, ◌∷◌, ◌⊎◌, ◌↔◌, [], ℕ, length, map, None, Ok, Err, Some, IfOk, IfErr, IsOkAnd, IsTrue, MatchOption, MatchResult, OnOk};
+ghost use Rattle.std.specs.Prelude.{◌≡◌, ◌≢◌, ◌≤◌, ◌<◌, ◌^◌, ◌∷◌, ◌⊎◌, ◌↔◌, [], ℕ, length, map, None, Ok, Err, Some, IfOk, IfErr, IsOkAnd, IsTrue, MatchOption, MatchResult, OnOk};
 ghost use Rattle.rlp_reading.specs.declared.error.DecoderError.TheVariants.{OutOfMemory, RlpIncorrectListLen};
 ghost use Rattle.rlp_reading.specs.Format.Framing.{fault, split, after_items};
 ghost use Rattle.rlp_reading.specs.Views.View.{View, item_at, item_count, item_views, items_fault};
 ghost use Rattle.rlp_codec.specs.Form.{and_then, fault_of, items_of, list_of_views, list_reading, seen_fault};
-ghost use Rattle.rlp.specs.Left.{AreCounted, ItemsLeft, after_next, next_item};
+ghost use Rattle.rlp.specs.Left.{ItemsLeft, after_next, next_item};
 
 use crate::rlpin::rlp::Rlp;
 use crate::traits::Decodable;
@@ -16,7 +16,8 @@ use std::alloc::Global;
 use std::marker::Model;
 
 /// A reader of the items of a list, one after another. Contracts see it as the record `ItemsLeft` of
-/// the views of the items that are left, of the error past the last item, and of the list.
+/// the views of the items that are left, of the error past the last item, and of the bytes that
+/// follow the items in the list.
 ///
 /// It keeps its place, so it reads the header of each item once. [`Rlp::val_at`] begins at the
 /// start of the list each time. Each call returns what [`Rlp::val_at`], [`Rlp::list_at`] or
@@ -32,9 +33,6 @@ use std::marker::Model;
 pub struct Fields<'a> {
     items: ItemReader<'a>,
     strict: bool,
-    taken: usize,
-    // The number of items of the list, those that were taken included, if they were counted.
-    count: Option<usize>,
 }
 
 impl<'a> Model for Fields<'a> {
@@ -43,13 +41,8 @@ impl<'a> Model for Fields<'a> {
     ghost view = { λ f. record {
       views = map (λ b. record { bytes = b; is_strict = f.strict }) (split f.items.rest);
       past = fault (after_items f.items.rest);
-      list = record {
-        count = f.taken + length (split f.items.rest);
-        after = after_items f.items.rest;
-      };
+      after = after_items f.items.rest;
     } };
-
-    ghost invariant = { λ f. AreCounted f.taken f.count (split f.items.rest) };
 }
 
 impl<'a> Rlp<'a> {
@@ -91,8 +84,9 @@ impl<'a> Fields<'a> {
     #[inline(always)]
     #[tactic(auto, using(rlp_codec::proofs::ListLaws::items_told))]
     pub fn of(rlp: &Rlp<'a>) -> Result<Fields<'a>, DecoderError>
-        ensures { MatchResult result (λ f. items_of rlp.now ≡ Ok f.views)
+        ensures items { MatchResult result (λ f. items_of rlp.now ≡ Ok f.views)
             (λ e. items_of rlp.now ≡ Err (fault_of e)) }
+        ensures few { IfOk result (λ f. length f.views < 2 ^ 64) }
     {
         match rlp.check_items() {
             Ok(()) => Ok(Fields::over(rlp)),
@@ -103,8 +97,9 @@ impl<'a> Fields<'a> {
     /// A reader of the items of a view that is read as a list. A strict view fails as
     /// [`Rlp::item_count`] does. A lenient view never fails: it has no items if it isn't a list.
     pub fn of_list(rlp: &Rlp<'a>) -> Result<Fields<'a>, DecoderError>
-        ensures { MatchResult result (λ f. list_of_views rlp.now ≡ Ok f.views)
+        ensures items { MatchResult result (λ f. list_of_views rlp.now ≡ Ok f.views)
             (λ e. list_of_views rlp.now ≡ Err (fault_of e)) }
+        ensures few { IfOk result (λ f. length f.views < 2 ^ 64) }
     {
         if rlp.is_strict() {
             return Fields::of(rlp);
@@ -112,41 +107,28 @@ impl<'a> Fields<'a> {
         Ok(Fields::over(rlp))
     }
 
-    /// The same as [`Fields::of`], with the items counted.
-    #[inline(always)]
-    #[tactic(auto, using(crate::proofs::Readers::reader_starts))]
-    pub(crate) fn counted(rlp: &Rlp<'a>) -> Result<Fields<'a>, DecoderError>
-        ensures { MatchResult result (λ f. items_of rlp.now ≡ Ok f.views)
+    /// The same as [`Fields::of`], with the number of the items.
+    pub(crate) fn counted(rlp: &Rlp<'a>) -> Result<(Fields<'a>, usize), DecoderError>
+        ensures items { MatchResult result (λ r. items_of rlp.now ≡ Ok r.0.views)
             (λ e. items_of rlp.now ≡ Err (fault_of e)) }
+        ensures count { IfOk result (λ r. r.1 ≡ length r.0.views) }
     {
         let (items, count) = rlp.counted_items()?;
-        Ok(Fields {
-            items: ItemReader::new(items),
-            strict: rlp.is_strict(),
-            taken: 0,
-            count: Some(count),
-        })
+        Ok((Fields::over_items(items, rlp.is_strict()), count))
     }
 
     /// A reader of the items of the list that the view begins with, by the list's header alone. It
     /// walks over no items: it fails as [`Fields::of`] does, but doesn't find bytes that follow the
     /// items in the list of a strict view. [`Fields::has_ended`] finds them at the end.
     #[inline(always)]
-    #[tactic(auto, using(crate::proofs::Readers::reader_starts))]
     pub(crate) fn framed(rlp: &Rlp<'a>) -> Result<Fields<'a>, DecoderError>
         ensures views { IfOk result (λ f. f.views ≡ item_views rlp.now) }
-        ensures count { IfOk result (λ f. f.list.count ≡ length f.views) }
-        ensures whole { IfOk result (λ f. (IsTrue rlp.now.is_strict → f.list.after ≡ [])
+        ensures whole { IfOk result (λ f. (IsTrue rlp.now.is_strict → f.after ≡ [])
             ↔ (items_of rlp.now ≡ Ok f.views)) }
         ensures fault { IfErr result (λ e. items_of rlp.now ≡ Err (fault_of e)) }
     {
         match rlp.framed_items() {
-            Ok(items) => Ok(Fields {
-                items: ItemReader::new(items),
-                strict: rlp.is_strict(),
-                taken: 0,
-                count: None,
-            }),
+            Ok(items) => Ok(Fields::over_items(items, rlp.is_strict())),
             Err(fault) => Err(fault),
         }
     }
@@ -156,45 +138,62 @@ impl<'a> Fields<'a> {
     #[inline(always)]
     pub(crate) fn framed_list(rlp: &Rlp<'a>) -> Result<Fields<'a>, DecoderError>
         ensures views { IfOk result (λ f. f.views ≡ item_views rlp.now) }
-        ensures whole { IfOk result (λ f. (IsTrue rlp.now.is_strict → f.list.after ≡ [])
+        ensures whole { IfOk result (λ f. (IsTrue rlp.now.is_strict → f.after ≡ [])
             → list_of_views rlp.now ≡ Ok f.views) }
         ensures fault { IfErr result (λ e. list_of_views rlp.now ≡ Err (fault_of e)) }
     {
-        if rlp.is_strict() {
-            return Fields::framed(rlp);
+        match Fields::framed(rlp) {
+            Ok(fields) => Ok(fields),
+            Err(fault) if rlp.is_strict() => Err(fault),
+            Err(_) => Ok(Fields::over(rlp)),
         }
-        Ok(Fields::over(rlp))
     }
 
     /// A reader of the items of a view, or of no items if the view isn't a list.
     #[inline(always)]
-    #[tactic(auto, using(crate::proofs::Readers::reader_starts))]
     pub(crate) fn over(rlp: &Rlp<'a>) -> Fields<'a>
         ensures views { result.views ≡ item_views rlp.now }
         ensures past { items_fault rlp.now ≡ None → (i : ℕ) → length result.views ≤ i
             → item_at rlp.now i ≡ Err result.past }
+        ensures few { length result.views < 2 ^ 64 }
+    {
+        Fields::over_items(rlp.items(), rlp.is_strict())
+    }
+
+    /// A reader of the items that bytes begin with.
+    #[inline(always)]
+    fn over_items(bytes: &'a [u8], strict: bool) -> Fields<'a>
+        ensures exact { result ≡ record {
+          views = map (λ b. record { bytes = b; is_strict = strict }) (split bytes.now);
+          past = fault (after_items bytes.now);
+          after = after_items bytes.now;
+        } }
+        ensures few { length result.views < 2 ^ 64 }
     {
         Fields {
-            items: ItemReader::new(rlp.items()),
-            strict: rlp.is_strict(),
-            taken: 0,
-            count: None,
+            items: ItemReader::new(bytes),
+            strict,
         }
+    }
+
+    /// A reader of the same items.
+    #[inline(always)]
+    pub(crate) fn clone(&self) -> Fields<'a>
+        ensures { result ≡ self.now }
+    {
+        Fields::over_items(self.items.rest(), self.strict)
     }
 
     /// The next item, or `None` if no item is left.
     #[inline(always)]
-    #[tactic(auto, using(crate::proofs::Readers::same_list))]
+    #[tactic(auto, using(crate::proofs::Readers::after_taken))]
     pub fn next(&mut self) -> Option<Rlp<'a>>
         ensures item { MatchOption result ((self.old.views ≡ []) × (self.new.views ≡ []))
             (λ item. self.old.views ≡ item ∷ self.new.views) }
-        ensures list { self.new.list ≡ self.old.list }
+        ensures after { self.new.after ≡ self.old.after }
     {
         match self.items.next_framed() {
-            Ok(framed) => {
-                self.taken += 1;
-                Some(Rlp::of_kind(framed.item, self.strict))
-            }
+            Ok(framed) => Some(Rlp::of_item(&framed, self.strict)),
             Err(_) => None,
         }
     }
@@ -203,18 +202,12 @@ impl<'a> Fields<'a> {
     ///
     /// After the last item it fails as [`Rlp::at`] does, and takes no item.
     #[inline(always)]
-    #[tactic(auto, using(crate::proofs::Readers::one_taken))]
     pub fn next_view(&mut self) -> Result<Rlp<'a>, DecoderError>
         ensures exact { result ≡ next_item self.old }
         ensures next { self.new ≡ after_next self.old }
     {
-        match self.items.next_framed() {
-            Ok(framed) => {
-                self.taken += 1;
-                Ok(Rlp::of_kind(framed.item, self.strict))
-            }
-            Err(fault) => Err(fault),
-        }
+        let framed = self.items.next_framed()?;
+        Ok(Rlp::of_item(&framed, self.strict))
     }
 
     /// The value of the next item, as [`Rlp::val_at`] reads it.
@@ -257,49 +250,26 @@ impl<'a> Fields<'a> {
         Err(DecoderError::RlpIncorrectListLen)
     }
 
-    /// The number of items that are left. It walks them if they weren't counted before.
-    #[inline(always)]
+    /// The number of items that are left. It walks over them.
     pub fn count_left(&self) -> usize
         ensures { result ≡ length self.now.views }
     {
-        match self.count {
-            Some(count) => count - self.taken,
-            None => count_items(self.items.rest()),
-        }
+        count_items(self.items.rest())
     }
 
-    /// The same as [`Fields::count_left`]. The calls after it know the number, and don't walk.
-    pub(crate) fn count_once(&mut self) -> usize
-        ensures count { result ≡ length self.old.views }
-        ensures same { self.new ≡ self.old }
-    {
-        let left = self.count_left();
-        self.count = Some(self.taken + left);
-        left
-    }
-
-    /// Whether no item is left.
+    /// Whether no item is left. It reads the header of the next item.
     #[inline(always)]
     pub fn is_empty(&self) -> bool
         ensures { IsTrue result ↔ (self.now.views ≡ []) }
     {
-        match self.count {
-            Some(count) => self.taken == count,
-            None => first_framed(self.items.rest()).is_err(),
-        }
-    }
-    /// The number of items that were taken.
-    #[inline(always)]
-    pub(crate) fn taken(&self) -> usize
-        ensures { self.now.list.count ≡ result + length self.now.views }
-    {
-        self.taken
+        first_framed(self.items.rest()).is_err()
     }
 
-    /// Whether nothing is left of the list: no item, and no bytes that aren't an item.
+    /// Whether nothing is left of the list: no item, and no bytes that aren't an item. It reads no
+    /// header.
     #[inline(always)]
     pub(crate) fn has_ended(&self) -> bool
-        ensures { IsTrue result ↔ ((self.now.views ≡ []) × (self.now.list.after ≡ [])) }
+        ensures { IsTrue result ↔ ((self.now.views ≡ []) × (self.now.after ≡ [])) }
     {
         self.items.rest().is_empty()
     }

@@ -49,7 +49,7 @@ impl<'a, 'view> Iterator for RlpIterator<'a, 'view> {
             return None;
         }
         match self.items.next_framed() {
-            Ok(framed) => Some(self.rlp.with_bytes(framed.item)),
+            Ok(framed) => Some(Rlp::of_item(&framed, self.rlp.is_strict())),
             Err(_) => {
                 self.has_ended = true;
                 None

@@ -1,16 +1,17 @@
 //! A view of bytes, and its methods on their first item.
 
 ghost use Rattle.std.specs.Vec.{vec_items};
-ghost use Rattle.std.specs.Prelude.{◌≡◌, ◌≤◌, ◌<◌, ◌^◌, ◌↔◌, ◌⊎◌, ℕ, List, [], length, true, false, IsTrue, IsOk, None, Some, Ok, Err, IfOk, IfErr, MatchResult};
+ghost use Rattle.std.specs.Prelude.{◌≡◌, ◌≤◌, ◌<◌, ◌^◌, ◌↔◌, ◌⊎◌, ℕ, List, [], length, true, false, IsTrue, IsOk, None, Some, Ok, Err, IfOk, IfErr, IfSome, MatchResult};
 ghost use Rattle.rlp_reading.specs.declared.error.DecoderError.TheVariants.{OutOfMemory};
 ghost use Rattle.rlp_reading.specs.Format.Flat.{IsFlat};
-ghost use Rattle.rlp_reading.specs.Format.Framing.{begins_as_list, items, split, fault, framing, total_len, IsCanonicalWithin, after_items, strict_list_fault};
+ghost use Rattle.rlp_reading.specs.Format.Framing.{begins_as_list, items, split, fault, framing, total_len, value, IsCanonicalWithin, after_items, strict_fault, strict_list_fault};
 ghost use Rattle.rlp_reading.specs.Format.TreeFaults.{IsFlatFault};
 ghost use Rattle.rlp_reading.specs.Views.Depth.{depth};
-ghost use Rattle.rlp_reading.specs.Views.View.{begins_as_data, begins_as_empty, begins_as_int, data_size, has_nonzero_at, item_at, item_count, item_views, item_with_place, items_fault, list_fault, prototype_of, strict_view_of, view_header, view_of, view_value, View};
+ghost use Rattle.rlp_reading.specs.Views.View.{begins_as_data, begins_as_empty, begins_as_int, data_size, has_nonzero_at, item_at, item_count, item_views, item_with_place, items_fault, list_fault, prototype_of, strict_view_of, view_header, view_of, view_string, view_value, HoldsString, View};
 ghost use Rattle.rlp_codec.specs.Form.{Faults, Gives, list_reading, reading_at};
+ghost use Rattle.rlp.specs.Left.{HasValueAfter};
 
-use crate::rlpin::decoder::BasicDecoder;
+use crate::rlpin::decoder::{BasicDecoder, item_string};
 use crate::rlpin::fields::Fields;
 use crate::rlpin::iter::RlpIterator;
 use crate::traits::Decodable;
@@ -18,7 +19,7 @@ use rlp_reading::Prototype;
 use rlp_reading::depth::is_nested_within;
 use rlp_reading::error::DecoderError;
 use rlp_reading::flat::{FlatItem, TreeFault};
-use rlp_reading::framed::{first_framed, framing_of, whole_framed, whole_framing};
+use rlp_reading::framed::{Framed, first_framed, framing_of, whole_framed, whole_framing};
 use rlp_reading::header::PayloadInfo;
 use rlp_reading::items::{ItemReader, count_items, try_count_items};
 use rlp_reading::walking::{flatten, is_canonical};
@@ -27,19 +28,24 @@ use std::marker::Model;
 
 /// A view of bytes that may begin with an item.
 ///
-/// It holds only the bytes and whether it is strict, so the same call always returns the same
-/// result. Contracts see a view as the record `View` of its bytes and its kind. A lenient view
-/// ignores the bytes after the first item. A strict view has a fault if there are any.
+/// The same call always returns the same result. Contracts see a view as the record `View` of its
+/// bytes and its kind. A lenient view ignores the bytes after the first item. A strict view has a
+/// fault if there are any. The view of an item of a list knows where its value begins, so that the
+/// item's header isn't read again.
 #[derive(Debug, Drop)]
 pub struct Rlp<'a> {
     bytes: &'a [u8],
     strict: bool,
+    // The number of bytes of the header, if the bytes are known to be exactly one item.
+    header_len: Option<u8>,
 }
 
 impl<'a> Model for Rlp<'a> {
     ghost Value = { View };
 
     ghost view = { λ r. record { bytes = r.bytes.now; is_strict = r.strict } };
+
+    ghost invariant = { λ r. IfSome r.header_len (HasValueAfter r.bytes.now) };
 }
 
 impl<'a> Rlp<'a> {
@@ -77,7 +83,11 @@ impl<'a> Rlp<'a> {
     pub fn clone(&self) -> Rlp<'a>
         ensures { result ≡ self.now }
     {
-        self.with_bytes(self.bytes)
+        Rlp {
+            bytes: self.bytes,
+            strict: self.strict,
+            header_len: self.header_len,
+        }
     }
 
     /// All the bytes, including those after the first item.
@@ -359,7 +369,7 @@ impl<'a> Rlp<'a> {
     pub fn decoder(&self) -> BasicDecoder<'a>
         ensures { result ≡ self.now }
     {
-        BasicDecoder::of_kind(self.bytes, self.strict)
+        BasicDecoder::of(self.clone())
     }
 
     /// Whether the depth is at most `limit`. A framed list has a depth of 1 more than the deepest
@@ -434,7 +444,43 @@ impl<'a> Rlp<'a> {
     pub(crate) fn of_kind(bytes: &'a [u8], strict: bool) -> Rlp<'a>
         ensures { result ≡ record { bytes = bytes.now; is_strict = strict } }
     {
-        Rlp { bytes, strict }
+        Rlp {
+            bytes,
+            strict,
+            header_len: None,
+        }
+    }
+
+    /// A view of an item whose header was read, lenient or strict.
+    #[inline(always)]
+    pub(crate) fn of_item(item: &Framed<'a>, strict: bool) -> Rlp<'a>
+        ensures { result ≡ record { bytes = item.now.item.now; is_strict = strict } }
+    {
+        Rlp {
+            bytes: item.item,
+            strict,
+            header_len: u8::try_from(item.header.header_len).ok(),
+        }
+    }
+
+    /// The value of the item, if the bytes are known to be exactly one item.
+    #[inline(always)]
+    fn known_content(&self) -> Option<&'a [u8]>
+        ensures whole { IfSome result (λ _. strict_fault self.now.bytes ≡ None) }
+        ensures content { IfSome result (λ d. value self.now.bytes ≡ Ok d.now) }
+    {
+        let header_len = self.header_len? as usize;
+        Some(&self.bytes[header_len..])
+    }
+
+    /// The string whose encoding the bytes are, if they are known to be exactly one item. `None` says
+    /// nothing about the bytes.
+    #[inline(always)]
+    pub(crate) fn known_string(&self) -> Option<&'a [u8]>
+        ensures held { IfSome result (λ d. HoldsString self.now d.now) }
+        ensures exact { IfSome result (λ d. view_string self.now ≡ Ok d.now) }
+    {
+        item_string(self.bytes, self.strict, self.known_content()?)
     }
 
     /// The bytes that begin with the items of the view: the value of a framed list. A list that isn't
@@ -469,6 +515,9 @@ impl<'a> Rlp<'a> {
     {
         if !self.is_list() {
             return Err(DecoderError::RlpExpectedToBeList);
+        }
+        if let Some(content) = self.known_content() {
+            return Ok(content);
         }
         if !self.strict {
             return Ok(self.items());

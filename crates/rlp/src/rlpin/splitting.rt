@@ -36,7 +36,7 @@ impl<'a> Rlp<'a> {
                 if self.is_strict() && !rest.is_empty() {
                     return Err(DecoderError::RlpIsTooBig);
                 }
-                Ok((self.with_bytes(framed.item), rest))
+                Ok((Rlp::of_item(&framed, self.is_strict()), rest))
             }
             Err(fault) => Err(fault),
         }

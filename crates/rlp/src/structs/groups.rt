@@ -2,7 +2,9 @@
 
 ghost use Rattle.std.specs.Prelude.{◌≡◌, ◌≤◌, ◌^◌, MatchOption};
 ghost use Rattle.std.specs.Vec.{vec_items};
-ghost use Rattle.rlp_codec.specs.Form.{group_fields};
+ghost use Rattle.rlp_codec.specs.Form.{group_fields, one_field, part_fields};
+ghost use Rattle.rlp_codec.specs.Laws.{TakeWidth};
+ghost use Rattle.rlp_codec.proofs.FieldLaws.{end_wide, group_wide, one_wide, part_wide};
 
 use crate::rlpin::Fields;
 use crate::structs::DecodeFields;
@@ -16,6 +18,9 @@ pub trait FixedFields: DecodeFields {
     fn width() -> Option<usize>
         ensures { MatchOption result (2 ^ 64 ≤ Self.reading.width)
             (λ n. n ≡ Self.reading.width) };
+
+    /// The fields take this number of items.
+    ghost takes: { TakeWidth Self.reading };
 }
 
 /// The groups at the end of a struct.
@@ -26,6 +31,8 @@ impl FixedFields for () {
     fn width() -> Option<usize> {
         Some(0)
     }
+
+    ghost takes = { end_wide };
 }
 
 impl<T: Decodable, Q: FixedFields> FixedFields for (T, Q) {
@@ -35,6 +42,9 @@ impl<T: Decodable, Q: FixedFields> FixedFields for (T, Q) {
             None => None,
         }
     }
+
+    ghost takes = { group_wide (λ x. x.0) (one_field T.reading) (part_fields (λ x. x.1) Q.reading)
+        (one_wide T.reading) (part_wide (λ x. x.1) Q.reading Q.takes) };
 }
 
 impl<G: FixedFields> DecodeFields for Groups<G> {
@@ -53,17 +63,24 @@ impl<G: FixedFields> DecodeFields for Groups<G> {
         }
     }
 
-    #[tactic(auto, using(rlp_codec::proofs::GroupLaws::take_steps))]
+    #[tactic(auto, using(rlp_codec::proofs::GroupLaws::take_groups))]
     fn decode_fields(alloc: Global, fields: &mut Fields<'_>) -> Result<Groups<G>, DecoderError> {
         let mut groups = Vec::new(alloc);
-        let mut turns = fields.count_once();
-        while turns > 0 {
-            if fields.is_empty() {
-                return Ok(Groups(groups));
+        if let Some(0) = G::width() {
+            return Ok(Groups(groups));
+        }
+        while !fields.has_ended() {
+            let before = fields.clone();
+            match G::decode_fields(alloc, fields) {
+                Ok(group) => groups.push(group)?,
+                Err(fault) => {
+                    if !before.is_empty() {
+                        return Err(fault);
+                    }
+                    *fields = before;
+                    return Ok(Groups(groups));
+                }
             }
-            let group = G::decode_fields(alloc, fields)?;
-            groups.push(group)?;
-            turns -= 1;
         }
         Ok(Groups(groups))
     }

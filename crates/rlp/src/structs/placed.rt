@@ -3,7 +3,7 @@
 ghost use Rattle.std.specs.Prelude.{◌≡◌, ◌⊎◌, IfOk, IsOkAnd, IsTrue, OnOk};
 ghost use Rattle.rlp_codec.specs.Form.{IsFound, IsPlaced, in_list, struct_reading};
 
-use crate::rlpin::{Fields, Rlp};
+use crate::rlpin::{CountedFields, Rlp};
 use crate::structs::{DecodeFields, FixedFields, Groups, Joined, OptionalField, OptionalGroup};
 use crate::traits::{DecodePlaced, put_item_path};
 use std::alloc::{AllocError, Global};
@@ -11,27 +11,26 @@ use std::alloc::{AllocError, Global};
 /// Fields that say which item of their list is at fault.
 pub trait DecodeFieldsPlaced: DecodeFields {
     /// Appends the places that lead to the item at fault, as [`DecodePlaced::put_path`] does, if the
-    /// next items of a list of `count` items aren't the fields. Returns whether they have a fault.
-    /// If not, the items after the fields are left.
+    /// next items aren't the fields. Returns whether they have a fault. If not, the items after the
+    /// fields are left.
     ///
     /// Fails with `AllocError` if memory is refused.
     fn put_path(
         alloc: Global,
-        count: usize,
-        fields: &mut Fields<'_>,
+        fields: &mut CountedFields<'_>,
         path: &mut Vec<usize>,
     ) -> Result<bool, AllocError>
         ensures found { IfOk result (λ found. IsFound found
-            (in_list count (Self.reading.read fields.old.views)) path.old.items path.new.items) }
+            (in_list fields.old.count (Self.reading.read fields.old.views)) path.old.items path.new.items) }
         ensures left { IfOk result (λ found. IsTrue found
-            ⊎ IsOkAnd (Self.reading.read fields.old.views).result (λ t. t.1 ≡ fields.new.views)) };
+            ⊎ IsOkAnd (Self.reading.read fields.old.views).result (λ t. t.1 ≡ fields.new.views)) }
+        ensures count { fields.new.count ≡ fields.old.count };
 }
 
 impl DecodeFieldsPlaced for () {
     fn put_path(
         _alloc: Global,
-        _count: usize,
-        _fields: &mut Fields<'_>,
+        _fields: &mut CountedFields<'_>,
         _path: &mut Vec<usize>,
     ) -> Result<bool, AllocError> {
         Ok(false)
@@ -41,19 +40,17 @@ impl DecodeFieldsPlaced for () {
 impl<T: DecodePlaced, Q: DecodeFieldsPlaced> DecodeFieldsPlaced for (T, Q) {
     fn put_path(
         alloc: Global,
-        count: usize,
-        fields: &mut Fields<'_>,
+        fields: &mut CountedFields<'_>,
         path: &mut Vec<usize>,
     ) -> Result<bool, AllocError> {
         let Some(item) = fields.next() else {
-            path.push(count.saturating_sub(1))?;
+            path.push(fields.last_place())?;
             return Ok(true);
         };
-        let place = count.saturating_sub(1).saturating_sub(fields.count_left());
-        if put_item_path::<T>(alloc, place, &item, path)? {
+        if put_item_path::<T>(alloc, fields.last_place(), &item, path)? {
             return Ok(true);
         }
-        Q::put_path(alloc, count, fields, path)
+        Q::put_path(alloc, fields, path)
     }
 }
 
@@ -61,43 +58,39 @@ impl<P: DecodeFieldsPlaced + FixedFields, Q: DecodeFieldsPlaced> DecodeFieldsPla
     for Joined<P, Q> {
     fn put_path(
         alloc: Global,
-        count: usize,
-        fields: &mut Fields<'_>,
+        fields: &mut CountedFields<'_>,
         path: &mut Vec<usize>,
     ) -> Result<bool, AllocError> {
-        if P::put_path(alloc, count, fields, path)? {
+        if P::put_path(alloc, fields, path)? {
             return Ok(true);
         }
-        Q::put_path(alloc, count, fields, path)
+        Q::put_path(alloc, fields, path)
     }
 }
 
 impl<T: DecodePlaced> DecodeFieldsPlaced for OptionalField<T> {
     fn put_path(
         alloc: Global,
-        count: usize,
-        fields: &mut Fields<'_>,
+        fields: &mut CountedFields<'_>,
         path: &mut Vec<usize>,
     ) -> Result<bool, AllocError> {
         let Some(item) = fields.next() else {
             return Ok(false);
         };
-        let place = count.saturating_sub(1).saturating_sub(fields.count_left());
-        put_item_path::<T>(alloc, place, &item, path)
+        put_item_path::<T>(alloc, fields.last_place(), &item, path)
     }
 }
 
 impl<S: DecodeFieldsPlaced> DecodeFieldsPlaced for OptionalGroup<S> {
     fn put_path(
         alloc: Global,
-        count: usize,
-        fields: &mut Fields<'_>,
+        fields: &mut CountedFields<'_>,
         path: &mut Vec<usize>,
     ) -> Result<bool, AllocError> {
         if fields.is_empty() {
             return Ok(false);
         }
-        S::put_path(alloc, count, fields, path)
+        S::put_path(alloc, fields, path)
     }
 }
 
@@ -105,16 +98,18 @@ impl<G: DecodeFieldsPlaced + FixedFields> DecodeFieldsPlaced for Groups<G> {
     #[tactic(auto, using(rlp_codec::proofs::PathLaws::groups_found))]
     fn put_path(
         alloc: Global,
-        count: usize,
-        fields: &mut Fields<'_>,
+        fields: &mut CountedFields<'_>,
         path: &mut Vec<usize>,
     ) -> Result<bool, AllocError> {
-        let mut turns = fields.count_left();
+        let mut turns = match G::width() {
+            Some(0) => 0,
+            _ => fields.count_left(),
+        };
         while turns > 0 {
             if fields.is_empty() {
                 return Ok(false);
             }
-            if G::put_path(alloc, count, fields, path)? {
+            if G::put_path(alloc, fields, path)? {
                 return Ok(true);
             }
             turns -= 1;
@@ -133,14 +128,15 @@ pub fn put_path_of<F: DecodeFieldsPlaced>(
     ensures { OnOk result (IsPlaced ((struct_reading F.reading).read rlp.now)
         path.old.items path.new.items) }
 {
-    let Ok(mut fields) = Fields::counted(rlp) else {
+    let Ok(mut fields) = CountedFields::of(rlp) else {
         return Ok(());
     };
-    let count = fields.count_left();
-    if !F::accepts(count) || F::put_path(alloc, count, &mut fields, path)? || fields.is_empty() {
+    if !F::accepts(fields.count_left()) || F::put_path(alloc, &mut fields, path)? {
         return Ok(());
     }
-    path.push(count.saturating_sub(fields.count_left()))?;
+    if let Some(_) = fields.next() {
+        path.push(fields.last_place())?;
+    }
     Ok(())
 }
 

@@ -48,7 +48,7 @@ pub trait TestFields {
         ensures fault { IfErr result (λ e. ((tested.read fields.old.views).result
             ≡ Err (fields.new.views, fault_of e))
             ⊎ ((e ≡ OutOfMemory) × IsTrue tested.takes_memory)) }
-        ensures list { fields.new.list ≡ fields.old.list };
+        ensures after { fields.new.after ≡ fields.old.after };
 }
 
 /// A value that is read and let go.
@@ -203,7 +203,7 @@ fn take_field<T: Test>(alloc: Global, fields: &mut Fields<'_>) -> Result<(), Dec
     ensures fault { IfErr result (λ e. ((take_item T.tested.read fields.old.views).result
         ≡ Err (fields.new.views, fault_of e))
         ⊎ ((e ≡ OutOfMemory) × IsTrue T.tested.takes_memory)) }
-    ensures list { fields.new.list ≡ fields.old.list }
+    ensures after { fields.new.after ≡ fields.old.after }
 {
     let Some(item) = fields.next() else {
         return Err(DecoderError::RlpIncorrectListLen);

@@ -6,8 +6,8 @@
 ghost use Rattle.rlp_headers.specs.Forks.{london_fields, shanghai_fields, cancun_fields};
 
 use rlp::{
-    AppendFields, DecodeFields, DecodeFieldsPlaced, DecoderError, Fields, Optional, OptionalField,
-    OptionalGroup, OptionalGroupOf, RlpStream, Uint,
+    AppendFields, CountedFields, DecodeFields, DecodeFieldsPlaced, DecoderError, Fields, Optional,
+    OptionalField, OptionalGroup, OptionalGroupOf, RlpStream, Uint,
 };
 use rlp_records::Hash;
 use std::alloc::{AllocError, Global};
@@ -65,13 +65,10 @@ impl DecodeFields for London {
 impl DecodeFieldsPlaced for London {
     fn put_path(
         alloc: Global,
-        count: usize,
-        fields: &mut Fields<'_>,
+        fields: &mut CountedFields<'_>,
         path: &mut Vec<usize>,
     ) -> Result<bool, AllocError> {
-        <(Uint<32>, OptionalGroup<Shanghai>) as DecodeFieldsPlaced>::put_path(
-            alloc, count, fields, path,
-        )
+        <(Uint<32>, OptionalGroup<Shanghai>) as DecodeFieldsPlaced>::put_path(alloc, fields, path)
     }
 }
 
@@ -120,11 +117,10 @@ impl DecodeFields for Shanghai {
 impl DecodeFieldsPlaced for Shanghai {
     fn put_path(
         alloc: Global,
-        count: usize,
-        fields: &mut Fields<'_>,
+        fields: &mut CountedFields<'_>,
         path: &mut Vec<usize>,
     ) -> Result<bool, AllocError> {
-        <(Hash, OptionalGroup<Cancun>) as DecodeFieldsPlaced>::put_path(alloc, count, fields, path)
+        <(Hash, OptionalGroup<Cancun>) as DecodeFieldsPlaced>::put_path(alloc, fields, path)
     }
 }
 
@@ -191,12 +187,11 @@ impl DecodeFields for Cancun {
 impl DecodeFieldsPlaced for Cancun {
     fn put_path(
         alloc: Global,
-        count: usize,
-        fields: &mut Fields<'_>,
+        fields: &mut CountedFields<'_>,
         path: &mut Vec<usize>,
     ) -> Result<bool, AllocError> {
         <(u64, (u64, (Hash, OptionalField<Hash>))) as DecodeFieldsPlaced>::put_path(
-            alloc, count, fields, path,
+            alloc, fields, path,
         )
     }
 }

@@ -1,16 +1,19 @@
 -- Strings with and without a needless header.
-use Rattle.std.proofs.Common.{◌≡◌, ◌≢◌, ℕ, ◌+◌, ◌^◌, ◌<◌, ◌≤◌, inl, inr, ⊎_elim, true, false, List, [], ◌∷◌, ◌++◌, length, take, drop, refl, sym, ap, ◌∙◌}
-use Rattle.std.proofs.Common.{◌==◌, ltb, subst, arith, Ok, Result, append-nil, take_at, drop_at, length-append, le-leb, lt-ltb, pos_of_ne-zero}
+use Rattle.std.proofs.Common.{◌≡◌, ◌≢◌, ℕ, Bool, ◌+◌, ◌^◌, ◌<◌, ◌≤◌, inl, inr, ⊎_elim, true, false, List, [], ◌∷◌, ◌++◌, length, take, drop, refl, sym, ap, ◌∙◌}
+use Rattle.std.proofs.Common.{◌==◌, ltb, subst, arith, Ok, None, Result, append-nil, take_at, drop_at, length-append, le-leb, lt-ltb, pos_of_ne-zero}
 use Rattle.std.proofs.lemmas.Bool.{and_parts, cases_Bool, cond-false, cond-true, eqb-true, lt-leb, ltb-true}
 use Rattle.std.proofs.lemmas.List.{nil_from_length}
 use Rattle.rlp_reading.specs.declared.error.DecoderError.{DecoderError}
 use Rattle.rlp_reading.specs.declared.header.PayloadInfo.{PayloadInfo}
-use Rattle.rlp_format.specs.Format.Encoding.{string, written_header, encoding, is_low_byte}
-use Rattle.rlp_reading.specs.Format.Framing.{HasHeader, header, lone, written, payload_info, IsFramedItem, framing, value, begins_as_list, IsCanonicalWithin}
+use Rattle.rlp_format.specs.Format.Encoding.{AreBytes, string, written_header, encoding, is_low_byte}
+use Rattle.rlp_reading.specs.Format.Framing.{HasHeader, header, lone, written, payload_info, IsFramedItem, framing, value, begins_as_list, strict_fault, IsCanonicalWithin}
 use Rattle.rlp_format.proofs.Lemmas.Encodings.{low_byte}
 use Rattle.rlp_format.proofs.Lemmas.Headers.{Parts, shape, written_header_short}
 use Rattle.rlp_reading.proofs.Lemmas.Frames.{framing_is, value_is}
 use Rattle.rlp_reading.proofs.Lemmas.Reading.{read}
+use Rattle.rlp_reading.specs.Views.View.{View, Holds, HoldsString, view_string}
+use Rattle.rlp_reading.proofs.Lemmas.StringsHeld.{held_only}
+use Rattle.rlp_reading.proofs.Views.ViewKinds as view_kinds
 use Rattle.rlp_reading.proofs.Trees.Canonical.{not_true, refuted, string_canonical}
 use Rattle.rlp_reading.specs.Format.TreeFaults.{is_needless}
 use Rattle.rlp_reading.proofs.Trees.Placed.{Ok_same, string_placed}
@@ -148,3 +151,27 @@ list_form (written base n rest is_base small) kind = let some = header_length ba
 -- the header of a list has a byte
 pub list_header : (b : List ℕ) (p : PayloadInfo) (c : List ℕ) → IsWhole b p c → true ≡ begins_as_list b → 0 < p.header_len
 list_header b p c w kind = list_form w.has kind
+
+-- ---- a view that is exactly one item
+
+-- such a string is the encoding of its value, unless the header is needless
+pub string_of_item : (b c : List ℕ) → AreBytes b → strict_fault b ≡ None → value b ≡ Ok c → begins_as_list b ≡ false → is_needless b ≡ false → b ≡ encoding (string c)
+string_of_item b c bytes none is kind plain =
+    let framed = view_kinds.whole_item b bytes none in
+    let p = payload_info framed.header_len framed.value_len in
+    let w = whole_item b p c framed (framing_is b framed.header_len framed.value_len framed.has_header (omega (arith, framed.whole))) is in
+    (string_whole b p c w (sym kind) (λ needless. let no : true ≡ false = sym (needless_is b p c w (sym kind) needless) ∙ plain in let none : ⊥ = cc in none)).0
+
+holds_whole : (is_strict : Bool) (b s : List ℕ) → b ≡ s → Holds is_strict b s
+holds_whole false b s is = ([], is ∙ sym (append-nil s))
+holds_whole true b s is = is
+
+-- a view of such a string holds the value
+pub item_held : (v : View) (c : List ℕ) → AreBytes v.bytes → strict_fault v.bytes ≡ None → value v.bytes ≡ Ok c → begins_as_list v.bytes ≡ false
+    → is_needless v.bytes ≡ false → HoldsString v c
+item_held v c bytes none is kind plain = holds_whole v.is_strict v.bytes (encoding (string c)) (string_of_item v.bytes c bytes none is kind plain)
+
+-- the value is the string that is read
+pub item_string : (v : View) (c : List ℕ) → length v.bytes < 2 ^ 64 → AreBytes v.bytes → strict_fault v.bytes ≡ None → value v.bytes ≡ Ok c
+    → begins_as_list v.bytes ≡ false → is_needless v.bytes ≡ false → view_string v ≡ Ok c
+item_string v c fits bytes none is kind plain = held_only v c fits (item_held v c bytes none is kind plain)

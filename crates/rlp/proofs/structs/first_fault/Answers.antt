@@ -1,17 +1,34 @@
-use Rattle.std.proofs.Common.{inl, sym}
-use Rattle.rlp.proofs.Counting.{count_accepted, count_refused}
+use Rattle.std.proofs.Common.{Err, Some, arith, inl, inr, sym, ap, ◌∙◌, ⊎_elim}
+use Rattle.rlp.proofs.Counting.{count_refused, fault_at, listed}
 use Rattle.rlp.proofs.structs.first_fault.Goals as goal
 
 pub returns-then-accepts-clause-fault : goal.returns-then-accepts-clause-fault
 returns-then-accepts-clause-fault g c =
-    c.requires.fault (count_accepted g.F.DecodeFields.reading c.args.rlp.now _ (sym c.in-Ok.ensures) (sym c.if-accepts.ensures))
+    let r = g.F.DecodeFields.reading in
+    let v = c.args.rlp.now in
+    let count = sym c.in-Ok.ensures in
+    ⊎_elim (λ f. inl (fault_at r v _ _ _ count f (sym c.if-accepts.ensures)).fault) inr (c.requires.found (listed r v _ count))
 
 pub returns-then-accepts-clause-place : goal.returns-then-accepts-clause-place
 returns-then-accepts-clause-place g c =
-    c.requires.place (count_accepted g.F.DecodeFields.reading c.args.rlp.now _ (sym c.in-Ok.ensures) (sym c.if-accepts.ensures))
+    let r = g.F.DecodeFields.reading in
+    let v = c.args.rlp.now in
+    let count = sym c.in-Ok.ensures in
+    ⊎_elim (λ f. inl ((fault_at r v _ _ _ count f (sym c.if-accepts.ensures)).place ∙ ap Some (omega (arith, c.saturating_sub.ensures, c.saturating_sub-then-accepts.ensures)))) inr
+    (c.requires.found (listed r v _ count))
 
 pub returns-clause-fault : goal.returns-clause-fault
-returns-clause-fault g c = inl (count_refused g.F.DecodeFields.reading c.args.rlp.now _ (sym c.in-Ok.ensures) (sym c.if-accepts.ensures)).fault
+returns-clause-fault g c =
+    let r = g.F.DecodeFields.reading in
+    let v = c.args.rlp.now in
+    let count = sym c.in-Ok.ensures in
+    ⊎_elim (λ f. inl ((count_refused r v _ _ _ count f (sym c.if-accepts.ensures)).fault ∙ ap Err (sym c.of_wrong_number.ensures.fault)))
+    (λ m. inr (c.of_wrong_number.ensures.memory m.0, m.1)) (c.requires.found (listed r v _ count))
 
 pub returns-clause-place : goal.returns-clause-place
-returns-clause-place g c = inl (count_refused g.F.DecodeFields.reading c.args.rlp.now _ (sym c.in-Ok.ensures) (sym c.if-accepts.ensures)).place
+returns-clause-place g c =
+    let r = g.F.DecodeFields.reading in
+    let v = c.args.rlp.now in
+    let count = sym c.in-Ok.ensures in
+    ⊎_elim (λ f. inl (count_refused r v _ _ _ count f (sym c.if-accepts.ensures)).place)
+    (λ m. inr (c.of_wrong_number.ensures.memory m.0, m.1)) (c.requires.found (listed r v _ count))

@@ -1,8 +1,10 @@
-use Rattle.std.proofs.Common.{sym}
+use Rattle.std.proofs.Common.{rules, sym}
+use Rattle.std.proofs.lemmas.Grind.{common_steps}
 use Rattle.rlp_format.proofs.Lemmas.Digits.{bytes_held}
 use Rattle.rlp_reading.proofs.Lemmas.Frames.{split_framed, split_unframed}
 use Rattle.rlp_reading.proofs.Views.Fronts.{front_frame, front_frame_fault, front_item, front_ends, front_item_value, front_value, front_value_fault}
 use Rattle.rlp_reading.proofs.Views.ItemPlaces.{fault-err}
+use Rattle.rlp_reading.proofs.Views.ViewKinds.{item_whole}
 use Rattle.rlp_reading.proofs.framed.first_framed.Goals as goal
 
 pub returns-in-Err-clause-frame : goal.returns-in-Err-clause-frame
@@ -22,6 +24,8 @@ invariant_of-result c = record {
   reads = front_item_value c.args.bytes.now c.split_at.result.0.now c.in-Ok.header (bytes_held c.args.bytes.now c.type_inv.bytes)
       (sym c.in-Ok.ensures.exact) c.split_at.ensures.front;
   ends = front_ends c.args.bytes.now c.split_at.result.0.now c.in-Ok.header c.in-Ok.ensures.within.1 c.split_at.ensures.front;
+  whole = item_whole _ (front_item c.args.bytes.now c.split_at.result.0.now c.in-Ok.header c.in-Ok.ensures.has c.in-Ok.ensures.within.1 c.split_at.ensures.front);
+  begins = search (rules, common_steps);
 }
 
 pub returns-clause-frame : goal.returns-clause-frame

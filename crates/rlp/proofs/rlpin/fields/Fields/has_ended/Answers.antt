@@ -6,6 +6,6 @@ use Rattle.rlp.proofs.rlpin.fields.Fields.has_ended.Goals as goal
 pub returns : goal.returns
 returns c =
     rw (sym c.self.view_is) (
-      λ is. none_left _ c.self.inside.taken _ (sym c.rest.ensures ∙ no_bytes c.rest.result.now (sym is ∙ c.is_empty.ensures)),
-      λ none. c.is_empty.ensures ∙ ap (λ b. length b == 0) (c.rest.ensures ∙ no_bytes_left _ c.self.inside.taken _ none.0 none.1),
+      λ is. none_left _ _ (sym c.rest.ensures ∙ no_bytes c.rest.result.now (sym is ∙ c.is_empty.ensures)),
+      λ none. c.is_empty.ensures ∙ ap (λ b. length b == 0) (c.rest.ensures ∙ no_bytes_left _ _ none.0 none.1),
     )

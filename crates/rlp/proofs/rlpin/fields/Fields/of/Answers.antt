@@ -1,5 +1,5 @@
 use Rattle.rlp_codec.proofs.ListLaws.{items_faulty}
 use Rattle.rlp.proofs.rlpin.fields.Fields.of.Goals as goal
 
-pub returns-in-Err : goal.returns-in-Err
-returns-in-Err c = items_faulty c.args.rlp.now c.in-Err.fault c.in-Err.ensures
+pub returns-in-Err-clause-items : goal.returns-in-Err-clause-items
+returns-in-Err-clause-items c = items_faulty c.args.rlp.now c.in-Err.fault c.in-Err.ensures

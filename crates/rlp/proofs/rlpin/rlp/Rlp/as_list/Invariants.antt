@@ -2,13 +2,13 @@ use Rattle.std.proofs.Common.{◌≡◌, ◌++◌, length, map}
 use Rattle.rlp_codec.specs.Form.{map_value, read_each}
 use Rattle.rlp.proofs.rlpin.rlp.Rlp.as_list.Given as goal
 
--- the values so far come before what the items that are left give, and the list is the same
+-- the values so far come before what the items that are left give, and the bytes after the items are the same
 abbrev pub invariant-loop-item : goal.invariant-loop-item
 invariant-loop-item g l =
     let r = g.T.Decodable.reading in
     ((read_each r.read (length l.initial.items.views) l.initial.items.views).result
     ≡ map_value (λ xs. map r.seen l.values.items ++ xs) (read_each r.read (length l.initial.items.views) l.items.views).result)
-    × (l.items.list ≡ l.initial.items.list)
+    × (l.items.after ≡ l.initial.items.after)
 
 abbrev pub decreases-loop-item : goal.decreases-loop-item
 decreases-loop-item g l = length l.items.views

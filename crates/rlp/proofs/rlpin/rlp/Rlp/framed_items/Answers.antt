@@ -4,6 +4,9 @@ use Rattle.rlp_reading.specs.Views.View.{View}
 use Rattle.rlp.proofs.Readers.{items_of_framed, strict_unframed}
 use Rattle.rlp.proofs.rlpin.rlp.Rlp.framed_items.Goals as goal
 
+pub returns-in-Some-clause-items : goal.returns-in-Some-clause-items
+returns-in-Some-clause-items c = items_of_framed _ _ (sym c.if-not-is_list.ensures) c.in-Some.ensures.content
+
 pub returns-in-Ok-clause-items : goal.returns-in-Ok-clause-items
 returns-in-Ok-clause-items c =
     let same : c.self.inside.bytes.now ≡ c.args.self.now.bytes = ap (λ (v : View). v.bytes) c.self.view_is in
