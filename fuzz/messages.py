@@ -52,8 +52,7 @@ def classes(records):
         """An item of a block's receipts: a list is a receipt without a type, and a string holds an envelope."""
 
         def __init__(self):
-            kinds = dict.fromkeys((1, 2, 3, 4), records.RECEIPT)
-            self.alone, self.typed = records.Typed(kinds, records.RECEIPT, records.Unknown()), records.Typed(kinds, records.Unknown(), records.Unknown())
+            super().__init__(dict.fromkeys((1, 2, 3, 4), records.RECEIPT), records.RECEIPT, records.Unknown())
 
         def hashed(self, one):
             return one
@@ -92,7 +91,7 @@ def classes(records):
         "new_block": record(fields("block:block total_difficulty:u256", types)),
         "new_pooled_transaction_hashes": record(fields("types:string sizes:sizes hashes:hashes", types)),
         "get_pooled_transactions": request(types["hashes"]),
-        "pooled_transactions": request(types["transactions"]),
+        "pooled_transactions": request(types["sent_transactions"]),
         "get_receipts": request(types["hashes"]),
         "receipts68": request(list_of(list_of(HeldReceipt()))),
         "receipts69": request(list_of(list_of(receipt69))),

@@ -5,7 +5,7 @@ import re
 
 from strict import strict_items
 
-EXCEPTIONS = {"ommers_hash": "sha3Uncles", "beneficiary": "miner", "storage_root": "storageHash", "destination": "to"}
+EXCEPTIONS = {"ommers_hash": "sha3Uncles", "beneficiary": "miner", "storage_root": "storageHash", "destination": "to", "cell_proofs": "proofs"}
 IN_TRANSACTIONS = {"gas_limit": "gas", "data": "input"}
 # The names of whole transactions and receipts.
 TRANSACTION = re.compile(r"transaction|(.*\.)?transactions\[\d+\]|pooled_transactions\.content\[\d+\]")
@@ -28,9 +28,9 @@ def value_of(name, text):
     """The value of a field in JSON."""
     if text == "[]":
         return []
-    if text == "256 zero bytes":
-        return "0x" + "00" * 256
     word = text.split(" ")[0]
+    if text.endswith(" zero bytes"):
+        return "0x" + "00" * int(word)
     if name == "to" and text == "0x":
         return None
     if name == "status_or_state_root" and len(text) < 5:

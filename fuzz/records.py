@@ -95,8 +95,20 @@ def v_text(value):
     return f"{value} (chain {chain}, parity {parity})" if 0 <= chain < 1 << 64 else str(value)
 
 
-def bloom_text(string):
-    return "256 zero bytes" if string == bytes(256) else fixed_text(256)(string)
+def sparse_text(size):
+    """The text of strings of so many bytes, in short if all are zero."""
+
+    def text(string):
+        return f"{size} zero bytes" if string == bytes(size) else fixed_text(size)(string)
+
+    return text
+
+
+def version_text(string):
+    """The text of the version of the list that holds a transaction and its blobs, since EIP-7594."""
+    if string != b"\1":
+        raise Answered('Custom("unknown wrapper version")')
+    return "1"
 
 
 def status_text(string):
@@ -106,16 +118,28 @@ def status_text(string):
     return "0x" + string.hex()
 
 
+def some_blob(dice):
+    """Bytes that are mostly zero: as many as a blob has, or another number."""
+    size = BLOB_SIZE if dice.random() < 0.7 else dice.choice((0, 48, BLOB_SIZE - 1, BLOB_SIZE + 1))
+    others = dice.randbytes(min(size, dice.choice((0, 0, 1, 40))))
+    before = bytes(dice.randint(0, size - len(others)))
+    return before + others + bytes(size - len(before) - len(others))
+
+
 def fixed(size):
     return Text(fixed_text(size), lambda dice: dice.randbytes(size))
 
 
 HASH, ADDRESS = fixed(32), fixed(20)
-BLOOM = Text(bloom_text, lambda dice: bytes(256) if dice.random() < 0.5 else dice.randbytes(256))
+BLOOM = Text(sparse_text(256), lambda dice: bytes(256) if dice.random() < 0.5 else dice.randbytes(256))
 STRING = Text(lambda string: "0x" + string.hex(), lambda dice: dice.randbytes(dice.choice((0, 1, 4, 32, 60))))
 TRUTH = Text(truth_text, lambda dice: dice.choice((b"", b"\1")))
 RECIPIENT = Text(lambda s: fixed_text(20)(s) if s else "0x", lambda dice: dice.randbytes(dice.choice((0, 20))))
 STATUS = Text(status_text, lambda dice: dice.choice((b"", b"\1", dice.randbytes(32), dice.randbytes(1))))
+# 4096 numbers of 32 bytes, as in EIP-4844.
+BLOB_SIZE = 4096 * 32
+BLOB = Text(sparse_text(BLOB_SIZE), some_blob)
+VERSION = Text(version_text, lambda dice: b"\1" if dice.random() < 0.9 else dice.choice((b"", b"\0", b"\2", b"\0\1")))
 
 
 def written_list(dice, items):
@@ -128,10 +152,10 @@ def written_list(dice, items):
 
 
 class ListOf:
-    """A list of items of one type."""
+    """A list of items of one type. A random one has one of the numbers of items in `counts`."""
 
-    def __init__(self, one):
-        self.one = one
+    def __init__(self, one, counts=(0, 1, 1, 2, 3)):
+        self.one, self.counts = one, counts
 
     def lines(self, name, data):
         try:
@@ -143,7 +167,7 @@ class ListOf:
         return [line for place, item in enumerate(items) for line in self.one.lines(f"{name}[{place}]", item)]
 
     def written(self, dice):
-        return written_list(dice, [self.one.written(dice) for _ in range(dice.choice((0, 1, 1, 2, 3)))])
+        return written_list(dice, [self.one.written(dice) for _ in range(dice.choice(self.counts))])
 
 
 class Alone:
@@ -187,14 +211,15 @@ class Record:
 
 
 class Hashed:
-    """The hash of the bytes of an item, and then the item."""
+    """The hash of the bytes of an item, or of other bytes that `form` makes of them, and then the item."""
 
-    def __init__(self, one):
-        self.one, self.written = one, one.written
+    def __init__(self, one, form=lambda data: data):
+        self.one, self.form, self.written = one, form, one.written
 
     def lines(self, name, data):
+        lines = self.one.lines(name, data)
         before = f"{name}." if name else ""
-        return [Derived(f"{before}hash: 0x{keccak256(data).hex()}")] + self.one.lines(name, data)
+        return [Derived(f"{before}hash: 0x{keccak256(self.form(data)).hex()}")] + lines
 
 
 def chain_of(v):
@@ -312,8 +337,8 @@ class Kept(Unknown):
 class Held:
     """An item of a block's list: a list is a record without a type, and a string holds an envelope."""
 
-    def __init__(self, types, other):
-        self.alone, self.typed = Typed(types, other, Kept()), Typed(types, Kept(), Kept())
+    def __init__(self, types, other, unknown):
+        self.alone, self.typed = Typed(types, other, unknown), Typed(types, unknown, unknown)
 
     def lines(self, name, data):
         if data and data[0] >= 0xC0:
@@ -331,6 +356,54 @@ class Held:
         if dice.random() < 0.3:
             return self.alone.other.written(dice)
         return encoded_string(self.typed.written(dice))
+
+
+class Beside:
+    """A record whose fields stand beside those of the record that has it. Only the name of a fault has its name."""
+
+    def __init__(self, one):
+        self.one, self.written = one, one.written
+
+    def lines(self, name, data):
+        try:
+            return self.one.lines(name.rpartition(".")[0], data)
+        except Wrong:
+            return self.one.lines(name, data)
+
+
+class WithBlobs:
+    """A transaction of type 3 with its blobs: a list of four items, as in EIP-4844, or else of five, as in EIP-7594. A random one is now and
+    then the transaction alone, which is neither."""
+
+    def __init__(self, alone):
+        self.alone, first = alone, [("transaction", Beside(alone))]
+        self.four = Record(first + fields("blobs:blobs commitments:points proofs:points", TYPES))
+        self.five = Record(first + fields("wrapper_version:version blobs:blobs commitments:points cell_proofs:points", TYPES))
+
+    def lines(self, name, data):
+        try:
+            has_four = len(strict_items(data)) == 4
+        except Answered:
+            has_four = False
+        return (self.four if has_four else self.five).lines(name, data)
+
+    def written(self, dice):
+        return (self.alone if dice.random() < 0.05 else dice.choice((self.four, self.five))).written(dice)
+
+
+def without_blobs(data):
+    """The bytes of a transaction as it stands in a block, by those with which it is sent."""
+    return data[:1] + strict_items(data[1:])[0] if data[0] == 3 else data
+
+
+class Sent(Held):
+    """A transaction as it is sent to other nodes, which is hashed without its blobs. Random ones often have type 3."""
+
+    def hashed(self, one):
+        return Hashed(one, without_blobs)
+
+    def written(self, dice):
+        return encoded_string(b"\3" + self.typed.types[3].written(dice)) if dice.random() < 0.4 else super().written(dice)
 
 
 class AnyItem:
@@ -611,7 +684,9 @@ TRANSACTION = Typed(PAYLOADS, UNTYPED, Kept())
 # What is signed: without a type six fields, or after EIP-155 nine.
 WITHOUT_TYPE = Record(fields(f"{SIX} chain_id:u64 first:zero second:zero", TYPES), counts=(6, 9))
 UNSIGNED = Typed({kind: Record(fields(text, TYPES)) for kind, text in TYPED.items()}, WITHOUT_TYPE, Unknown())
-TYPES["transactions"] = ListOf(Held(PAYLOADS, TRANSACTION.other))
+TYPES["transactions"] = ListOf(Held(PAYLOADS, UNTYPED, Kept()))
+TYPES |= {"blobs": ListOf(BLOB, counts=(0,) * 9 + (1,)), "points": ListOf(fixed(48)), "version": VERSION}
+TYPES["sent_transactions"] = ListOf(Sent(PAYLOADS | {3: WithBlobs(PAYLOADS[3])}, UNTYPED, Unknown()))
 TYPES |= {"headers": ListOf(TYPES["header"]), "withdrawals": ListOf(TYPES["withdrawal"])}
 BLOCK = "header:header transactions:transactions ommers:headers withdrawals:withdrawals"
 RECEIPT = Record(fields("status_or_state_root:status cumulative_gas_used:u64 logs_bloom:bloom logs:logs", TYPES))

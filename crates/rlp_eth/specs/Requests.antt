@@ -11,7 +11,7 @@ use Rattle.rlp_eth.specs.declared.requests.GetReceipts.{GetReceipts}
 use Rattle.rlp_ethereum.specs.Body.{body}
 use Rattle.rlp_records.specs.Hash.{hash}
 use Rattle.rlp_headers.specs.Header.{header}
-use Rattle.rlp_transactions.specs.AnyTransaction.{any_transaction}
+use Rattle.rlp_transactions.specs.PooledTransaction.{pooled_transaction}
 use Rattle.rlp_eth.specs.HashOrNumber.{hash_or_number}
 
 -- [startblock: {P, B_32}, limit: P, skip: P, reverse: {0, 1}] of GetBlockHeaders
@@ -42,9 +42,9 @@ block_bodies = list_type (λ (b : BlockBodies). vec_items b.0) body
 abbrev pub get_pooled_transactions : Codec GetPooledTransactions
 get_pooled_transactions = list_type (λ (g : GetPooledTransactions). vec_items g.0) hash
 
--- [tx₁, tx₂, ...] of PooledTransactions: the list of the transactions
+-- [tx₁, tx₂, ...] of PooledTransactions: the list of the transactions, where a transaction of type 3 has its blobs
 abbrev pub pooled_transactions : Codec PooledTransactions
-pooled_transactions = list_type (λ (p : PooledTransactions). vec_items p.0) any_transaction
+pooled_transactions = list_type (λ (p : PooledTransactions). vec_items p.0) pooled_transaction
 
 -- the list of the hashes
 abbrev pub get_receipts : Codec GetReceipts

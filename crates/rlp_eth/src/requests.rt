@@ -7,7 +7,7 @@ use rlp::{
     Decodable, DecodePlaced, DecoderError, Each, Encodable, Rlp, RlpStream, RoundTrip, StrictRead,
     put_list_path,
 };
-use rlp_ethereum::{AnyTransaction, Body, Hash, Header};
+use rlp_ethereum::{Body, Hash, Header, PooledTransaction};
 use std::alloc::{AllocError, Global};
 
 /// Asks for headers, in message 0x03 of `eth`: the list of its four fields.
@@ -213,11 +213,10 @@ impl StrictRead for GetPooledTransactions {
     ghost strict = { get_pooled_transactions.reads_strictly };
 }
 
-/// The answer to [`GetPooledTransactions`], in message 0x0a of `eth`: the list of the transactions,
-/// each as in a block. EIP-4844 asks for blob transactions with their blobs, which this type doesn't
-/// read.
+/// The answer to [`GetPooledTransactions`], in message 0x0a of `eth`: the list of the transactions.
+/// One of type 3 has its blobs, as in EIP-4844 or EIP-7594.
 #[derive(Drop)]
-pub struct PooledTransactions(pub Vec<AnyTransaction>);
+pub struct PooledTransactions(pub Vec<PooledTransaction>);
 
 impl Encodable for PooledTransactions {
     ghost item = { pooled_transactions.item };
@@ -240,7 +239,7 @@ impl Decodable for PooledTransactions {
 
 impl DecodePlaced for PooledTransactions {
     fn put_path(alloc: Global, rlp: &Rlp<'_>, path: &mut Vec<usize>) -> Result<(), AllocError> {
-        put_list_path::<AnyTransaction>(alloc, rlp, path)
+        put_list_path::<PooledTransaction>(alloc, rlp, path)
     }
 }
 

@@ -21,11 +21,12 @@ pub use rlp_records::{
 };
 pub use rlp_transactions::{
     AUTHORIZATION_MAGIC, AccessList, AccessListItem, AccessListTransaction, AnyTransaction,
-    Authorization, BLOB_LEN, Blob, BlobTransaction, BlobTransactionWithCellProofs,
+    Authorization, BLOB_LEN, Blob, BlobFault, BlobTransaction, BlobTransactionWithCellProofs,
     BlobTransactionWithProofs, DEPOSIT_TYPE, DepositTransaction, Eip155, FeeMarketTransaction,
-    LegacyTransaction, OtherTransaction, Payload, Recipient, SetCodeTransaction, Signed,
-    SignedAuthorization, SignedLegacyTransaction, Tagged, Transaction, TypedTransaction,
-    UnsignedLegacyTransaction, UnsignedTransaction, WrapperVersion, signing_hash,
+    LegacyTransaction, OtherTransaction, Payload, PooledBlobTransaction, PooledTransaction,
+    Recipient, SetCodeTransaction, Signed, SignedAuthorization, SignedLegacyTransaction, Tagged,
+    Transaction, TypedTransaction, UnsignedLegacyTransaction, UnsignedTransaction, WrapperVersion,
+    signing_hash, versioned_hash,
 };
 pub use rlp_trie::{
     Branch, BranchChild, Child, Extension, ExtensionPath, InlineNode, Leaf, LeafPath, Path,

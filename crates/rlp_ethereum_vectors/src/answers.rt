@@ -3,7 +3,9 @@
 use crate::alone::Payload;
 use crate::fields::{fields, forks, london};
 use crate::reading::{Alone, Item, ways};
-use crate::{bounded, by_name, hashes, node_records, nodes, places, records, signing, unsigned};
+use crate::{
+    bounded, by_name, hashes, node_records, nodes, places, pooled, records, signing, unsigned,
+};
 use rlp_ethereum::{
     AccessListTransaction, AnyTransaction, Authorization, BlobTransaction, Block, Body, Branch,
     BranchChild, Child, Extension, FeeMarketTransaction, Hash, Header, Leaf, Log, NodeRecord,
@@ -79,6 +81,7 @@ fn tell_named(alloc: Global, call: &str, bytes: &[u8], out: &mut Line) -> fmt::R
         "signing" => unsigned::tell_signed(alloc, name, bytes, out),
         "sent" => signing::tell_sent(alloc, name, bytes, out),
         "signed" => unsigned::tell(alloc, name, bytes, out),
+        "pooled" => pooled::tell(alloc, name, bytes, out),
         "hash" => hashes::tell(alloc, name, bytes, out),
         "at most" => bounded::tell(alloc, name, bytes, out),
         "node" => nodes::tell(alloc, name, bytes, out),

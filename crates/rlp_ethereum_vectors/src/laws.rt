@@ -4,11 +4,12 @@ use crate::node_records::TEXTS;
 use crate::text::bytes_of;
 use rlp::StrictRead;
 use rlp_ethereum::laws::{
-    bytes_tell_transactions, encodings_tell_records, no_bytes_are_signed_for_two_meanings,
-    node_text_round_trips, reading_without_memory_is_total, record_is_read, record_is_written,
-    record_round_trips,
+    bytes_tell_pooled_transactions, bytes_tell_transactions, encodings_tell_records,
+    no_bytes_are_signed_for_two_meanings, node_text_round_trips, pooled_transaction_keeps_its_hash,
+    pooled_transactions_stand_in_blocks, reading_without_memory_is_total, record_is_read,
+    record_is_written, record_round_trips,
 };
-use rlp_ethereum::{Account, AnyTransaction, NodeRecord, Withdrawal};
+use rlp_ethereum::{Account, AnyTransaction, NodeRecord, PooledTransaction, Withdrawal};
 use rlp_trie::laws::paths_have_one_value;
 use std::alloc::Global;
 use std::test::Fail;
@@ -43,10 +44,16 @@ fn laws_hold_of_records(rt: HostRuntime) -> Result<(), Fail> {
         laws_hold::<Withdrawal>(alloc, WITHDRAWAL)?
             && laws_hold::<Account>(alloc, ACCOUNT)?
             && laws_hold::<AnyTransaction>(alloc, TRANSACTION)?
+            && laws_hold::<PooledTransaction>(alloc, TRANSACTION)?
     );
     let bytes = bytes_of(alloc, "FEE_MARKET")?;
     let transaction = AnyTransaction::from_bytes(alloc, bytes.as_slice())?;
     bytes_tell_transactions(&transaction, &transaction);
+    let pooled = PooledTransaction::from_bytes(alloc, bytes.as_slice())?;
+    bytes_tell_pooled_transactions(&pooled, &pooled);
+    pooled_transactions_stand_in_blocks(&pooled);
+    let (sent, consensus) = pooled_transaction_keeps_its_hash(alloc, pooled)?;
+    assert!(rt; sent == consensus);
     no_bytes_are_signed_for_two_meanings();
     Ok(())
 }

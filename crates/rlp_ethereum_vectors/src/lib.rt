@@ -32,6 +32,8 @@ mod nodes;
 #[cfg(test)]
 mod places;
 #[cfg(test)]
+mod pooled;
+#[cfg(test)]
 mod proofs;
 #[cfg(test)]
 mod reading;

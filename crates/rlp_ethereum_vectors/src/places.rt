@@ -149,7 +149,7 @@ fn tell_strict<T: DecodePlaced>(alloc: Global, bytes: &[u8], out: &mut Line) -> 
 }
 
 /// Tells a path and a fault.
-fn tell_placed(path: &[usize], found: &DecoderError, out: &mut Line) -> fmt::Result {
+pub(crate) fn tell_placed(path: &[usize], found: &DecoderError, out: &mut Line) -> fmt::Result {
     out.debug(path)?;
     out.then(found)
 }

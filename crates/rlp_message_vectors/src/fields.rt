@@ -2,7 +2,7 @@
 
 use crate::reading::fault;
 use rlp::Decodable;
-use rlp_ethereum::{AnyTransaction, TypedReceipt};
+use rlp_ethereum::{AnyTransaction, PooledTransaction, TypedReceipt};
 use rlp_messages::{
     BlockBodies, BlockHeaders, Disconnect, Hello, NewBlock, PooledTransactions, Receipts,
     Receipts69, Transactions, WithRequestId,
@@ -59,12 +59,22 @@ impl Told for Transactions {
     }
 }
 
+/// Returns the nonce of a transaction that is sent.
+fn nonce(transaction: &PooledTransaction) -> u64 {
+    match transaction {
+        PooledTransaction::Legacy(tx) => tx.payload.nonce,
+        PooledTransaction::AccessList(tx) => tx.payload.nonce,
+        PooledTransaction::FeeMarket(tx) => tx.payload.nonce,
+        PooledTransaction::Blob(tx) => tx.transaction().payload.nonce,
+        PooledTransaction::SetCode(tx) => tx.payload.nonce,
+    }
+}
+
 /// The nonces of the transactions.
 impl Told for PooledTransactions {
     fn tell(&self, out: &mut Line) -> fmt::Result {
         for transaction in self.0.iter() {
-            let (_, nonce, _) = numbers(transaction);
-            out.then(nonce)?;
+            out.then(nonce(transaction))?;
         }
         Ok(())
     }

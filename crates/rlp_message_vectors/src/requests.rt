@@ -45,6 +45,23 @@ pub(crate) const ROWS: &str = "
     BlockBodies | f902dc820457f902d6f902d3f8d2+TX_1+TX_2+f901fc+HEADER
     fields of BlockBodies | f902dc820457f902d6f902d3f8d2+TX_1+TX_2+f901fc+HEADER | 1111: 2 1;
 
+    Two transactions of type 3, each with one blob of zeros: in the form of EIP-4844, and in the form
+    of EIP-7594. The bytes were worked out by hand. Without the blobs it is no answer.
+    PooledTransactions | fa0401ae820457fa0401a7ba0200b603fa0200b1+f843010602030494+35*20+0780c008e1\
+     a0+010657f37554c781402a22917dee2f75def7ab966d7b770905398eba3c444014+800102+fa020004ba020000+00\
+     *131072+f1b0c0+00*47+f1b0c0+00*47+ba0200e903fa0200e4+f843010702030494+35*20+0780c008e1a0+01065\
+     7f37554c781402a22917dee2f75def7ab966d7b770905398eba3c444014+800102+01fa020004ba020000+00*13107\
+     2+f1b0c0+00*47+f862b0c0+00*47+b0c0+00*47
+    fields of PooledTransactions | fa0401ae820457fa0401a7ba0200b603fa0200b1+f843010602030494+35*20+\
+     0780c008e1a0+010657f37554c781402a22917dee2f75def7ab966d7b770905398eba3c444014+800102+fa020004b\
+     a020000+00*131072+f1b0c0+00*47+f1b0c0+00*47+ba0200e903fa0200e4+f843010702030494+35*20+0780c008\
+     e1a0+010657f37554c781402a22917dee2f75def7ab966d7b770905398eba3c444014+800102+01fa020004ba02000\
+     0+00*131072+f1b0c0+00*47+f862b0c0+00*47+b0c0+00*47 | 1111: 6 7
+    PooledTransactions | f84d820457f848b846+03f843010602030494+35*20+0780c008e1a0+010657f37554c7814\
+     02a22917dee2f75def7ab966d7b770905398eba3c444014+800102 | RlpIncorrectListLen
+    An unknown type, which no answer has.
+    PooledTransactions | c7820457c38205c0 | Custom(\"unknown transaction type\")
+
     The answer 1111 of eth/69 with two blocks, one with receipts of types 0 and 2, the second of
     which failed and has a log, and one without. The bytes were worked out by hand.
     Receipts69 | f877820457f872f86fc68001825208c0f866028082a410+LOGS+c0

@@ -200,7 +200,8 @@ of_type tag f = after_derived (λ m. type_entries tag) f
 
 -- the number of the type that fields begin with
 abbrev pub shown_type : Entries → ℕ
-shown_type (both (entry name json (content (type_byte n))) more) = n
+shown_type (entry name json (content (type_byte n))) = n
+shown_type (both first more) = shown_type first
 shown_type es = 0
 
 module _ {M N : Type 0} (f : Fields M) (g : Fields N) where

@@ -1,6 +1,6 @@
 -- What is shown of transactions of all types, with their signatures and without, and as they are sent with their blobs.
-use Rattle.std.specs.Prelude.{ℕ, List, codes, refl, ◌≡◌, ◌==◌, ◌&&◌, if◌then◌else◌, Bool, true, false, ◌∷◌, Option, Some, None, option_map, drop, ⊤}
-use Rattle.std.proofs.Common.{inl, inr, ap, sym, ◌∙◌}
+use Rattle.std.specs.Prelude.{ℕ, List, codes, refl, ◌≡◌, ◌==◌, ◌&&◌, if◌then◌else◌, Bool, true, false, ◌∷◌, Option, Some, None, option_map, drop, length, [], ⊤}
+use Rattle.std.proofs.Common.{inl, inr, ap, arith, sym, ◌∙◌}
 use Rattle.keccak.specs.Keccak.{keccak256}
 use Rattle.rlp.specs.{Format.Encoding.encoding, Format.Encoding.list_of, Form.FieldsReading}
 use Rattle.rlp_records.specs.Alone.{bytes_alone}
@@ -10,8 +10,9 @@ use Rattle.rlp_transactions.specs.{Access.access_list, Access.access_list_item, 
 use Rattle.rlp_transactions.specs.{Authorization.signed_authorization, BlobTransaction.blob_transaction_fields, BlobTransaction.signed_blob_transaction, Recipient.recipient}
 use Rattle.rlp_transactions.specs.{BlobWrapper.with_cell_proofs, BlobWrapper.with_proofs, FeeMarketTransaction.fee_market_transaction_fields, Transaction.transaction}
 use Rattle.rlp_transactions.specs.{LegacyTransaction.legacy_transaction_fields, LegacyTransaction.signed_legacy_transaction, OtherTransaction.other_type}
+use Rattle.rlp_transactions.specs.{PooledBlobTransaction.pooled_blob_transaction, PooledTransaction.pooled_transaction, PooledTransaction.seen_consensus}
 use Rattle.rlp_transactions.specs.{SetCodeTransaction.set_code_transaction_fields, UnsignedLegacyTransaction.chain_fields, UnsignedLegacyTransaction.unsigned_legacy_transaction}
-use Rattle.rlp_print.specs.Display.{Display, Fields, a_bit, a_content, a_list, a_number, a_quantity, a_string, a_type, after_derived, an_object, and_type, bytes_as, derived, either, end, field, field_if, if_there, in_order, last_type, no_type_entries, of_type, one, one_if, same, through}
+use Rattle.rlp_print.specs.Display.{Display, Fields, a_bit, a_content, a_list, a_number, a_quantity, a_string, a_type, after_derived, an_object, and_type, bytes_as, derived, either, end, field, field_if, if_there, in_order, last_type, no_type_entries, of_type, one, one_if, same, shown_type, through}
 use Rattle.rlp_print.specs.{Records.hash_entries, Records.written, declared.sink.NumberKind.TheVariants.Decimal, declared.sink.NumberKind.TheVariants.LegacyV}
 use Rattle.rlp_print.specs.Value.{Content, Entries, both, by_form, bytes, content, entries_if, entry, nothing, number}
 use Rattle.rlp_print.specs.declared.sink.BytesKind.TheVariants.{Any, Null, Payload, Sparse}
@@ -227,20 +228,60 @@ unsigned_display = an_object (through (λ t. (t, t)) (in_order payload_display (
 unfoldable pub blob_hash : signed_blob_transaction.reading.M → List ℕ
 blob_hash t = keccak256 (3 ∷ encoding (signed_blob_transaction.reading.item t))
 
-abbrev pub without_blobs_display : Fields signed_blob_transaction.reading.M
-without_blobs_display = after_derived (λ t. hash_entries (blob_hash t)) (typed_display 3 blob_transaction_fields.reading blob_display)
+-- the transaction without its blobs
+abbrev pub blob_transaction_display : Fields signed_blob_transaction.reading.M
+blob_transaction_display = typed_display 3 blob_transaction_fields.reading blob_display
 
 -- EIP-4844; blobs are mostly zero bytes
-abbrev pub with_proofs_display : Display with_proofs.reading.M
-with_proofs_display = an_object (
-    in_order without_blobs_display (
+abbrev pub with_proofs_fields : Fields with_proofs.reading.M
+with_proofs_fields =
+    in_order blob_transaction_display (
     same (codes "blobs") (a_list (bytes_as Sparse)) (same (codes "commitments") (a_list a_string) (
-    same (codes "proofs") (a_list a_string) end))))
+    same (codes "proofs") (a_list a_string) end)))
+
+abbrev pub with_proofs_display : Display with_proofs.reading.M
+with_proofs_display = an_object (after_derived (λ m. hash_entries (blob_hash m.0)) with_proofs_fields)
 
 -- EIP-7594, with the version of the list
-abbrev pub with_cell_proofs_display : Display with_cell_proofs.reading.M
-with_cell_proofs_display = an_object (
-    in_order without_blobs_display (
+abbrev pub with_cell_proofs_fields : Fields with_cell_proofs.reading.M
+with_cell_proofs_fields =
+    in_order blob_transaction_display (
     in_order (derived (λ version. entry (codes "wrapper_version") (codes "wrapperVersion") (content (number Decimal 1)))) (
     same (codes "blobs") (a_list (bytes_as Sparse)) (same (codes "commitments") (a_list a_string) (
-    field (codes "cell_proofs") (codes "proofs") (a_list a_string) end)))))
+    field (codes "cell_proofs") (codes "proofs") (a_list a_string) end))))
+
+abbrev pub with_cell_proofs_display : Display with_cell_proofs.reading.M
+with_cell_proofs_display = an_object (after_derived (λ m. hash_entries (blob_hash m.0)) with_cell_proofs_fields)
+
+-- the name of the first field after the transaction
+abbrev name_after : Entries → List ℕ
+name_after (both first (both (entry name json v) more)) = name
+name_after es = []
+
+pub blobs_apart : (m : with_proofs.reading.M) (n : with_cell_proofs.reading.M) → with_proofs_fields.shown m ≡ with_cell_proofs_fields.shown n → ⊥
+blobs_apart m n is = let names : codes "blobs" ≡ codes "wrapper_version" = ap name_after is in let long : 5 ≡ 15 = ap length names in omega (arith, long)
+
+-- a transaction with its blobs, in either form
+abbrev pub with_blobs_fields : Fields pooled_blob_transaction.reading.M
+with_blobs_fields = either with_proofs_fields with_cell_proofs_fields blobs_apart
+
+pub blobs_type : (m : pooled_blob_transaction.reading.M) → shown_type (with_blobs_fields.shown m) ≡ 3
+blobs_type (inl m) = refl
+blobs_type (inr m) = refl
+
+-- transactions of all types as they are sent
+abbrev pub pooled_fields : Fields pooled_transaction.reading.M
+pooled_fields = (
+    and_type 0 signed_legacy_display (λ m. refl) (
+    and_type 1 (typed_display 1 access_list_transaction_fields.reading access_list_transaction_display) (λ m. refl) (
+    and_type 2 (typed_display 2 fee_market_transaction_fields.reading fee_market_display) (λ m. refl) (
+    and_type 3 with_blobs_fields blobs_type (
+    last_type 4 (typed_display 4 set_code_transaction_fields.reading set_code_display) (λ m. refl)))))).fields
+
+-- the hash of a transaction as it is sent: the hash of the transaction in a block
+unfoldable pub pooled_hash : pooled_transaction.reading.M → List ℕ
+pooled_hash t = keccak256 (bytes_alone (transaction.reading.item (seen_consensus t)))
+
+-- a transaction as it is sent, with its hash
+abbrev pub pooled_transaction_display : Display pooled_transaction.reading.M
+pooled_transaction_display = an_object (after_derived (λ t. hash_entries (pooled_hash t)) pooled_fields)

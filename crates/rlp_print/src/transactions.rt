@@ -7,6 +7,7 @@ ghost use Rattle.rlp_transactions.specs.{Access.access_list_item, AccessListTran
 ghost use Rattle.rlp_transactions.specs.{Authorization.signed_authorization, Blob.blob, BlobTransaction.blob_transaction_fields, BlobTransaction.signed_blob_transaction, Recipient.recipient};
 ghost use Rattle.rlp_transactions.specs.{BlobWrapper.with_cell_proofs, BlobWrapper.with_proofs, FeeMarketTransaction.fee_market_transaction_fields, Transaction.transaction};
 ghost use Rattle.rlp_transactions.specs.{LegacyTransaction.legacy_transaction_fields, LegacyTransaction.signed_legacy_transaction, SetCodeTransaction.set_code_transaction_fields};
+ghost use Rattle.rlp_transactions.specs.{PooledBlobTransaction.pooled_blob_transaction, PooledTransaction.pooled_transaction};
 ghost use Rattle.rlp_transactions.specs.{UnsignedLegacyTransaction.unsigned_legacy_transaction, UnsignedTransaction.unsigned_transaction};
 ghost use Rattle.rlp_print.specs.{Display.bytes_as, Display.seen_as, Value.content_of, declared.sink.BytesKind.TheVariants.Sparse};
 ghost use Rattle.rlp_print.specs.Transactions as shown;
@@ -21,9 +22,9 @@ use rlp_records::Hash;
 use rlp_transactions::{
     AccessListItem, AccessListTransaction, AnyTransaction, Authorization, Blob, BlobTransaction,
     BlobTransactionWithCellProofs, BlobTransactionWithProofs, Eip155, FeeMarketTransaction,
-    LegacyTransaction, Recipient, SetCodeTransaction, Signed, SignedAuthorization,
-    SignedLegacyTransaction, Tagged, Transaction, TypedTransaction, UnsignedLegacyTransaction,
-    UnsignedTransaction, signing_hash,
+    LegacyTransaction, PooledBlobTransaction, PooledTransaction, Recipient, SetCodeTransaction,
+    Signed, SignedAuthorization, SignedLegacyTransaction, Tagged, Transaction, TypedTransaction,
+    UnsignedLegacyTransaction, UnsignedTransaction, signing_hash,
 };
 use std::alloc::{AllocError, Global};
 
@@ -360,16 +361,38 @@ fn blob_hash(alloc: Global, tx: &Signed<BlobTransaction>) -> Result<Hash, AllocE
     Ok(Hash(keccak256(bytes.as_slice())))
 }
 
+/// The fields without the hash.
+impl ShowFields for BlobTransactionWithProofs {
+    ghost fields = { seen_as with_proofs.reading.seen shown.with_proofs_fields };
+
+    fn give<S: Sink>(&self, alloc: Global, name: &str, sink: &mut S) -> Result<(), AllocError> {
+        give_fields!(alloc, name, sink;
+            &self.transaction;
+            "blobs" "blobs" Items(&self.blobs); "commitments" "commitments" Items(&self.commitments);
+            "proofs" "proofs" Items(&self.proofs);
+        )
+    }
+}
+
 impl Show for BlobTransactionWithProofs {
     ghost display = { seen_as with_proofs.reading.seen shown.with_proofs_display };
 
     fn show<S: Sink>(&self, alloc: Global, name: &str, sink: &mut S) -> Result<(), AllocError> {
         let hash = blob_hash(alloc, &self.transaction)?;
-        show_fields!(alloc, name, sink;
-            "hash" "hash" &hash;
+        show_fields!(alloc, name, sink; "hash" "hash" &hash; self)
+    }
+}
+
+/// The fields without the hash.
+impl ShowFields for BlobTransactionWithCellProofs {
+    ghost fields = { seen_as with_cell_proofs.reading.seen shown.with_cell_proofs_fields };
+
+    fn give<S: Sink>(&self, alloc: Global, name: &str, sink: &mut S) -> Result<(), AllocError> {
+        give_fields!(alloc, name, sink;
             &self.transaction;
+            "wrapper_version" "wrapperVersion" &1_u64;
             "blobs" "blobs" Items(&self.blobs); "commitments" "commitments" Items(&self.commitments);
-            "proofs" "proofs" Items(&self.proofs);
+            "cell_proofs" "proofs" Items(&self.cell_proofs);
         )
     }
 }
@@ -379,12 +402,51 @@ impl Show for BlobTransactionWithCellProofs {
 
     fn show<S: Sink>(&self, alloc: Global, name: &str, sink: &mut S) -> Result<(), AllocError> {
         let hash = blob_hash(alloc, &self.transaction)?;
-        show_fields!(alloc, name, sink;
-            "hash" "hash" &hash;
-            &self.transaction;
-            "wrapper_version" "wrapperVersion" &1_u64;
-            "blobs" "blobs" Items(&self.blobs); "commitments" "commitments" Items(&self.commitments);
-            "cell_proofs" "proofs" Items(&self.cell_proofs);
-        )
+        show_fields!(alloc, name, sink; "hash" "hash" &hash; self)
+    }
+}
+
+/// The fields without the hash.
+impl ShowFields for PooledBlobTransaction {
+    ghost fields = { seen_as pooled_blob_transaction.reading.seen shown.with_blobs_fields };
+
+    fn give<S: Sink>(&self, alloc: Global, name: &str, sink: &mut S) -> Result<(), AllocError> {
+        match self {
+            PooledBlobTransaction::Proofs(sent) => sent.give(alloc, name, sink),
+            PooledBlobTransaction::CellProofs(sent) => sent.give(alloc, name, sink),
+        }
+    }
+}
+
+/// The fields without the hash.
+impl ShowFields for PooledTransaction {
+    ghost fields = { seen_as pooled_transaction.reading.seen shown.pooled_fields };
+
+    fn give<S: Sink>(&self, alloc: Global, name: &str, sink: &mut S) -> Result<(), AllocError> {
+        match self {
+            PooledTransaction::Legacy(tx) => tx.give(alloc, name, sink),
+            PooledTransaction::AccessList(tx) => tx.give(alloc, name, sink),
+            PooledTransaction::FeeMarket(tx) => tx.give(alloc, name, sink),
+            PooledTransaction::Blob(tx) => tx.give(alloc, name, sink),
+            PooledTransaction::SetCode(tx) => tx.give(alloc, name, sink),
+        }
+    }
+}
+
+/// Returns the hash of a transaction as it is sent.
+#[tactic(auto, using(crate::proofs::Hashes::pooled_written))]
+fn pooled_hash(alloc: Global, tx: &PooledTransaction) -> Result<Hash, AllocError>
+    ensures { IfOk result
+        (λ h. h.0 ≡ shown.pooled_hash (pooled_transaction.reading.seen tx.now)) }
+{
+    tx.hash(alloc)
+}
+
+impl Show for PooledTransaction {
+    ghost display = { seen_as pooled_transaction.reading.seen shown.pooled_transaction_display };
+
+    fn show<S: Sink>(&self, alloc: Global, name: &str, sink: &mut S) -> Result<(), AllocError> {
+        let hash = pooled_hash(alloc, self)?;
+        show_fields!(alloc, name, sink; "hash" "hash" &hash; self)
     }
 }

@@ -76,6 +76,9 @@ fields named.AccessList = fields_in table.ACCESS_LIST.now
 fields named.FeeMarket = fields_in table.FEE_MARKET.now
 fields named.Blob = fields_in table.BLOB.now
 fields named.SetCode = fields_in table.SET_CODE.now
+fields named.Pooled = []
+fields named.WithProofs = fields_in table.WITH_PROOFS.now
+fields named.WithCellProofs = fields_in table.WITH_CELL_PROOFS.now
 
 -- what has the parts of records of a kind
 abbrev pub kind_part : Kind → Part
@@ -156,6 +159,14 @@ typed_kind n =
 abbrev pub transaction_kind : View → Record
 transaction_kind v = if begins_as_list v.bytes then named.Legacy else typed_kind (slice_index_or (envelope v) 0 0)
 
+-- the same for a transaction as it is sent: one of type 3 has its blobs, in a list of four items or of five
+abbrev pub with_blobs : Record → View → Record
+with_blobs named.Blob v = if result_unwrap_or (item_count v) 0 == 4 then named.WithProofs else named.WithCellProofs
+with_blobs r v = r
+
+abbrev pub pooled_kind : View → Record
+pooled_kind v = with_blobs (transaction_kind v) (payload v)
+
 -- which node of the trie a view is
 abbrev pub node_kind : View → Record
 node_kind v =
@@ -168,6 +179,7 @@ abbrev pub opened : Part → View → Part × View
 opened (part.One (named.Kind kind.Node)) v = (part.One (node_kind v), v)
 opened (part.One (named.Kind kind.Receipt)) v = (part.One named.ReceiptPayload, payload v)
 opened (part.One (named.Kind kind.Transaction)) v = (part.One (transaction_kind v), payload v)
+opened (part.One named.Pooled) v = (part.One (pooled_kind v), payload v)
 opened p v = (p, v)
 
 -- The name of the part that a path leads to, in a part of this name. A path beyond the names ends there.

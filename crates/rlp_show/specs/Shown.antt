@@ -17,7 +17,7 @@ use Rattle.rlp_eth.specs.{Receipts.receipts, Receipts69.receipts69, Status.statu
 use Rattle.rlp_print.specs.Value.{Value, both, entry, object}
 use Rattle.rlp_print.specs.Display.{Display, a_list, a_number, a_string, an_object, end}
 use Rattle.rlp_print.specs.Records.{account_display, typed_receipt_display, withdrawal_display}
-use Rattle.rlp_print.specs.Transactions.{access_list_display, any_transaction_display, signed_authorization_display, unsigned_display}
+use Rattle.rlp_print.specs.Transactions.{access_list_display, any_transaction_display, pooled_transaction_display, signed_authorization_display, unsigned_display}
 use Rattle.rlp_print.specs.Blocks.{block_display, body_fields_display, header_display}
 use Rattle.rlp_print.specs.{Items.node_display, NodeRecords.node_fields_display}
 use Rattle.rlp_print.specs.Messages.{disconnect_display, get_block_headers_display, hello_display, new_block_display, new_block_hash_display, new_pooled_transaction_hashes_display}
@@ -87,7 +87,7 @@ message_shown message.BlockBodies = numbered block_bodies (a_list (an_object bod
 message_shown message.NewBlock = whole new_block new_block_display
 message_shown message.NewPooledTransactionHashes = whole new_pooled_transaction_hashes new_pooled_transaction_hashes_display
 message_shown message.GetPooledTransactions = numbered get_pooled_transactions (a_list a_string)
-message_shown message.PooledTransactions = numbered pooled_transactions (a_list any_transaction_display)
+message_shown message.PooledTransactions = numbered pooled_transactions (a_list pooled_transaction_display)
 message_shown message.GetReceipts = numbered get_receipts (a_list a_string)
 message_shown message.Receipts68 = numbered receipts (a_list (a_list typed_receipt_display))
 message_shown message.Receipts69 = numbered receipts69 (a_list (a_list receipt69_display))

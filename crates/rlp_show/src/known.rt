@@ -21,7 +21,8 @@ use rlp_eth::{
 };
 use rlp_ethereum::{
     AccessListItem, Account, AnyTransaction, Block, Body, Hash, Header, NodeRecord,
-    SignedAuthorization, TrieNode, TypedReceipt, UnsignedTransaction, Withdrawal,
+    PooledTransaction, SignedAuthorization, TrieNode, TypedReceipt, UnsignedTransaction,
+    Withdrawal,
 };
 use rlp_p2p::{Disconnect, Hello, Ping, Pong};
 use rlp_print::Show;
@@ -182,7 +183,7 @@ fn put_message(
         MessageKind::GetReceipts => put_numbered::<ListOf<Hash>>(alloc, given, out),
         MessageKind::BlockBodies => put_numbered::<ListOf<Body>>(alloc, given, out),
         MessageKind::PooledTransactions => {
-            put_numbered::<ListOf<AnyTransaction>>(alloc, given, out)
+            put_numbered::<ListOf<PooledTransaction>>(alloc, given, out)
         }
         MessageKind::Receipts68 => put_numbered::<ListOf<BlockReceipts>>(alloc, given, out),
         MessageKind::Receipts69 => put_numbered::<ListOf<BlockReceipts69>>(alloc, given, out),

@@ -2,7 +2,7 @@
 
 ghost use Rattle.std.specs.Prelude.{◌≡◌, IfOk, OnOk, map, string_bytes};
 ghost use Rattle.rlp_print.specs.Value.{inside, item_name};
-ghost use Rattle.rlp_show.specs.Names.{content, envelope, field_of, fields, in_field, in_list, in_part, is_list, item_in, kind_fields, kind_part, message_fields, naming, node_kind, opened, payload, transaction_kind};
+ghost use Rattle.rlp_show.specs.Names.{content, envelope, field_of, fields, in_field, in_list, in_part, is_list, item_in, kind_fields, kind_part, message_fields, naming, node_kind, opened, payload, pooled_kind, transaction_kind};
 
 use crate::kind::Kind;
 use crate::messages::MessageKind;
@@ -26,14 +26,17 @@ pub enum Record {
     Log,
     NewBlockHash,
     NodePair,
+    Pooled,
     Receipt69,
     ReceiptPayload,
-    // Transactions without a type, and the payloads of the others.
+    // Transactions without a type, and the payloads of the others: type 3 is sent with proofs.
     Legacy,
     AccessList,
     FeeMarket,
     Blob,
     SetCode,
+    WithProofs,
+    WithCellProofs,
 }
 
 /// What has parts: a record, a list of records, a list of such lists, or the keys and values of a
@@ -170,6 +173,15 @@ const SET_CODE: Fields = fields!(
     "authorization_list" List Kind Authorization; "y_parity"; "r"; "s"
 );
 
+const WITH_PROOFS: Fields = fields!(
+    "transaction" One Blob; "blobs" List Other; "commitments" List Other; "proofs" List Other
+);
+
+const WITH_CELL_PROOFS: Fields = fields!(
+    "transaction" One Blob; "wrapper_version"; "blobs" List Other; "commitments" List Other;
+    "cell_proofs" List Other
+);
+
 const GET_BLOCK_HEADERS: Fields = fields!("request_id"; "content" One HeadersAsked);
 
 const GET_HASHED: Fields = fields!("request_id"; "content" List Other);
@@ -182,7 +194,7 @@ const RECEIPTS68: Fields = fields!("request_id"; "content" Lists Kind Receipt);
 
 const RECEIPTS69: Fields = fields!("request_id"; "content" Lists Receipt69);
 
-const POOLED_TRANSACTIONS: Fields = fields!("request_id"; "content" List Kind Transaction);
+const POOLED_TRANSACTIONS: Fields = fields!("request_id"; "content" List Pooled);
 
 impl Record {
     /// Returns the fields of the record, in order.
@@ -190,7 +202,7 @@ impl Record {
         ensures { map (λ f. (f.0.now, f.1)) result.now ≡ fields self }
     {
         match self {
-            Record::Other => &[],
+            Record::Other | Record::Pooled => &[],
             Record::Kind(kind) => kind.fields(),
             Record::AccessListItem => ACCESS_LIST_ITEM,
             Record::Branch => BRANCH,
@@ -209,6 +221,8 @@ impl Record {
             Record::FeeMarket => FEE_MARKET,
             Record::Blob => BLOB,
             Record::SetCode => SET_CODE,
+            Record::WithProofs => WITH_PROOFS,
+            Record::WithCellProofs => WITH_CELL_PROOFS,
         }
     }
 
@@ -300,6 +314,7 @@ impl Part {
                 Part::One(transaction_kind(item)),
                 payload(item),
             ),
+            Part::One(Record::Pooled) => (Part::One(pooled_kind(item)), payload(item)),
             part => (part, item.clone()),
         }
     }
@@ -373,6 +388,17 @@ fn transaction_kind(item: &Rlp<'_>) -> Record
         [3, ..] => Record::Blob,
         [4, ..] => Record::SetCode,
         _ => Record::Other,
+    }
+}
+
+/// Returns which transaction an item is that is sent: one of type 3 has its blobs.
+fn pooled_kind(item: &Rlp<'_>) -> Record
+    ensures { result ≡ pooled_kind item.now }
+{
+    match transaction_kind(item) {
+        Record::Blob if payload(item).item_count().unwrap_or(0) == 4 => Record::WithProofs,
+        Record::Blob => Record::WithCellProofs,
+        other => other,
     }
 }
 

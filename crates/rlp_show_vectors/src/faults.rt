@@ -259,6 +259,33 @@ const BLOCK_FAULTS: [Row; 7] = [
     ),
 ];
 
+/// Messages with transactions of type 3 that have their blobs, and with a transaction of a type that
+/// isn't known.
+const POOLED_FAULTS: [Row; 4] = [
+    (
+        "pooled_transactions f85201f84fb84d03f84af8430180020304943535353535353535353535353535\
+         3535353535350780c008e1a0010657f37554c781402a22917dee2f75def7ab966d7b770905398eba3c44\
+         4014800102c28080c0c0",
+        "error field 1 (content[0].blobs[0]): RlpIsTooShort\n",
+    ),
+    (
+        "pooled_transactions f85101f84eb84c03f849f8430180020304943535353535353535353535353535\
+         3535353535350780c008e1a0010657f37554c781402a22917dee2f75def7ab966d7b770905398eba3c44\
+         401480010202c0c0c0",
+        "error field 1 (content[0].wrapper_version): Custom(\"unknown wrapper version\")\n",
+    ),
+    (
+        "pooled_transactions f85001f84db84b03f848f8430100020304943535353535353535353535353535\
+         3535353535350780c008e1a0010657f37554c781402a22917dee2f75def7ab966d7b770905398eba3c44\
+         4014800102c0c0c0",
+        "error field 1 (content[0].transaction.nonce): RlpInvalidIndirection\n",
+    ),
+    (
+        "pooled_transactions c501c38205c0",
+        "error field 1 (content[0]): Custom(\"unknown transaction type\")\n",
+    ),
+];
+
 /// Node records: the kind, the digits, and what is wrong.
 const NODE_RECORD_FAULTS: [Row; 5] = [
     (
@@ -373,6 +400,11 @@ fn faults_of_parts_are_named(rt: HostRuntime) -> Result<(), Fail> {
 #[test]
 fn faults_of_blocks_are_named(rt: HostRuntime) -> Result<(), Fail> {
     check(rt.alloc(), &BLOCK_FAULTS)
+}
+
+#[test]
+fn faults_of_pooled_transactions_are_named(rt: HostRuntime) -> Result<(), Fail> {
+    check(rt.alloc(), &POOLED_FAULTS)
 }
 
 #[test]

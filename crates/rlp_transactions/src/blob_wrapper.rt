@@ -16,7 +16,8 @@ use std::alloc::{AllocError, Global};
 /// EIP-4844. It is sent to other nodes and by `eth_sendRawTransaction`; the transaction alone is
 /// hashed, and stands in blocks.
 ///
-/// That the numbers of blobs, commitments and proofs agree isn't tested, nor the proofs.
+/// Reading doesn't test that the numbers of blobs, commitments and proofs agree:
+/// [`BlobTransactionWithProofs::check_blobs`] does. The proofs aren't tested.
 #[derive(Drop)]
 pub struct BlobTransactionWithProofs {
     /// The transaction.
@@ -32,7 +33,8 @@ pub struct BlobTransactionWithProofs {
 /// A transaction of type 3 with its blobs and the proofs of their cells: the list of its five
 /// fields, as in EIP-7594. It takes the place of [`BlobTransactionWithProofs`] since Osaka.
 ///
-/// That the numbers of blobs, commitments and proofs agree isn't tested, nor the proofs.
+/// Reading doesn't test that the numbers of blobs, commitments and proofs agree:
+/// [`BlobTransactionWithCellProofs::check_blobs`] does. The proofs aren't tested.
 #[derive(Drop)]
 pub struct BlobTransactionWithCellProofs {
     /// The transaction.

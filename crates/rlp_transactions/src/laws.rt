@@ -1,11 +1,16 @@
 //! What holds of transactions: their bytes tell them apart, and no bytes are signed for two meanings.
 
-ghost use Rattle.std.specs.Prelude.{◌≡◌, ◌<◌, ◌^◌, length};
+ghost use Rattle.std.specs.Prelude.{◌≡◌, ◌≢◌, ◌<◌, ◌^◌, IfOk, length};
 ghost use Rattle.rlp_records.specs.Alone.{bytes_alone};
 ghost use Rattle.rlp_transactions.specs.Signing.{FitsSigning, HaveOneMeaning, Signable, signed_bytes};
 ghost use Rattle.rlp_transactions.specs.AnyTransaction.{any_transaction};
+ghost use Rattle.rlp_transactions.specs.PooledTransaction.{consensus_form, pooled_transaction};
+ghost use Rattle.rlp_transactions.specs.Transaction.{transaction};
+ghost use Rattle.rlp_transactions.specs.TransactionParts.{type_of};
 
-use crate::AnyTransaction;
+use crate::{AnyTransaction, PooledTransaction};
+use rlp_records::Hash;
+use std::alloc::{AllocError, Global};
 
 /// Two transactions that [`AnyTransaction::to_bytes`] writes as the same bytes, fewer than 2^64,
 /// have the same type, and each of their fields is the same. So the hash of these bytes names one
@@ -15,6 +20,50 @@ pub fn bytes_tell_transactions(one: &AnyTransaction, other: &AnyTransaction)
         → length (bytes_alone (any_transaction.item one.now)) < 2 ^ 64
         → bytes_alone (any_transaction.item one.now) ≡ bytes_alone (any_transaction.item other.now)
         → any_transaction.reading.seen one.now ≡ any_transaction.reading.seen other.now }
+{}
+
+/// Two transactions that [`PooledTransaction::to_bytes`] writes as the same bytes, fewer than 2^64,
+/// have the same type, and each of their fields is the same, also each blob, commitment and proof.
+/// What [`PooledTransaction::into_consensus`] returns for them is the same too, and so are the bytes
+/// that are hashed.
+pub fn bytes_tell_pooled_transactions(one: &PooledTransaction, other: &PooledTransaction)
+    ensures fields { pooled_transaction.Fits one.now → pooled_transaction.Fits other.now
+        → length (bytes_alone (pooled_transaction.item one.now)) < 2 ^ 64
+        → bytes_alone (pooled_transaction.item one.now)
+        ≡ bytes_alone (pooled_transaction.item other.now)
+        → pooled_transaction.reading.seen one.now ≡ pooled_transaction.reading.seen other.now }
+    ensures consensus { pooled_transaction.reading.seen one.now
+        ≡ pooled_transaction.reading.seen other.now
+        → transaction.reading.seen (consensus_form one.now)
+        ≡ transaction.reading.seen (consensus_form other.now) }
+    ensures hashed { pooled_transaction.reading.seen one.now
+        ≡ pooled_transaction.reading.seen other.now
+        → bytes_alone (transaction.item (consensus_form one.now))
+        ≡ bytes_alone (transaction.item (consensus_form other.now)) }
+{}
+
+/// Returns the hash of a transaction as it is sent, and the hash of what
+/// [`PooledTransaction::into_consensus`] returns for it. They are equal.
+///
+/// Fails as [`PooledTransaction::hash`] does.
+pub fn pooled_transaction_keeps_its_hash(
+    alloc: Global,
+    pooled: PooledTransaction,
+) -> Result<(Hash, Hash), AllocError>
+    ensures { IfOk result (λ hashes. hashes.0 ≡ hashes.1) }
+{
+    let sent = pooled.hash(alloc)?;
+    let consensus = pooled.into_consensus().hash(alloc)?;
+    Ok((sent, consensus))
+}
+
+/// A transaction that can be sent can stand in a block: if it fits, so does what
+/// [`PooledTransaction::into_consensus`] returns. Both are written as the same bytes if the type
+/// isn't 3.
+pub fn pooled_transactions_stand_in_blocks(pooled: &PooledTransaction)
+    ensures fits { pooled_transaction.Fits pooled.now → transaction.Fits (consensus_form pooled.now) }
+    ensures bytes { type_of (consensus_form pooled.now) ≢ 3
+        → pooled_transaction.item pooled.now ≡ transaction.item (consensus_form pooled.now) }
 {}
 
 /// No bytes are signed for two meanings. If two of what a key signs have the same bytes, fewer than

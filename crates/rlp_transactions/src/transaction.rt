@@ -44,9 +44,8 @@ pub enum Transaction {
 impl Transaction {
     /// Returns the bytes of the transaction by itself, as it is hashed: the encoding of a legacy
     /// transaction, or the byte of the type and the encoding of the payload. It is sent so too,
-    /// except a transaction of type 3, which is sent with its blobs, as
-    /// [`BlobTransactionWithProofs`](crate::BlobTransactionWithProofs) or
-    /// [`BlobTransactionWithCellProofs`](crate::BlobTransactionWithCellProofs).
+    /// except a transaction of type 3, which is sent with its blobs, as a
+    /// [`PooledTransaction`](crate::PooledTransaction).
     pub fn to_bytes(&self, alloc: Global) -> Result<BytesMut, AllocError>
         ensures fits { OnOk result (transaction.Fits self.now) }
         ensures bytes { IfOk result (λ b. b.items ≡ bytes_alone (transaction.item self.now)) }

@@ -123,10 +123,32 @@ pub(super) const MESSAGES: [Row; 22] = [
     ),
     (
         "pooled_transactions",
-        "c806c6852ac3010203",
-        "{'requestId':'0x6','content':[{
-         'hash':'0xb03dd9efbb8665288451e633e1ab5ac54368040326f28856062f7eda4ea0ca38',
-         'type':'0x2a','payload':'0xc3010203'}]}",
+        "fa06039106fa06038cba0401c403fa0401bff8e983aa36a70304820100830186a094<3a*20>81803bf838f794
+         <3c*20>e1a0<3d*32>843b9aca01f842a001<3e*31>a001<3f*31>019f1b05cae7fa573d4ea363e3992ff634c1
+         a2fddbb1e1152057d1b57afb1080c99feb4e81cedb3c5b1e3a5e990a429c6b675d734dd32d7281e0a9a91cf3f2
+         28b3fa040008ba020000<b1*131072>ba020000<b2*131072>f862b0<c1*48>b0<c2*48>f862b0<d1*48>b0
+         <d2*48>ba0201c003fa0201bbf8e983aa36a70304820100830186a094<3a*20>81803bf838f794<3c*20>e1a0
+         <3d*32>843b9aca01f842a001<3e*31>a001<3f*31>019f1b05cae7fa573d4ea363e3992ff634c1a2fddbb1e11
+         52057d1b57afb1080c99feb4e81cedb3c5b1e3a5e990a429c6b675d734dd32d7281e0a9a91cf3f228b301fa020
+         004ba020000<b1*131072>f1b0<c1*48>f893b0<e1*48>b0<e2*48>b0<e3*48>",
+        "{'requestId':'0x6','content':[{'hash':'0xcb4c36e8fd0b4283d4b5c509288274f1886ba960c8b7f1692
+         ab8249c4bed2f93','type':'0x3','chainId':'0xaa36a7','nonce':'0x3','maxPriorityFeePerGas':'0
+         x4','maxFeePerGas':'0x100','gas':'0x186a0','to':'0x<3a*20>','value':'0x80','input':'0x3b',
+         'accessList':[{'address':'0x<3c*20>','storageKeys':['0x<3d*32>']}],'maxFeePerBlobGas':'0x3
+         b9aca01','blobVersionedHashes':['0x01<3e*31>','0x01<3f*31>'],'yParity':'0x1','v':'0x1','r'
+         :'0x1b05cae7fa573d4ea363e3992ff634c1a2fddbb1e1152057d1b57afb1080c9','s':'0xeb4e81cedb3c5b1
+         e3a5e990a429c6b675d734dd32d7281e0a9a91cf3f228b3','signingHash':'0x9bb63a4d55631a569cecf770
+         d56c21e401a0eb6212bb4327e12cdea818b7b24f','blobs':['0x<b1*131072>','0x<b2*131072>'],'commi
+         tments':['0x<c1*48>','0x<c2*48>'],'proofs':['0x<d1*48>','0x<d2*48>']},{'hash':'0xcb4c36e8f
+         d0b4283d4b5c509288274f1886ba960c8b7f1692ab8249c4bed2f93','type':'0x3','chainId':'0xaa36a7'
+         ,'nonce':'0x3','maxPriorityFeePerGas':'0x4','maxFeePerGas':'0x100','gas':'0x186a0','to':'0
+         x<3a*20>','value':'0x80','input':'0x3b','accessList':[{'address':'0x<3c*20>','storageKeys'
+         :['0x<3d*32>']}],'maxFeePerBlobGas':'0x3b9aca01','blobVersionedHashes':['0x01<3e*31>','0x0
+         1<3f*31>'],'yParity':'0x1','v':'0x1','r':'0x1b05cae7fa573d4ea363e3992ff634c1a2fddbb1e11520
+         57d1b57afb1080c9','s':'0xeb4e81cedb3c5b1e3a5e990a429c6b675d734dd32d7281e0a9a91cf3f228b3','
+         signingHash':'0x9bb63a4d55631a569cecf770d56c21e401a0eb6212bb4327e12cdea818b7b24f','wrapper
+         Version':'0x1','blobs':['0x<b1*131072>'],'commitments':['0x<c1*48>'],'proofs':['0x<e1*48>'
+         ,'0x<e2*48>','0x<e3*48>']}]}",
     ),
     (
         "get_receipts",

@@ -1,0 +1,71 @@
+-- How transactions are written and read as they are sent: transactions of type 3 have their blobs.
+use Rattle.std.specs.Prelude.{Bool, ℕ, List, ◌⊎◌, refl}
+use Rattle.std.proofs.Common.{inl, inr}
+use Rattle.rlp.specs.Uint.{Uint}
+use Rattle.rlp.specs.Codec.{Cases, Codec, and_case, enveloped, last_case, list_or_string, newtype}
+use Rattle.rlp_codec.specs.Form.{Answer, Fault}
+use Rattle.rlp_records.specs.Alone.{read_alone, unknown_type}
+use Rattle.rlp_transactions.specs.declared.access_list_transaction.AccessListTransaction.{AccessListTransaction}
+use Rattle.rlp_transactions.specs.declared.fee_market_transaction.FeeMarketTransaction.{FeeMarketTransaction}
+use Rattle.rlp_transactions.specs.declared.legacy_transaction.LegacyTransaction.{LegacyTransaction}
+use Rattle.rlp_transactions.specs.declared.pooled_blob_transaction.PooledBlobTransaction.{PooledBlobTransaction}
+use Rattle.rlp_transactions.specs.declared.pooled_transaction.PooledTransaction.{PooledTransaction}
+use Rattle.rlp_transactions.specs.declared.pooled_transaction.PooledTransaction.TheVariants.{AccessList, Blob, FeeMarket, Legacy, SetCode}
+use Rattle.rlp_transactions.specs.declared.set_code_transaction.SetCodeTransaction.{SetCodeTransaction}
+use Rattle.rlp_transactions.specs.declared.signed.Signed.{Signed}
+use Rattle.rlp_transactions.specs.declared.transaction.Transaction.{Transaction}
+use Rattle.rlp_transactions.specs.declared.transaction.Transaction.TheVariants as block
+use Rattle.rlp_transactions.specs.AccessListTransaction.{signed_access_list_transaction}
+use Rattle.rlp_transactions.specs.BlobTransaction.{signed_blob_transaction}
+use Rattle.rlp_transactions.specs.FeeMarketTransaction.{signed_fee_market_transaction}
+use Rattle.rlp_transactions.specs.LegacyTransaction.{signed_legacy_transaction}
+use Rattle.rlp_transactions.specs.PooledBlobTransaction.{pooled_blob_transaction, without_blobs}
+use Rattle.rlp_transactions.specs.SetCodeTransaction.{signed_set_code_transaction}
+use Rattle.rlp_transactions.specs.Transaction.{transaction}
+
+-- the types of EIP-2718, each with its number; the payload of type 3 is the list with the blobs
+abbrev pub pooled_types : Cases (Signed AccessListTransaction Bool ⊎ (Signed FeeMarketTransaction Bool ⊎ (PooledBlobTransaction ⊎ Signed SetCodeTransaction Bool)))
+pooled_types =
+    and_case 1 signed_access_list_transaction (
+    and_case 2 signed_fee_market_transaction (
+    and_case 3 pooled_blob_transaction (
+    last_case unknown_type 4 signed_set_code_transaction)))
+
+-- a transaction of one of these types
+abbrev pub pooled_sum : PooledTransaction → Signed LegacyTransaction (Uint 32)
+    ⊎ (Signed AccessListTransaction Bool ⊎ (Signed FeeMarketTransaction Bool ⊎ (PooledBlobTransaction ⊎ Signed SetCodeTransaction Bool)))
+pooled_sum (Legacy t) = inl t
+pooled_sum (AccessList t) = inr (inl t)
+pooled_sum (FeeMarket t) = inr (inr (inl t))
+pooled_sum (Blob t) = inr (inr (inr (inl t)))
+pooled_sum (SetCode t) = inr (inr (inr (inr t)))
+
+-- a legacy transaction is a list, and a typed one the string of its type and its payload
+abbrev pub pooled_transaction : Codec PooledTransaction
+pooled_transaction = newtype pooled_sum
+    (list_or_string signed_legacy_transaction (enveloped pooled_types) (λ t. refl) (λ t. refl))
+
+-- what bytes give by themselves
+abbrev pub pooled_alone : List ℕ → Answer pooled_transaction.reading.M Fault
+pooled_alone d = read_alone signed_legacy_transaction.reading.read pooled_types.cases.read d
+
+-- the transaction as it stands in a block: without blobs
+abbrev pub consensus_form : PooledTransaction → Transaction
+consensus_form (Legacy t) = block.Legacy t
+consensus_form (AccessList t) = block.AccessList t
+consensus_form (FeeMarket t) = block.FeeMarket t
+consensus_form (Blob t) = block.Blob (without_blobs t)
+consensus_form (SetCode t) = block.SetCode t
+
+-- what contracts see of a transaction of type 3 without its blobs
+abbrev pub seen_without_blobs : pooled_blob_transaction.reading.M → signed_blob_transaction.reading.M
+seen_without_blobs (inl m) = m.0
+seen_without_blobs (inr m) = m.0
+
+-- what contracts see of a transaction as it stands in a block
+abbrev pub seen_consensus : pooled_transaction.reading.M → transaction.reading.M
+seen_consensus (inl m) = inl m
+seen_consensus (inr (inl m)) = inr (inl m)
+seen_consensus (inr (inr (inl m))) = inr (inr (inl m))
+seen_consensus (inr (inr (inr (inl m)))) = inr (inr (inr (inl (seen_without_blobs m))))
+seen_consensus (inr (inr (inr (inr m)))) = inr (inr (inr (inr m)))
