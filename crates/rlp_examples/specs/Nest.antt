@@ -1,5 +1,5 @@
 -- How nests are written and read.
-use Rattle.std.specs.Prelude.{Vec, false}
+use Rattle.std.specs.Prelude.{false}
 use Rattle.std.specs.Vec.{vec_items}
 use Rattle.std.specs.declared.alloc.Global.{Global}
 use Rattle.rlp.specs.Codec.{Codec, end, field, list_type, struct_of}
