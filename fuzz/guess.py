@@ -40,7 +40,7 @@ def guess_strings(heads):
         return "authorization"
     if count == 9:
         return "transaction"
-    if 15 <= count <= 21 and heads[2] == ADDRESS:
+    if 15 <= count <= 23 and heads[2] == ADDRESS:
         return "header"
     if count == 17:
         return "node"

@@ -52,7 +52,7 @@ def classes(records):
         """An item of a block's receipts: a list is a receipt without a type, and a string holds an envelope."""
 
         def __init__(self):
-            super().__init__(dict.fromkeys((1, 2, 3, 4), records.RECEIPT), records.RECEIPT, records.Unknown())
+            super().__init__(dict.fromkeys((1, 2, 3, 4), records.RECEIPT), records.RECEIPT, records.Kept())
 
         def hashed(self, one):
             return one

@@ -104,6 +104,20 @@ def sparse_text(size):
     return text
 
 
+def scalar_text(string):
+    """The text of a number of a signature: from 1 to below the order of the group of secp256k1."""
+    text = number_text(32, hex)(string)
+    if not 0 < int.from_bytes(string, "big") < ORDER:
+        raise Answered('Custom("not a scalar of a signature")')
+    return text
+
+
+def some_scalar(dice):
+    """A number of a signature, and now and then one at the ends of the range, or outside."""
+    value = dice.randrange(1, ORDER) if dice.random() < 0.9 else dice.choice((0, 0, 1, ORDER - 1, ORDER, ORDER + 1, (1 << 256) - 1, 1 << 256))
+    return value.to_bytes((value.bit_length() + 7) // 8, "big")
+
+
 def version_text(string):
     """The text of the version of the list that holds a transaction and its blobs, since EIP-7594."""
     if string != b"\1":
@@ -130,6 +144,8 @@ def fixed(size):
     return Text(fixed_text(size), lambda dice: dice.randbytes(size))
 
 
+# The order of the group of secp256k1, in SEC 2.
+ORDER = 0xFFFFFFFFFFFFFFFFFFFFFFFFFFFFFFFEBAAEDCE6AF48A03BBFD25E8CD0364141
 HASH, ADDRESS = fixed(32), fixed(20)
 BLOOM = Text(sparse_text(256), lambda dice: bytes(256) if dice.random() < 0.5 else dice.randbytes(256))
 STRING = Text(lambda string: "0x" + string.hex(), lambda dice: dice.randbytes(dice.choice((0, 1, 4, 32, 60))))
@@ -251,23 +267,6 @@ def signing_line(name, signed):
     return Derived(f"{name + '.' if name else ''}signing_hash: 0x{keccak256(signed).hex()}")
 
 
-class Legacy:
-    """A transaction without a type. If both numbers of its signature are 0, it has none, and its `v` says nothing."""
-
-    def __init__(self, signed, plain):
-        self.signed, self.plain = signed, plain
-
-    def lines(self, name, data):
-        try:
-            is_signed = strict_items(data)[-2:] != [b"\x80", b"\x80"]
-        except Answered:
-            is_signed = True
-        return (self.signed if is_signed else self.plain).lines(name, data)
-
-    def written(self, dice):
-        return dice.choice((self.signed, self.signed, self.plain)).written(dice)
-
-
 class Zero:
     """The number 0, which isn't shown."""
 
@@ -325,10 +324,11 @@ class Unknown:
 
 
 class Kept(Unknown):
-    """The same, but a type below 0x80 is shown, and the bytes after it."""
+    """The envelope of a transaction or a receipt: a type from 6 to 0x7f is shown, and the bytes after it. EIP-2718 excludes 0, and 5 stands
+    before authorizations."""
 
     def lines(self, name, data):
-        if not data or data[0] >= 0x80:
+        if not data or not 6 <= data[0] < 0x80:
             return super().lines(name, data)
         before = f"{name}." if name else ""
         return [TypeByte(f"{before}type: {data[0]}"), Payload(f"{before}payload: 0x{data[1:].hex()}")]
@@ -652,9 +652,8 @@ def fields(text, types):
 
 
 TYPES = {"u8": number(1), "u64": number(8), "u256": number(32), "hash": HASH, "address": ADDRESS, "bloom": BLOOM, "string": STRING}
-TYPES |= {"scalar": number(32, hex), "v": number(32, v_text, (27, 28, 35, 36, 37, 38, (2 << 64) + 34, (2 << 64) + 35))}
-TYPES |= {"plain_v": number(32, str, (0, 1, 27, 28, 36, 37, 137)), "none": number(32, hex, (0,)), "zero": Zero()}
-TYPES |= {"truth": TRUTH, "recipient": RECIPIENT, "status": STATUS, "nonce": fixed(8), "hashes": ListOf(HASH)}
+TYPES |= {"scalar": Text(scalar_text, some_scalar), "v": number(32, v_text, (27, 28, 35, 36, 37, 38, (2 << 64) + 34, (2 << 64) + 35))}
+TYPES |= {"zero": Zero(), "truth": TRUTH, "recipient": RECIPIENT, "status": STATUS, "nonce": fixed(8), "hashes": ListOf(HASH)}
 TYPES["log"] = Record(fields("address:address topics:hashes data:string", TYPES))
 TYPES["access"] = Record(fields("address:address storage_keys:hashes", TYPES))
 TYPES["authorization"] = Signed(b"\5", Record(fields("chain_id:u256 address:address nonce:u64 y_parity:u8 r:scalar s:scalar", TYPES)))
@@ -664,7 +663,8 @@ TYPES["authorizations"] = ListOf(TYPES["authorization"])
 HEADER = """parent_hash:hash ommers_hash:hash beneficiary:address state_root:hash transactions_root:hash
     receipts_root:hash logs_bloom:bloom difficulty:u256 number:u64 gas_limit:u64 gas_used:u64 timestamp:u64
     extra_data:string mix_hash:hash nonce:nonce base_fee_per_gas:u256 withdrawals_root:hash blob_gas_used:u64
-    excess_blob_gas:u64 parent_beacon_block_root:hash requests_hash:hash"""
+    excess_blob_gas:u64 parent_beacon_block_root:hash requests_hash:hash
+    block_access_list_hash:hash slot_number:u64"""
 CALL = "gas_limit:u64 to:recipient value:u256 data:string"
 POINT = "y_parity:truth r:scalar s:scalar"
 SIX = f"nonce:u64 gas_price:u256 {CALL}"
@@ -675,11 +675,11 @@ TYPE_3 = f"""{FEES} gas_limit:u64 to:address value:u256 data:string access_list:
     blob_versioned_hashes:hashes"""
 TYPE_4 = f"""{FEES} gas_limit:u64 destination:address value:u256 data:string access_list:access_list
     authorization_list:authorizations"""
-TYPES["header"] = Hashed(Record(fields(HEADER, TYPES), counts=(15, 16, 17, 20, 21)))
+TYPES["header"] = Hashed(Record(fields(HEADER, TYPES), counts=(15, 16, 17, 20, 21, 22, 23)))
 TYPES["withdrawal"] = Record(fields("index:u64 validator_index:u64 address:address amount:u64", TYPES))
 TYPED = dict(enumerate((TYPE_1, TYPE_2, TYPE_3, TYPE_4), 1))
 PAYLOADS = {kind: Signed(bytes([kind]), Record(fields(f"{text} {POINT}", TYPES))) for kind, text in TYPED.items()}
-UNTYPED = Legacy(Signed(b"", Record(fields(f"{SIX} v:v r:scalar s:scalar", TYPES))), Record(fields(f"{SIX} v:plain_v r:none s:none", TYPES)))
+UNTYPED = Signed(b"", Record(fields(f"{SIX} v:v r:scalar s:scalar", TYPES)))
 TRANSACTION = Typed(PAYLOADS, UNTYPED, Kept())
 # What is signed: without a type six fields, or after EIP-155 nine.
 WITHOUT_TYPE = Record(fields(f"{SIX} chain_id:u64 first:zero second:zero", TYPES), counts=(6, 9))
@@ -699,7 +699,7 @@ KINDS = {
     "body": Record(fields(BLOCK, TYPES)[1:], counts=(2, 3)),
     "header": TYPES["header"],
     "node": Hashed(Node()),
-    "receipt": Typed(dict.fromkeys((1, 2, 3, 4), RECEIPT), RECEIPT, Unknown()),
+    "receipt": Typed(dict.fromkeys((1, 2, 3, 4), RECEIPT), RECEIPT, Kept()),
     "record": NodeRecord(),
     "transaction": Whole(UNSIGNED, Hashed(TRANSACTION)),
     "withdrawal": TYPES["withdrawal"],

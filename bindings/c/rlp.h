@@ -38,7 +38,7 @@ typedef enum rlp_status {
     RLP_INVALID_INDIRECTION = 8,            /* there is a shorter encoding, or a number begins with a zero byte */
     RLP_INCONSISTENT_LENGTH_AND_DATA = 9,   /* the bytes end before the string that is read does */
     RLP_INVALID_LENGTH = 10,                /* a header and its string are 2^64 bytes or more */
-    RLP_INVALID_BOOLEAN = 11,               /* the parity of a signature is a number above 1 */
+    RLP_INVALID_SIGNATURE = 11,             /* a number of a signature is out of range */
     RLP_NO_ROOM = 13,                       /* `cap` is less than `*count`, which is what is needed */
     RLP_TOO_DEEP = 14,                      /* there are more lists, one in the other, than allowed */
     RLP_BAD_ITEMS = 15,                     /* the items describe no tree, or lie outside the bytes */
@@ -81,14 +81,15 @@ uint32_t rlp_flatten(const uint8_t *RLP_RESTRICT bytes, size_t len, uint32_t max
  * `*count` of them. `*transaction_type` is 0 for a legacy transaction, which is a list, and else the byte in front of the
  * list: 1 (EIP-2930), 2 (EIP-1559), 3 (EIP-4844) or 4 (EIP-7702). Each field is tested, and the lists in a transaction to
  * their last item. A number has at most 8 or 32 bytes, an address 20 and a hash 32. The parity of a signature is 0 or 1;
- * in an authorization it is a number of at most one byte. After RLP_NO_ROOM the elements of `out` have no meaning. After
- * a fault `*count` is the number of the field that has it or is missing, 1 for the first, and 0 if the whole has it.
+ * in an authorization it is a number of at most one byte. The two numbers after it are from 1 to below the order of
+ * secp256k1. After RLP_NO_ROOM the elements of `out` have no meaning. After a fault `*count` is the number of the field
+ * that has it or is missing, 1 for the first, and 0 if the whole has it.
  * Status: 0, 1, 2, 3, 4, 5, 6, 7, 8, 11, 13, 16; after 2 for no bytes, and 16, `*transaction_type` is as it was. */
 uint32_t rlp_transaction(const uint8_t *RLP_RESTRICT bytes, size_t len, uint32_t *RLP_RESTRICT transaction_type,
                          rlp_item *RLP_RESTRICT out, size_t cap, size_t *RLP_RESTRICT count);
 
-/* Finds the fields of the header of a block that the bytes are: 15, or since London 16, Shanghai 17, Cancun 20, Prague 21.
- * The bloom filter has 256 bytes, and the nonce 8. Otherwise as rlp_transaction.
+/* Finds the fields of the header of a block that the bytes are: 15, or since London 16, Shanghai 17, Cancun 20, Prague 21,
+ * and Amsterdam, by drafts, 22, or 23 with the slot's number. The bloom filter has 256 bytes, and the nonce 8. Otherwise as rlp_transaction.
  * Status: 0, 1, 2, 3, 4, 5, 6, 7, 8, 13. */
 uint32_t rlp_header_fields(const uint8_t *RLP_RESTRICT bytes, size_t len, rlp_item *RLP_RESTRICT out, size_t cap,
                            size_t *RLP_RESTRICT count);

@@ -24,6 +24,7 @@ const MOST_OF_RECEIPT = 1 << 16;
 // Statuses of the library.
 const TOO_BIG = 1;
 const MISSING_FIELD = 5;
+const INVALID_SIGNATURE = 11;
 const UNKNOWN_TYPE = 16;
 // The number of the first field of a signature, by type.
 const FIRST_OF_SIGNATURE = { 0: 7, 1: 9, 2: 10, 3: 12, 4: 11 };

@@ -3,23 +3,30 @@
 /** The transaction that some bytes are, or that they are the signing bytes of: then it is one with an empty signature. */
 function transactionOf(bytes) {
   try {
-    const found = codec.transaction(bytes);
-    const { v, r, s } = found.fields;
-    const isUnsigned = found.type === 0 && v > 0n && r === 0n && s === 0n;
-    return isUnsigned ? { ...found, isUnsigned, chain: v } : found;
+    return codec.transaction(bytes);
   } catch (error) {
-    const isShort = error instanceof RlpError && error.status === MISSING_FIELD && error.field === FIRST_OF_SIGNATURE[bytes[0] < 0xc0 ? bytes[0] : 0];
-    if (!isShort) throw error;
-    return unsignedOf(bytes, error);
+    if (!(error instanceof RlpError)) throw error;
+    const { status, field } = error;
+    const isShort = status === MISSING_FIELD && field === FIRST_OF_SIGNATURE[bytes[0] < 0xc0 ? bytes[0] : 0];
+    const isEip155 = status === INVALID_SIGNATURE && field === 8 && bytes[0] >= 0xc0;
+    if (!isShort && !isEip155) throw error;
+    return unsignedOf(bytes, isEip155, error);
   }
 }
 
-/** The transaction of signing bytes, which lack the three fields of the signature. Otherwise it throws the error. */
-function unsignedOf(bytes, error) {
+/**
+ * The transaction of signing bytes, which lack the three fields of the signature, or have the number of the chain in the
+ * place of the first and nothing in the places of the others. Otherwise it throws the error.
+ */
+function unsignedOf(bytes, isEip155, error) {
   const start = bytes[0] < 0xc0 ? 1 : 0;
   const part = bytes.subarray(start);
   if (!codec.isCanonical(part)) throw error;
-  const signed = codec.encode([...codec.decode(part), "", "", ""]);
+  const rows = [...codec.tree(part)];
+  const isEmpty = ({ isList, payloadLength }) => !isList && payloadLength === 0;
+  if (isEip155 && (isEmpty(rows[6]) || !rows.slice(7).every(isEmpty))) throw error;
+  const values = [...codec.decode(part)];
+  const signed = codec.encode([...(isEip155 ? values.slice(0, 7) : [...values, ""]), "0x01", "0x01"]);
   const whole = new Uint8Array(start + signed.length);
   whole.set(bytes.subarray(0, start));
   whole.set(signed, start);
@@ -29,8 +36,10 @@ function unsignedOf(bytes, error) {
   } catch {
     throw error;
   }
-  const places = Array.from(codec.tree(part), ({ offset, headerLength, payloadLength }) => ({ offset: offset + start, headerLength, payloadLength }));
-  return { ...found, isUnsigned: true, items: places.map((place, at) => ({ ...found.items[at], ...place })) };
+  const placed = ({ offset, headerLength, payloadLength }, at) => ({ ...found.items[at], offset: offset + start, headerLength, payloadLength });
+  const items = rows.map(placed);
+  const chain = isEip155 ? found.fields.v : undefined;
+  return { ...found, fields: { ...found.fields, r: 0n, s: 0n }, isUnsigned: true, chain, items };
 }
 
 const NUMBERS_OF_NODES = ["seq", "tcp", "tcp6", "udp", "udp6"];

@@ -63,7 +63,7 @@ class View {
     }
     this.names = this.record?.names ?? new Map();
     for (const { offset, name } of this.record?.items ?? []) this.names.set(offset, name);
-    const fits = { transaction: [9], header: [15, 16, 17, 20, 21] };
+    const fits = { transaction: [9], header: [15, 16, 17, 20, 21, 22, 23] };
     this.hints = this.hints.filter(({ what }) => !this.fault && fits[what].includes(this.children[0]));
     if (this.recordFault?.error.place !== undefined) this.marks.set(this.recordFault.error.place, toldOf(this.recordFault.error));
     if (this.fault) this.marks.set(this.fault.mark, `${this.fault.name}: ${this.fault.why}`);

@@ -13,7 +13,7 @@ static const char *const NAMES[] = {
     [RLP_EXPECTED_TO_BE_LIST] = "RlpExpectedToBeList", [RLP_EXPECTED_TO_BE_DATA] = "RlpExpectedToBeData",
     [RLP_INCORRECT_LIST_LEN] = "RlpIncorrectListLen", [RLP_DATA_LEN_WITH_ZERO_PREFIX] = "RlpDataLenWithZeroPrefix",
     [RLP_LIST_LEN_WITH_ZERO_PREFIX] = "RlpListLenWithZeroPrefix", [RLP_INVALID_INDIRECTION] = "RlpInvalidIndirection",
-    [RLP_INVALID_BOOLEAN] = "RlpInvalidBoolean", [RLP_UNKNOWN_TYPE] = "RlpUnknownType",
+    [RLP_INVALID_SIGNATURE] = "RlpInvalidSignature", [RLP_UNKNOWN_TYPE] = "RlpUnknownType",
 };
 
 static uint8_t *bytes_of(const char *digits, size_t letters) {
@@ -51,8 +51,8 @@ static bool is_answered(bool is_header, const uint8_t *bytes, size_t len, const 
     uint32_t type = 77, status = call(is_header, bytes, len, &type, NULL, 0, &count);
     if (status != RLP_NO_ROOM) {
         snprintf(text, sizeof text, "%s at %zu", status < sizeof NAMES / sizeof *NAMES && NAMES[status] ? NAMES[status] : "another status", count);
-        rlp_item *items = room_for(ITEMS, 21 * sizeof *items);
-        return strcmp(text, row) == 0 && call(is_header, bytes, len, &type, items, 21, &again) == status && again == count;
+        rlp_item *items = room_for(ITEMS, 23 * sizeof *items);
+        return strcmp(text, row) == 0 && call(is_header, bytes, len, &type, items, 23, &again) == status && again == count;
     }
     if (is_header) snprintf(text, sizeof text, "%zu fields", count);
     else snprintf(text, sizeof text, "type %u, %zu fields", (unsigned)type, count);

@@ -35,7 +35,7 @@ export type FaultName =
   | "RlpInvalidIndirection"
   | "RlpInconsistentLengthAndData"
   | "RlpInvalidLength"
-  | "RlpInvalidBoolean"
+  | "RlpInvalidSignature"
   | "RlpNoRoom"
   | "RlpTooDeep"
   | "RlpBadItems"
@@ -181,7 +181,7 @@ export type Transaction = { items: Field[] } & (
 
 export interface Header {
   /** The first fork whose headers have these fields. */
-  fork: "Frontier" | "London" | "Shanghai" | "Cancun" | "Prague";
+  fork: "Frontier" | "London" | "Shanghai" | "Cancun" | "Prague" | "Amsterdam";
   fields: {
     parentHash: Uint8Array;
     ommersHash: Uint8Array;
@@ -204,6 +204,8 @@ export interface Header {
     excessBlobGas?: bigint;
     parentBeaconBlockRoot?: Uint8Array;
     requestsHash?: Uint8Array;
+    blockAccessListHash?: Uint8Array;
+    slotNumber?: bigint;
   };
   items: Field[];
 }

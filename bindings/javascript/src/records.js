@@ -17,6 +17,7 @@ export const AUTHORIZATION = of("chainId address:bytes nonce yParity r s");
 export const HEADER = of(
   "parentHash:bytes ommersHash:bytes beneficiary:bytes stateRoot:bytes transactionsRoot:bytes receiptsRoot:bytes " +
     "logsBloom:bytes difficulty number gasLimit gasUsed timestamp extraData:bytes mixHash:bytes nonce:bytes " +
-    "baseFeePerGas withdrawalsRoot:bytes blobGasUsed excessBlobGas parentBeaconBlockRoot:bytes requestsHash:bytes",
+    "baseFeePerGas withdrawalsRoot:bytes blobGasUsed excessBlobGas parentBeaconBlockRoot:bytes requestsHash:bytes " +
+    "blockAccessListHash:bytes slotNumber",
 );
-export const FORKS = { 15: "Frontier", 16: "London", 17: "Shanghai", 20: "Cancun", 21: "Prague" };
+export const FORKS = { 15: "Frontier", 16: "London", 17: "Shanghai", 20: "Cancun", 21: "Prague", 22: "Amsterdam", 23: "Amsterdam" };

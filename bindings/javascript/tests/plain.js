@@ -104,31 +104,37 @@ export function encode(value) {
   return joined([writtenHeader(0xc0, payload.length), payload]);
 }
 
-// The kinds of the fields of each record: a number of at most so many bytes, a string of so many, 0 or 1, an address or
-// nothing, any string, and in brackets a list of fields, or of any number of one kind behind "each".
+// The order of the group of secp256k1, in SEC 2.
+const ORDER = 0xfffffffffffffffffffffffffffffffebaaedce6af48a03bbfd25e8cd0364141n;
+
+// The kinds of the fields of each record: a number of at most so many bytes, a string of so many, 0 or 1, a number of a
+// signature, an address or nothing, any string, and in brackets a list of fields, or of any number of one kind behind
+// "each".
 const ACCESS_LIST = ["each", [20, ["each", 32]]];
-const AUTHORIZATIONS = ["each", ["n32", 20, "n8", "n1", "n32", "n32"]];
-const SIGNED = ["bit", "n32", "n32"];
+const AUTHORIZATIONS = ["each", ["n32", 20, "n8", "n1", "scalar", "scalar"]];
+const SIGNED = ["bit", "scalar", "scalar"];
 const FEES = ["n8", "n8", "n32", "n32", "n8"];
 const TRANSACTIONS = [
-  ["n8", "n32", "n8", "to", "n32", "any", "n32", "n32", "n32"],
+  ["n8", "n32", "n8", "to", "n32", "any", "n32", "scalar", "scalar"],
   ["n8", "n8", "n32", "n8", "to", "n32", "any", ACCESS_LIST, ...SIGNED],
   [...FEES, "to", "n32", "any", ACCESS_LIST, ...SIGNED],
   [...FEES, 20, "n32", "any", ACCESS_LIST, "n32", ["each", 32], ...SIGNED],
   [...FEES, 20, "n32", "any", ACCESS_LIST, AUTHORIZATIONS, ...SIGNED],
 ];
-const HEADER = [32, 32, 20, 32, 32, 32, 256, "n32", "n8", "n8", "n8", "n8", "any", 32, 8, "n32", 32, "n8", "n8", 32, 32];
+const HEADER = [32, 32, 20, 32, 32, 32, 256, "n32", "n8", "n8", "n8", "n8", "any", 32, 8, "n32", 32, "n8", "n8", 32, 32, 32, "n8"];
 
 /** Throws the fault of a field's string. */
 function checkString(string, kind) {
-  const number = typeof kind === "string" && /^n\d/.test(kind);
+  const width = { bit: 1, scalar: 32 }[kind] ?? (typeof kind === "string" && /^n\d/.test(kind) ? Number(kind.slice(1)) : undefined);
   if (typeof kind === "number" || (kind === "to" && string.length > 0)) {
     const length = kind === "to" ? 20 : kind;
     if (string.length !== length) throw new Fault(string.length < length ? "RlpIsTooShort" : "RlpIsTooBig", 0);
-  } else if (number || kind === "bit") {
-    if (string.length > (number ? Number(kind.slice(1)) : 1)) throw new Fault("RlpIsTooBig", 0);
+  } else if (width !== undefined) {
+    if (string.length > width) throw new Fault("RlpIsTooBig", 0);
     if (string[0] === 0) throw new Fault("RlpInvalidIndirection", 0);
-    if (kind === "bit" && string[0] > 1) throw new Fault("RlpInvalidBoolean", 0);
+    const value = string.reduce((above, byte) => above * 256n + BigInt(byte), 0n);
+    const refused = kind === "bit" ? value > 1n : kind === "scalar" && (value === 0n || value >= ORDER);
+    if (refused) throw new Fault("RlpInvalidSignature", 0);
   }
 }
 
@@ -137,7 +143,7 @@ function checkFields(data, from, end, kinds) {
   const places = [from];
   while (places.at(-1) < end) places.push(header(data, places.at(-1), end)[1]);
   const count = places.length - 1;
-  const allowed = kinds === HEADER ? [15, 16, 17, 20, 21] : kinds[0] === "each" ? [count] : [kinds.length];
+  const allowed = kinds === HEADER ? [15, 16, 17, 20, 21, 22, 23] : kinds[0] === "each" ? [count] : [kinds.length];
   if (!allowed.includes(count)) {
     const at = Math.min(count, kinds.length);
     throw new Fault("RlpIncorrectListLen", places[at], at + 1);

@@ -255,11 +255,11 @@ function testNames() {
     check(`names of type ${type}`, found.fields, Object.fromEntries(all.map((name, at) => [name, read[name] ?? given[at]])));
     check(`items of type ${type}`, found.items.map(({ name }) => name), all);
   }
-  const header = "parentHash ommersHash beneficiary stateRoot transactionsRoot receiptsRoot logsBloom difficulty number gasLimit gasUsed timestamp extraData mixHash nonce baseFeePerGas withdrawalsRoot blobGasUsed excessBlobGas parentBeaconBlockRoot requestsHash".split(" ");
+  const header = "parentHash ommersHash beneficiary stateRoot transactionsRoot receiptsRoot logsBloom difficulty number gasLimit gasUsed timestamp extraData mixHash nonce baseFeePerGas withdrawalsRoot blobGasUsed excessBlobGas parentBeaconBlockRoot requestsHash blockAccessListHash slotNumber".split(" ");
   const sizes = { beneficiary: 20, logsBloom: 256, nonce: 8, extraData: 5 };
-  const numbers = ["difficulty", "number", "gasLimit", "gasUsed", "timestamp", "baseFeePerGas", "blobGasUsed", "excessBlobGas"];
+  const numbers = ["difficulty", "number", "gasLimit", "gasUsed", "timestamp", "baseFeePerGas", "blobGasUsed", "excessBlobGas", "slotNumber"];
   const values = header.map((name, at) => (numbers.includes(name) ? BigInt(at + 1) : new Uint8Array(sizes[name] ?? 32).fill(at + 1)));
-  for (const [count, fork] of Object.entries({ 15: "Frontier", 16: "London", 17: "Shanghai", 20: "Cancun", 21: "Prague" })) {
+  for (const [count, fork] of Object.entries({ 15: "Frontier", 16: "London", 17: "Shanghai", 20: "Cancun", 21: "Prague", 22: "Amsterdam", 23: "Amsterdam" })) {
     const found = rlp.headerFields(rlp.encode(values.slice(0, count)));
     check(`header of ${count}`, [found.fork, found.fields], [fork, Object.fromEntries(header.slice(0, count).map((name, at) => [name, values[at]]))]);
   }
@@ -389,7 +389,7 @@ function testLongStrings() {
   checkThat("a header of 64 MiB is read without copying them", user + system < 200_000);
   const given = Buffer.from("c28105ff", "hex").subarray(2);
   for (const found of [rlp.decode(given, true).remainder, rlp.decode(given, true).data]) check("no Buffer is given", found.constructor, Uint8Array);
-  check("nor among fields", rlp.transaction(Buffer.from("c9808080808003808080", "hex")).fields.data.constructor, Uint8Array);
+  check("nor among fields", rlp.transaction(Buffer.from("c9808080808003800102", "hex")).fields.data.constructor, Uint8Array);
 }
 
 /** Memory: growth, rows that another call took, bytes that lie in the memory itself, and calls beyond count. */

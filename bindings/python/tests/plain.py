@@ -71,20 +71,24 @@ def encode(value):
     return written_header(0xC0, len(payload)) + payload
 
 
-# The kinds of the fields of each record: a number of at most so many bytes, a string of so many, 0 or 1, an address or
-# nothing, any string, and in brackets a list of fields, or of any number of one kind behind "each".
+# The order of the group of secp256k1, in SEC 2.
+ORDER = 0xFFFFFFFFFFFFFFFFFFFFFFFFFFFFFFFEBAAEDCE6AF48A03BBFD25E8CD0364141
+
+# The kinds of the fields of each record: a number of at most so many bytes, a string of so many, 0 or 1, a number of a
+# signature, an address or nothing, any string, and in brackets a list of fields, or of any number of one kind behind
+# "each".
 ACCESS_LIST = ["each", [20, ["each", 32]]]
-AUTHORIZATIONS = ["each", ["n32", 20, "n8", "n1", "n32", "n32"]]
-SIGNED = ["bit", "n32", "n32"]
+AUTHORIZATIONS = ["each", ["n32", 20, "n8", "n1", "scalar", "scalar"]]
+SIGNED = ["bit", "scalar", "scalar"]
 FEES = ["n8", "n8", "n32", "n32", "n8"]
 TRANSACTIONS = {
-    0: ["n8", "n32", "n8", "to", "n32", "any", "n32", "n32", "n32"],
+    0: ["n8", "n32", "n8", "to", "n32", "any", "n32", "scalar", "scalar"],
     1: ["n8", "n8", "n32", "n8", "to", "n32", "any", ACCESS_LIST, *SIGNED],
     2: [*FEES, "to", "n32", "any", ACCESS_LIST, *SIGNED],
     3: [*FEES, 20, "n32", "any", ACCESS_LIST, "n32", ["each", 32], *SIGNED],
     4: [*FEES, 20, "n32", "any", ACCESS_LIST, AUTHORIZATIONS, *SIGNED],
 }
-HEADER = [32, 32, 20, 32, 32, 32, 256, "n32", "n8", "n8", "n8", "n8", "any", 32, 8, "n32", 32, "n8", "n8", 32, 32]
+HEADER = [32, 32, 20, 32, 32, 32, 256, "n32", "n8", "n8", "n8", "n8", "any", 32, 8, "n32", 32, "n8", "n8", 32, 32, 32, "n8"]
 
 
 def check_string(string, kind):
@@ -94,12 +98,13 @@ def check_string(string, kind):
         if len(string) != length:
             raise Fault("RlpIsTooShort" if len(string) < length else "RlpIsTooBig", 0)
     elif kind not in ("to", "any"):
-        if len(string) > (1 if kind == "bit" else int(kind[1:])):
+        if len(string) > ({"bit": 1, "scalar": 32}.get(kind) or int(kind[1:])):
             raise Fault("RlpIsTooBig", 0)
         if string[:1] == b"\0":
             raise Fault("RlpInvalidIndirection", 0)
-        if kind == "bit" and string > b"\1":
-            raise Fault("RlpInvalidBoolean", 0)
+        value = int.from_bytes(string, "big")
+        if kind == "bit" and value > 1 or kind == "scalar" and not 0 < value < ORDER:
+            raise Fault("RlpInvalidSignature", 0)
 
 
 def check_fields(data, place, end, kinds):
@@ -108,7 +113,7 @@ def check_fields(data, place, end, kinds):
     while places[-1] < end:
         places.append(header(data, places[-1], end)[1])
     count = len(places) - 1
-    if count not in ((15, 16, 17, 20, 21) if kinds is HEADER else (count,) if kinds[0] == "each" else (len(kinds),)):
+    if count not in ((15, 16, 17, 20, 21, 22, 23) if kinds is HEADER else (count,) if kinds[0] == "each" else (len(kinds),)):
         raise Fault("RlpIncorrectListLen", places[min(count, len(kinds))])
     for at, (place, stop) in enumerate(zip(places, places[1:])):
         kind = kinds[1] if kinds[0] == "each" else kinds[at]

@@ -27,8 +27,8 @@ pub enum DecoderError {
     RlpInconsistentLengthAndData = 9,
     /// A header and its string are 2^64 bytes or more.
     RlpInvalidLength = 10,
-    /// The parity of a signature is a number above 1.
-    RlpInvalidBoolean = 11,
+    /// A number of a signature is out of range.
+    RlpInvalidSignature = 11,
     /// There are more lists, one in the other, than allowed.
     RlpTooDeep = 14,
     /// The items describe no tree, or lie outside the bytes.
@@ -48,7 +48,7 @@ const ALL: [DecoderError; 14] = [
     DecoderError::RlpInvalidIndirection,
     DecoderError::RlpInconsistentLengthAndData,
     DecoderError::RlpInvalidLength,
-    DecoderError::RlpInvalidBoolean,
+    DecoderError::RlpInvalidSignature,
     DecoderError::RlpTooDeep,
     DecoderError::RlpBadItems,
     DecoderError::RlpUnknownType,

@@ -1,5 +1,5 @@
 -- What a struct gives, by the number of items that a view has.
-use Rattle.std.proofs.Common.{◌≡◌, ◌≢◌, ℕ, ◌-◌, true, false, List, [], ◌∷◌, length, None, Some, Ok, Err, arith, refl, sym, ap, ◌∙◌}
+use Rattle.std.proofs.Common.{◌≡◌, ◌≢◌, ℕ, ◌-◌, true, false, List, [], ◌∷◌, length, None, Some, Result, Ok, Err, IfOk, arith, refl, sym, ap, subst, ◌∙◌}
 use Rattle.std.specs.List.{slice_get}
 use Rattle.std.proofs.lemmas.List.{length-map}
 use Rattle.rlp_reading.specs.declared.error.DecoderError.{DecoderError}
@@ -8,7 +8,8 @@ use Rattle.rlp_reading.specs.Format.Framing.{items}
 use Rattle.rlp_reading.specs.Views.View.{View, item_count, item_views}
 use Rattle.rlp_reading.proofs.Lemmas.Numbered.{item_count-told}
 use Rattle.rlp_reading.proofs.Views.InOrder.{counted_told}
-use Rattle.rlp_codec.specs.Form.{Fault, Faults, FieldsReading, Gives, Path, all_taken, and_then, fault_of, incorrect_list_len, items_of, map_value, path_by, read_struct, seen_fault, struct_reading, take_all, wrong_number}
+use Rattle.rlp_codec.specs.Form.{Fault, Faults, FieldsReading, Gives, Path, all_taken, and_then, fault_of, incorrect_list_len, items_of, map_value, path_by, read_struct, seen_fault, struct_reading, take_all}
+use Rattle.rlp_codec.specs.Laws.{TakePossible}
 use Rattle.rlp_codec.proofs.ListLaws.{items_told}
 use Rattle.rlp_codec.proofs.StructLaws.{other_number, struct_given, this_number}
 use Rattle.rlp.specs.Left.{AreFaulty}
@@ -37,9 +38,9 @@ module _ {P : Type 0} (r : FieldsReading P) (v : View) where
       record { fault = h.fault; place = ap (λ (p : Path). slice_get p 0) h.at ∙ ap Some (omega (arith, numbered n count, faulty.many)) }
 
   -- the number of items is wrong
-  pub count_refused : (n : ℕ) (e : DecoderError) (left : ℕ) → item_count v ≡ Ok n → AreFaulty r (item_views v) left e → r.accepts n ≡ false → FailsAsList (wrong_number (fault_of e))
-  count_refused n e left count faulty wrong =
-      let h = other_number r.accepts r.read v (item_views v) (faulty.after, fault_of e) (items_told v (counted_told v n count)) (ap r.accepts (sym (numbered n count)) ∙ wrong) faulty.fault in
+  pub count_refused : (n : ℕ) → item_count v ≡ Ok n → r.accepts n ≡ false → FailsAsList incorrect_list_len
+  count_refused n count wrong =
+      let h = other_number r.accepts r.read v (item_views v) (items_told v (counted_told v n count)) (ap r.accepts (sym (numbered n count)) ∙ wrong) in
       record { fault = h.fault; place = ap (λ (p : Path). slice_get p 0) h.at }
 
   -- the items of a list that has a number of items
@@ -56,8 +57,11 @@ module _ {P : Type 0} (r : FieldsReading P) (v : View) where
       }
 
   -- the items give the fields, and nothing is left
-  pub fields_given : (vs rest : List View) (x : P) → items_of v ≡ Ok vs → (r.read vs).result ≡ Ok (r.seen x, rest) → rest ≡ [] → Gives (struct_reading r) v x
-  fields_given vs rest x items is none = struct_given r.accepts r.read v vs (r.seen x) items (is ∙ ap (λ ws. Ok (r.seen x, ws)) none)
+  pub fields_given : (vs rest : List View) (x : P) → TakePossible r → items_of v ≡ Ok vs → (r.read vs).result ≡ Ok (r.seen x, rest) → rest ≡ [] → Gives (struct_reading r) v x
+  fields_given vs rest x law items is none =
+      let possible : IfOk (let t : Result (r.M × List View) (List View × Fault) = Ok (r.seen x, rest) in t) (λ t. t.1 ≡ [] → r.accepts (length vs) ≡ true) =
+      subst (λ t. IfOk t (λ t. t.1 ≡ [] → r.accepts (length vs) ≡ true)) is (law.all vs) in
+      struct_given r.accepts r.read v vs (r.seen x) items (possible none) (is ∙ ap (λ ws. Ok (r.seen x, ws)) none)
 
   -- a field has a fault
   pub field_faulty : (vs after : List View) (left : ℕ) (e : DecoderError) → vs ≡ item_views v → (r.read vs).result ≡ Err (after, fault_of e) → left ≡ length after

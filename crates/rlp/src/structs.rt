@@ -5,7 +5,9 @@ ghost use Rattle.std.specs.Vec.{vec_items};
 ghost use Rattle.rlp_reading.specs.declared.error.DecoderError.TheVariants.{OutOfMemory};
 ghost use Rattle.rlp_reading.specs.Values.FaultText.{field_fault_text};
 ghost use Rattle.rlp_reading.specs.Views.View.{item_views};
-ghost use Rattle.rlp_codec.specs.Form.{Faults, FieldsReading, Gives, fault_of, group_before, items_of, list_reading, no_fields, one_field, part_fields, struct_reading, wrong_number};
+ghost use Rattle.rlp_codec.specs.Form.{Faults, FieldsReading, Gives, fault_of, group_before, items_of, list_reading, no_fields, one_field, part_fields, struct_reading};
+ghost use Rattle.rlp_codec.specs.Laws.{TakePossible};
+ghost use Rattle.rlp_codec.proofs.FieldLaws.{end_possible, group_possible, one_wide, part_possible};
 ghost use Rattle.rlp.specs.Left.{AreFaulty};
 
 mod groups;
@@ -72,7 +74,7 @@ pub trait DecodeFields: Sized + Drop {
     /// How the fields are read.
     ghost reading: { FieldsReading Self };
 
-    /// Returns whether the fields may be `len` items.
+    /// Returns whether the fields may be `len` items. [`decode_struct`] asks after a fault.
     fn accepts(len: usize) -> bool
         ensures { result ≡ reading.accepts len };
 
@@ -85,6 +87,9 @@ pub trait DecodeFields: Sized + Drop {
             ≡ Err (fields.new.views, fault_of e))
             ⊎ ((e ≡ OutOfMemory) × IsTrue reading.takes_memory)) }
         ensures after { fields.new.after ≡ fields.old.after };
+
+    /// Where the fields are all of the items, [`accepts`](DecodeFields::accepts) takes their number.
+    ghost possible: { TakePossible Self.reading };
 }
 
 /// No more fields.
@@ -98,6 +103,8 @@ impl DecodeFields for () {
     fn decode_fields(_alloc: Global, _fields: &mut Fields<'_>) -> Result<(), DecoderError> {
         Ok(())
     }
+
+    ghost possible = { end_possible };
 }
 
 /// A field, and those after it.
@@ -122,6 +129,10 @@ impl<T: Decodable, Q: DecodeFields> DecodeFields for (T, Q) {
             Err(fault) => Err(fault),
         }
     }
+
+    ghost possible = { group_possible (λ x. x.0) (one_field T.reading)
+        (part_fields (λ x. x.1) Q.reading) (one_wide T.reading)
+        (part_possible (λ x. x.1) Q.reading Q.possible) };
 }
 
 /// Reads the fields of a struct from the list that the view begins with, and says which field
@@ -131,8 +142,7 @@ impl<T: Decodable, Q: DecodeFields> DecodeFields for (T, Q) {
 /// are. Also fails as [`Rlp::item_count`] does, with no place, and with the fault of the first field
 /// that fails and its place.
 ///
-/// It reads the header of each item once, and walks over the items only after a fault, to find which
-/// fault comes first.
+/// It walks over the items once more only after a fault, to find which fault comes first.
 #[inline(always)]
 #[tactic(auto, using(crate::proofs::Counting::struct_answers))]
 pub fn decode_struct<F: DecodeFields>(alloc: Global, rlp: &Rlp<'_>) -> Result<F, FieldFault>
@@ -185,18 +195,7 @@ fn first_fault<F: DecodeFields>(rlp: &Rlp<'_>, after: usize, found: DecoderError
     }
     FieldFault {
         place: None,
-        fault: of_wrong_number(found),
-    }
-}
-
-/// The fault of a list with a wrong number of items, where this fault was found.
-fn of_wrong_number(found: DecoderError) -> DecoderError
-    ensures fault { fault_of result ≡ wrong_number (fault_of found) }
-    ensures memory { found ≡ OutOfMemory → result ≡ OutOfMemory }
-{
-    match found {
-        DecoderError::OutOfMemory => DecoderError::OutOfMemory,
-        _ => DecoderError::RlpIncorrectListLen,
+        fault: DecoderError::RlpIncorrectListLen,
     }
 }
 

@@ -2,7 +2,9 @@
 
 use rlp::{Encodable, RlpStream, Uint};
 use rlp_records::Address;
-use rlp_transactions::{LegacyTransaction, Payload, Recipient, SignedLegacyTransaction};
+use rlp_transactions::{
+    LegacyTransaction, NonZeroScalar, Payload, Recipient, SignedLegacyTransaction,
+};
 use std::alloc::Global;
 
 /// Values, and encodings. Each encoding is there twice, one after the other.
@@ -38,7 +40,7 @@ impl Inputs {
         let numbers = numbers(alloc, 1000)?;
         let text = text(alloc, 1000)?;
         let short = text.as_str().as_bytes().get(..32)?;
-        let transaction = transaction(alloc);
+        let transaction = transaction(alloc)?;
         let transaction_bytes = encoded(alloc, &transaction)?;
         let block = repeated(alloc, &transaction, 100)?;
         let list = listed(alloc, numbers.as_slice())?;
@@ -82,8 +84,8 @@ fn text(alloc: Global, len: usize) -> Option<String> {
     Some(text)
 }
 
-/// Returns a signed transfer.
-fn transaction(alloc: Global) -> SignedLegacyTransaction {
+/// Returns a signed transfer, or `None` if a number of its signature is out of range.
+fn transaction(alloc: Global) -> Option<SignedLegacyTransaction> {
     let payload = LegacyTransaction {
         nonce: 9,
         gas_price: Uint::from(20_000_000_000),
@@ -92,9 +94,9 @@ fn transaction(alloc: Global) -> SignedLegacyTransaction {
         value: Uint::from(1_000_000_000_000_000_000),
         data: Vec::new(alloc),
     };
-    let r = Uint { bytes: [0x28; 32] };
-    let s = Uint { bytes: [0x67; 32] };
-    payload.with_signature(Uint::from(37), r, s)
+    let r = NonZeroScalar::new(Uint { bytes: [0x28; 32] })?;
+    let s = NonZeroScalar::new(Uint { bytes: [0x67; 32] })?;
+    Some(payload.with_signature(Uint::from(37), r, s))
 }
 
 /// Returns the encoding of a value.

@@ -1,6 +1,8 @@
 -- Readings that keep nothing of what they read.
-use Rattle.std.specs.Prelude.{⊤, ℕ, ◌-◌, ◌&&◌, nat_le, []}
-use Rattle.rlp_codec.specs.Form.{FieldsReading, group_before, map_taken}
+use Rattle.std.specs.Prelude.{◌≡◌, ⊤, true, [], length}
+use Rattle.rlp_codec.specs.Form.{FieldsReading, map_taken}
+use Rattle.rlp_codec.specs.Laws.{TakePossible}
+use Rattle.rlp_codec.proofs.FieldLaws.{still_left}
 
 -- the reading of a type that is read from the items of these fields, and keeps nothing of their values
 abbrev pub forgotten : {P Q : Type 0} → FieldsReading P → FieldsReading Q
@@ -15,6 +17,9 @@ forgotten r = record {
   takes_memory = r.takes_memory;
 }
 
--- the reading of fields that take `width` items, and then of other fields
-abbrev pub joined : {A P : Type 0} → ℕ → (P → A) → FieldsReading A → FieldsReading P → FieldsReading P
-joined width value r more = record (group_before value r more) { accepts = λ n. nat_le width n && more.accepts (n - width) }
+-- fields that are forgotten are all of the items where the fields are
+pub forgotten_possible : {P Q : Type 0} (r : FieldsReading P) → TakePossible r → TakePossible (forgotten {Q = Q} r)
+forgotten_possible r law = record {
+  all = λ vs.
+      still_left (λ x. tt) (λ left. left ≡ [] → r.accepts (length vs) ≡ true) (λ left. left ≡ [] → r.accepts (length vs) ≡ true) (r.read vs).result (λ left possible. possible) (law.all vs);
+}

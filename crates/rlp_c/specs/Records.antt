@@ -18,7 +18,7 @@ most_fields AccessListPayload = 11
 most_fields FeeMarketPayload = 12
 most_fields BlobPayload = 14
 most_fields SetCodePayload = 13
-most_fields Header = 21
+most_fields Header = 23
 
 -- The number of the field that has a fault. If the number of fields is wrong, it is the number of the first that is missing, or of the first after the `most` fields
 -- that a record may have.

@@ -7,8 +7,8 @@ use rlp::{DecoderError, TreeFault};
 
 /// Everything went well.
 pub const RLP_OK: u32 = 0;
-/// A truth value is a number above 1. It is the one custom fault of the fields of records.
-pub const RLP_INVALID_BOOLEAN: u32 = 11;
+/// A number of a signature is out of range: the one custom fault of the fields of records.
+pub const RLP_INVALID_SIGNATURE: u32 = 11;
 /// The caller's array has too few elements.
 pub const RLP_NO_ROOM: u32 = 13;
 /// Lists are nested deeper than the caller allows.
@@ -35,7 +35,7 @@ pub fn status_of(fault: &DecoderError) -> u32
         DecoderError::RlpInvalidIndirection => 8,
         DecoderError::RlpInconsistentLengthAndData => 9,
         DecoderError::RlpInvalidLength => 10,
-        DecoderError::Custom(_) => RLP_INVALID_BOOLEAN,
+        DecoderError::Custom(_) => RLP_INVALID_SIGNATURE,
         DecoderError::OutOfMemory => 12,
     }
 }

@@ -6,8 +6,8 @@ use Rattle.rlp_format.specs.Format.Encoding.{IsSized, encoding, Item}
 use Rattle.rlp_format.specs.Values.Value.{items_if}
 use Rattle.rlp_reading.specs.Views.View.{View}
 use Rattle.rlp_codec.proofs.ListLaws.{not_faulty, goes_on, is_mapped, item_back, item_only, options_fit}
-use Rattle.rlp_codec.specs.Form.{Answer, Form, Fault, FieldsForm, FieldsReading, Reading, Taken, and_then, each, end, field, group, group_before, map_fault, map_value, no_fields, one, one_field, optional, optional_group, part_fields, take_both, take_if, take_item}
-use Rattle.rlp_codec.specs.Laws.{AreLawful, AreSeen, GivesOnly, IsLawful, IsSeen, IsStrictPart, ReadsBack, TakeWidth, TakesBack, TakesOnly, viewed, views_of}
+use Rattle.rlp_codec.specs.Form.{Answer, Form, Fault, FieldsForm, FieldsReading, Reading, Taken, and_then, each, end, field, group, group_before, map_fault, map_value, no_fields, one, one_field, optional, optional_fields, optional_group, part_fields, take_both, take_if, take_item}
+use Rattle.rlp_codec.specs.Laws.{AreLawful, AreSeen, GivesOnly, IsLawful, IsSeen, IsStrictPart, ReadsBack, TakePossible, TakeWidth, TakesBack, TakesOnly, viewed, views_of}
 
 -- ---- what was taken
 
@@ -73,6 +73,66 @@ group_wide value r more law others = record { taken = λ vs. both_wide r.width m
 pub part_wide : {P Q : Type 0} (part : P → Q) (r : FieldsReading Q) → TakeWidth r → TakeWidth (part_fields part r)
 part_wide part r law = record { taken = law.taken }
 
+-- ---- fields that are all of the items
+
+-- what is left after fields, with f applied to the fields
+pub still_left : {A B : Type 0} (f : A → B) (Q R : List View → Type 0) (r : Result (A × List View) (List View × Fault)) → ((left : List View) → Q left → R left)
+    → IfOk r (λ t. Q t.1) → IfOk (map_value {B = B × List View} (λ t. (f t.0, t.1)) r) (λ t. R t.1)
+still_left f Q R (Ok t) more is = more t.1 is
+still_left f Q R (Err e) more is = tt
+
+pub end_possible : {P : Type 0} → TakePossible (no_fields {P = P})
+end_possible = record { all = λ vs none. ap (λ ws. length ws == 0) none }
+
+one_possible_by : {M : Type 0} (r : Result M Fault) (v : View) (vs : List View)
+    → IfOk (map_fault {F = List View × Fault} (λ e. (vs, e)) (map_value {B = M × List View} (λ x. (x, vs)) r)) (λ t. t.1 ≡ [] → (length (v ∷ vs) == 1) ≡ true)
+one_possible_by (Ok x) v vs = λ none. ap (λ ws. length (v ∷ ws) == 1) none
+one_possible_by (Err e) v vs = tt
+
+pub one_possible : {A : Type 0} (r : Reading A) → TakePossible (one_field r)
+one_possible r = record { all = by }
+  where
+    by : (vs : List View) → IfOk (take_item r.read vs).result (λ t. t.1 ≡ [] → (length vs == 1) ≡ true)
+    by [] = tt
+    by (v ∷ vs) = one_possible_by (r.read v).result v vs
+
+-- m items that are possible come after w items
+after_width : (accepts : ℕ → Bool) (w n m : ℕ) → n ≡ w + m → accepts m ≡ true → (leb w n && accepts (n - w)) ≡ true
+after_width accepts w n m many right =
+    let wide : leb w n ≡ true = le-leb _ _ (omega (arith, many)) in
+    let others : n - w ≡ m = omega (arith, many) in
+    ap (λ b. b && accepts (n - w)) wide ∙ ap accepts others ∙ right
+
+both_possible : {A B : Type 0} (w : ℕ) (accepts : ℕ → Bool) (r : Result (A × List View) (List View × Fault)) (more : List View → Taken B) (vs : List View)
+    → IfOk r (λ t. length vs ≡ w + length t.1) → ((left : List View) → IfOk (more left).result (λ t. t.1 ≡ [] → accepts (length left) ≡ true))
+    → IfOk (and_then {B = (A × B) × List View} r (λ t. map_value (λ u. ((t.0, u.0), u.1)) (more t.1).result))
+    (λ t. t.1 ≡ [] → (leb w (length vs) && accepts (length vs - w)) ≡ true)
+both_possible w accepts (Err e) more vs first second = tt
+both_possible {A} {B} w accepts (Ok t) more vs first second =
+    still_left (λ (y : B). (t.0, y)) (λ left. left ≡ [] → accepts (length t.1) ≡ true) (λ left. left ≡ [] → (leb w (length vs) && accepts (length vs - w)) ≡ true)
+    (more t.1).result (λ left right none. after_width accepts w (length vs) (length t.1) first (right none)) (second t.1)
+
+pub group_possible : {A P : Type 0} (value : P → A) (r : FieldsReading A) (more : FieldsReading P) → TakeWidth r → TakePossible more → TakePossible (group_before value r more)
+group_possible value r more law others =
+    record { all = λ vs. both_possible r.width more.accepts (r.read vs).result more.read vs (law.taken vs) others.all }
+
+pub part_possible : {P Q : Type 0} (part : P → Q) (r : FieldsReading Q) → TakePossible r → TakePossible (part_fields part r)
+part_possible part r law = record { all = law.all }
+
+or_right : (b c : Bool) → c ≡ true → (b || c) ≡ true
+or_right true c is = refl
+or_right false c is = is
+
+pub optional_possible : {A P : Type 0} (value : P → Option A) (r : FieldsReading A) → TakePossible r → TakePossible (optional_fields value r)
+optional_possible {A} value r law = record { all = by }
+  where
+    by : (vs : List View) → IfOk (take_if r.read vs).result (λ t. t.1 ≡ [] → ((length vs == 0) || r.accepts (length vs)) ≡ true)
+    by [] = λ none. refl
+    by (v ∷ vs) =
+        let n = length (v ∷ vs) in
+        still_left (λ (m : r.M). Some m) (λ left. left ≡ [] → r.accepts n ≡ true) (λ left. left ≡ [] → ((n == 0) || r.accepts n) ≡ true)
+        (r.read (v ∷ vs)).result (λ left right none. or_right (n == 0) (r.accepts n) (right none)) (law.all (v ∷ vs))
+
 -- ---- no more fields
 
 pub end_back : {P : Type 0} (is_strict : Bool) → TakesBack is_strict (end {P = P})
@@ -88,7 +148,7 @@ pub end_told : {P : Type 0} → AreSeen (end {P = P})
 end_told = record { fits = λ p q same fit. tt; written = λ p. refl }
 
 pub end_lawful : {P : Type 0} → AreLawful (end {P = P})
-end_lawful = record { told = end_told; wide = λ fixed. end_wide; back = end_back; exact = end_only }
+end_lawful = record { told = end_told; wide = λ fixed. end_wide; possible = end_possible; back = end_back; exact = end_only }
 
 pub views_append : (is_strict : Bool) (xs ys : List Item) → views_of is_strict (xs ++ ys) ≡ views_of is_strict xs ++ views_of is_strict ys
 views_append is_strict xs ys = map-append (λ x. viewed is_strict (encoding x)) xs ys
@@ -120,7 +180,7 @@ module _ {A : Type 0} (c : Form A) where
   one_told law = record { fits = law.fits; written = λ x. ap (λ i. i ∷ []) (law.written x) }
 
   pub one_lawful : IsLawful c → AreLawful (one c)
-  one_lawful law = record { told = one_told law.told; wide = λ fixed. one_wide c.reading; back = λ is_strict. one_back is_strict (law.back is_strict); exact = one_only law.exact }
+  one_lawful law = record { told = one_told law.told; wide = λ fixed. one_wide c.reading; possible = one_possible c.reading; back = λ is_strict. one_back is_strict (law.back is_strict); exact = one_only law.exact }
 
 -- ---- fields of a part, before others
 
@@ -130,13 +190,6 @@ module _ {A P : Type 0} (value : P → A) (f : FieldsForm A) (more : FieldsForm 
 
   abbrev beside : f.reading.M → Result (more.reading.M × List View) (List View × Fault) → Result ((f.reading.M × more.reading.M) × List View) (List View × Fault)
   beside x r = map_value (λ t. ((x, t.0), t.1)) r
-
-  group_counted : (w n : ℕ) (xs ys : List Item) → length xs ≡ w → more.reading.accepts (length ys) ≡ true
-      → (leb w (length (xs ++ ys)) && more.reading.accepts (length (xs ++ ys) - w)) ≡ true
-  group_counted w n xs ys many right =
-      let wide : leb w (length (xs ++ ys)) ≡ true = le-leb _ _ (omega (arith, length-append xs ys)) in
-      let others : length (xs ++ ys) - w ≡ length ys = omega (arith, length-append xs ys) in
-      ap (λ b. b && more.reading.accepts (length (xs ++ ys) - w)) wide ∙ ap more.reading.accepts others ∙ right
 
   group_back_by : (is_strict : Bool) → TakesBack is_strict f → TakesBack is_strict more → (p : P) (rest : List View)
       → (more.reading.is_fixed ≡ false → rest ≡ []) → f.Fits (value p) × more.Fits p → AllByRecursion IsSized (f.items (value p) ++ more.items p)
@@ -156,7 +209,11 @@ module _ {A P : Type 0} (value : P → A) (f : FieldsForm A) (more : FieldsForm 
 
   pub group_back : (is_strict : Bool) → TakesBack is_strict f → TakesBack is_strict more → TakesBack is_strict (group value f more)
   group_back is_strict law others = record {
-    counted = λ p fit. group_counted f.reading.width 0 (f.items (value p)) (more.items p) (law.wide (value p) fixed) (others.counted p fit.1);
+    counted = λ p fit.
+        let xs = f.items (value p) in
+        let ys = more.items p in
+        after_width more.reading.accepts f.reading.width (length (xs ++ ys)) (length ys) (omega (arith, length-append (f.items (value p)) (more.items p), law.wide (value p) fixed))
+        (others.counted p fit.1);
     wide = λ p last. omega (arith, length-append (f.items (value p)) (more.items p), law.wide (value p) fixed, others.wide p last);
     back = group_back_by is_strict law others;
   }
@@ -192,6 +249,7 @@ module _ {A P : Type 0} (value : P → A) (f : FieldsForm A) (more : FieldsForm 
   group_lawful law others = record {
     told = group_told law.told others.told;
     wide = λ last. group_wide value f.reading more.reading (law.wide fixed) (others.wide last);
+    possible = group_possible value f.reading more.reading (law.wide fixed) others.possible;
     back = λ is_strict. group_back is_strict (law.back is_strict) (others.back is_strict);
     exact = group_only law.exact others.exact;
   }
@@ -224,11 +282,7 @@ module _ {A P : Type 0} (value : P → Option A) (f : FieldsForm A) where
   some_counted : (is_strict : Bool) → TakesBack is_strict f → (o : Option A) → IfSome o f.Fits
       → ((length (items_if f.items o) == 0) || f.reading.accepts (length (items_if f.items o))) ≡ true
   some_counted is_strict law None fit = refl
-  some_counted is_strict law (Some x) fit = by_zero (length (f.items x) == 0) (law.counted x fit)
-    where
-      by_zero : (b : Bool) → f.reading.accepts (length (f.items x)) ≡ true → (b || f.reading.accepts (length (f.items x))) ≡ true
-      by_zero true is = refl
-      by_zero false is = is
+  some_counted is_strict law (Some x) fit = or_right (length (f.items x) == 0) (f.reading.accepts (length (f.items x))) (law.counted x fit)
 
   some_back : (is_strict : Bool) (x : A) (xs : List Item) (rest : List View) → f.reading.accepts (length xs) ≡ true → f.reading.accepts 0 ≡ false
       → (f.reading.read (views_of is_strict xs ++ rest)).result ≡ Ok (f.reading.seen x, rest)
@@ -281,6 +335,7 @@ module _ {A P : Type 0} (value : P → Option A) (f : FieldsForm A) where
   optional_group_lawful some law = record {
     told = optional_group_told law.told;
     wide = λ last. absurd (let no : ⊥ = cc in no);
+    possible = optional_possible value f.reading law.possible;
     back = λ is_strict. optional_group_back is_strict some (law.back is_strict);
     exact = optional_group_only law.exact;
   }

@@ -1,6 +1,6 @@
 -- Groups of fields at the end of a struct.
-use Rattle.std.proofs.Common.{Bool, Err, IfOk, List, Ok, Result, [], ap, append-nil, append_assoc, arith, eq-eqb, false, length, length-append, map, refl, subst, suc, sym, true, zero, ℕ, ◌%◌, ◌+◌, ◌++◌, ◌<◌, ◌==◌, ◌^◌, ◌∙◌, ◌∷◌, ◌≡◌, ◌≤◌}
-use Rattle.std.proofs.Math.Nat.{mod-eq_of_lt}
+use Rattle.std.proofs.Common.{Bool, Err, IfOk, List, Ok, Result, [], ap, append-nil, append_assoc, arith, eq-eqb, false, length, length-append, map, refl, subst, suc, sym, true, zero, ℕ, ◌%◌, ◌*◌, ◌+◌, ◌++◌, ◌<◌, ◌==◌, ◌^◌, ◌∙◌, ◌∷◌, ◌≡◌, ◌≤◌}
+use Rattle.std.proofs.Math.Nat.{mod-eq_of_lt, mul-add-mod_self_right}
 use Rattle.std.proofs.lemmas.List.{length-map, map-append}
 use Rattle.std.proofs.lemmas.List.Elements.{All-from_recursion, recursion_from_All}
 use Rattle.std.specs.List.{AllByRecursion}
@@ -9,9 +9,9 @@ use Rattle.rlp_format.specs.Values.Value.{all_items}
 use Rattle.rlp_reading.proofs.Lemmas.Groups.{groups_counted, groups_right}
 use Rattle.rlp_reading.specs.Views.View.{View}
 use Rattle.rlp_codec.proofs.ListLaws.{goes_on, is_mapped, lists_fit}
-use Rattle.rlp_codec.specs.Form.{Answer, Fault, FieldsForm, FieldsReading, Path, Taken, and_then, go_on, groups, map_taken, map_value, most_groups, take_each}
-use Rattle.rlp_codec.specs.Laws.{AreLawful, AreSeen, IsStrictPart, TakeWidth, TakesBack, TakesOnly, viewed, views_of}
-use Rattle.rlp_codec.proofs.FieldLaws.{all_first, ok_same, views_append}
+use Rattle.rlp_codec.specs.Form.{Answer, Fault, FieldsForm, FieldsReading, Path, Taken, and_then, go_on, group_fields, groups, map_taken, map_value, most_groups, take_each}
+use Rattle.rlp_codec.specs.Laws.{AreLawful, AreSeen, IsStrictPart, TakePossible, TakeWidth, TakesBack, TakesOnly, viewed, views_of}
+use Rattle.rlp_codec.proofs.FieldLaws.{all_first, ok_same, still_left, views_append}
 
 -- ---- groups at the end
 
@@ -19,6 +19,40 @@ use Rattle.rlp_codec.proofs.FieldLaws.{all_first, ok_same, views_append}
 pub as_many : (width n : ℕ) → 0 < width → most_groups width n ≡ n
 as_many zero n some = absurd (omega arith)
 as_many (suc width) n some = refl
+
+-- groups that are all of the items are a whole number of groups
+module _ {A : Type 0} (r : FieldsReading A) (law : TakeWidth r) (some : 0 < r.width) where
+  abbrev Whole : ℕ → List View → Type 0
+  Whole n left = left ≡ [] → (n % r.width == 0) ≡ true
+
+  no_items : (0 % r.width == 0) ≡ true
+  no_items = eq-eqb _ _ (mod-eq_of_lt some)
+
+  one_before : (n m : ℕ) → n ≡ r.width + m → (m % r.width == 0) ≡ true → (n % r.width == 0) ≡ true
+  one_before n m many whole =
+      let more : n ≡ 1 * r.width + m = omega (arith, many) in
+      ap (λ k. k == 0) (ap (λ k. k % r.width) more ∙ mul-add-mod_self_right 1 r.width m) ∙ whole
+
+  after_group : (turns : ℕ) (x : Result (r.M × List View) (List View × Fault)) (n : ℕ) → IfOk x (λ t. n ≡ r.width + length t.1)
+      → ((left : List View) → IfOk (take_each r.read turns left).result (λ t. Whole (length left) t.1))
+      → IfOk (and_then {B = List r.M × List View} x (λ t. map_value (λ u. (t.0 ∷ u.0, u.1)) (take_each r.read turns t.1).result)) (λ t. Whole n t.1)
+  after_group turns (Err e) n many more = tt
+  after_group turns (Ok t) n many more =
+      still_left (λ (ms : List r.M). t.0 ∷ ms) (Whole (length t.1)) (Whole n) (take_each r.read turns t.1).result
+      (λ left whole none. one_before n (length t.1) many (whole none)) (more t.1)
+
+  whole_groups_by : (turns : ℕ) (vs : List View) → IfOk (take_each r.read turns vs).result (λ t. Whole (length vs) t.1)
+  whole_groups_by zero vs = λ none. ap (λ ws. length ws % r.width == 0) none ∙ no_items
+  whole_groups_by (suc turns) [] = λ none. no_items
+  whole_groups_by (suc turns) (v ∷ vs) = after_group turns (r.read (v ∷ vs)).result (length (v ∷ vs)) (law.taken (v ∷ vs)) (whole_groups_by turns)
+
+pub groups_possible : {A P : Type 0} (values : P → List A) (r : FieldsReading A) → TakeWidth r → TakePossible (group_fields values r)
+groups_possible values r law = record { all = λ vs. by r.width refl vs }
+  where
+    by : (w : ℕ) → r.width ≡ w → (vs : List View) → IfOk (take_each r.read (most_groups w (length vs)) vs).result (λ t. t.1 ≡ [] → (length vs % w == 0) ≡ true)
+    by zero is vs = λ none. ap (λ ws. length ws % 0 == 0) none
+    by (suc w) is vs = subst (λ w. IfOk (take_each r.read (length vs) vs).result (λ t. t.1 ≡ [] → (length vs % w == 0) ≡ true)) is
+        (whole_groups_by r law (omega (arith, is)) (length vs) vs)
 
 module _ {A P : Type 0} (values : P → List A) (f : FieldsForm A) (fixed : f.reading.is_fixed ≡ true) (some : (0 == f.reading.width) ≡ false) where
   not_zero : 0 < f.reading.width
@@ -140,7 +174,7 @@ module _ {A P : Type 0} (values : P → List A) (f : FieldsForm A) (fixed : f.re
 
   -- that each group is the same number of items, and not none, is proved by `refl`
   pub groups_lawful : AreLawful f → AreLawful (groups values f)
-  groups_lawful law = record { told = groups_told law.told; wide = λ last. absurd (let no : ⊥ = cc in no); back = λ is_strict. groups_back is_strict (law.back is_strict); exact = groups_only law.exact }
+  groups_lawful law = record { told = groups_told law.told; wide = λ last. absurd (let no : ⊥ = cc in no); possible = groups_possible values f.reading (law.wide fixed); back = λ is_strict. groups_back is_strict (law.back is_strict); exact = groups_only law.exact }
 
 -- ---- for bodies of `decode_fields`
 

@@ -6,7 +6,7 @@ use Rattle.std.specs.List.{AllByRecursion}
 use Rattle.rlp_format.specs.Format.Encoding.{IsSized, encoding, list_of}
 use Rattle.rlp_reading.specs.Views.View.{View, strict_view_of}
 use Rattle.rlp_codec.proofs.ListLaws.{not_faulty, goes_on, is_mapped, items_held, items_only, items_sized}
-use Rattle.rlp_codec.specs.Form.{Answer, Fault, FieldsForm, Path, Taken, and_then, go_on, here, if_possible, in_list, items_of, map_fault, map_value, path_by, path_in, read_struct, struct_of, all_taken, take_all, wrong_number}
+use Rattle.rlp_codec.specs.Form.{Answer, Fault, FieldsForm, Path, Taken, and_then, go_on, here, if_possible, in_list, items_of, map_fault, map_value, path_by, path_in, read_struct, struct_of, all_taken, take_all, incorrect_list_len}
 use Rattle.rlp_codec.specs.Laws.{AreLawful, AreSeen, GivesOnly, IsLawful, IsSeen, ReadsBack, TakesBack, TakesOnly, viewed, views_of}
 use Rattle.rlp_codec.proofs.FieldLaws.{ok_same}
 
@@ -31,33 +31,32 @@ module _ {M : Type 0} (accepts : ℕ → Bool) (read : List View → Taken M) (v
     ap (λ r. path_by r [] (λ vs. (read_struct accepts read vs).path)) items ∙ ap (λ a. a.path) is,
   )
 
-  given_by : (right : Bool) (m : M) (a : Answer M Fault) → a.result ≡ Ok m → (if_possible right a).result ≡ Ok m
-  given_by true m a is = is
-  given_by false m a is = ap (map_fault wrong_number) is
+  -- the number of items is possible
+  by_number : items_of v ≡ Ok vs → accepts (length vs) ≡ true
+      → let a = in_list (length vs) (take_all read vs) in (struct_answer.result ≡ a.result) × (struct_answer.path ≡ a.path)
+  by_number items right =
+      by_items (in_list (length vs) (take_all read vs)) items (ap (λ b. if_possible b (in_list (length vs) (take_all read vs))) right)
 
   -- the fields are all that the items give
-  pub struct_given : (m : M) → items_of v ≡ Ok vs → (read vs).result ≡ Ok (m, []) → struct_answer.result ≡ Ok m
-  struct_given m items is =
-      (by_items (if_possible (accepts (length vs)) (in_list (length vs) (take_all read vs))) items refl).0
-      ∙ given_by (accepts (length vs)) m (in_list (length vs) (take_all read vs)) (ap (λ r. outcome (ended r)) is)
+  pub struct_given : (m : M) → items_of v ≡ Ok vs → accepts (length vs) ≡ true → (read vs).result ≡ Ok (m, []) → struct_answer.result ≡ Ok m
+  struct_given m items right is = (by_number items right).0 ∙ ap (λ r. outcome (ended r)) is
 
   -- Why a struct isn't read: the fault, and the path.
   pub record StructFails (path : Path) (e : Fault) : Type 0 where
     pub fault : struct_answer.result ≡ Err e
     pub at : struct_answer.path ≡ path
 
-  -- there is another number of items, and the fields aren't what the items give
-  pub other_number : (e : List View × Fault) → items_of v ≡ Ok vs → accepts (length vs) ≡ false → (take_all read vs).result ≡ Err e
-      → StructFails [] (wrong_number e.1)
-  other_number e items wrong fails =
-      let h = by_items (if_possible false (in_list (length vs) (take_all read vs))) items (ap (λ b. if_possible b (in_list (length vs) (take_all read vs))) wrong) in
-      record { fault = h.0 ∙ ap (λ r. map_fault wrong_number (outcome r)) fails; at = h.1 }
+  -- the number of items is wrong
+  pub other_number : items_of v ≡ Ok vs → accepts (length vs) ≡ false → StructFails [] incorrect_list_len
+  other_number items wrong =
+      let h = by_items (here (Err incorrect_list_len)) items (ap (λ b. if_possible b (in_list (length vs) (take_all read vs))) wrong) in
+      record { fault = h.0; at = h.1 }
 
   -- the number of items is possible, and the fields aren't what the items give
   pub this_number : (e : List View × Fault) → items_of v ≡ Ok vs → accepts (length vs) ≡ true → (take_all read vs).result ≡ Err e
       → StructFails ((length vs - 1 - length e.0) ∷ (take_all read vs).path) e.1
   this_number e items right fails =
-      let h = by_items (in_list (length vs) (take_all read vs)) items (ap (λ b. if_possible b (in_list (length vs) (take_all read vs))) right) in
+      let h = by_number items right in
       record { fault = h.0 ∙ ap outcome fails; at = h.1 ∙ ap (λ r. path_in (length vs) r (take_all read vs).path) fails }
 
 -- a list of fewer than 2^64 items isn't as wide as this
@@ -95,7 +94,7 @@ module _ {P : Type 0} (f : FieldsForm P) where
 
   possible_by : (right : Bool) (a : Answer f.reading.M Fault) (m : f.reading.M) → (if_possible right a).result ≡ Ok m → a.result ≡ Ok m
   possible_by true a m is = is
-  possible_by false a m is = not_faulty wrong_number a.result m is
+  possible_by false a m is = absurd (let no : ⊥ = cc in no)
 
   taken_by : (vs : List View) (p : P) → (read_struct f.reading.accepts f.reading.read vs).result ≡ Ok (f.reading.seen p) → IsAllTaken vs p
   taken_by vs p is =

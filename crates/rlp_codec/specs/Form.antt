@@ -367,21 +367,16 @@ path_in n (Err e) path = (n - 1 - length e.0) ∷ path
 abbrev pub in_list : {M : Type 0} → ℕ → Taken M → Answer M Fault
 in_list n t = record { result = map_fault (λ e. e.1) (map_value (λ m. m.0) t.result); path = path_in n t.result t.path }
 
--- The fault of a list with a wrong number of items, where a fault was found: a wrong number comes before every fault but the want of memory.
-abbrev pub wrong_number : Fault → Fault
-wrong_number out_of_memory = out_of_memory
-wrong_number e = incorrect_list_len
-
--- The answer of a list whose number of items is possible or not, as the Bool says: if not, a fault is a fault of the list as a whole.
+-- The answer of a list whose number of items is possible or not, as the Bool says.
 abbrev pub if_possible : {M : Type 0} → Bool → Answer M Fault → Answer M Fault
 if_possible true a = a
-if_possible false a = here (map_fault wrong_number a.result)
+if_possible false a = here (Err incorrect_list_len)
 
 -- What the fields take from the items of a list, if no item is left.
 abbrev pub take_all : {M : Type 0} → (List View → Taken M) → List View → Taken M
 take_all read vs = go_on (read vs) (λ t. all_taken t.0 t.1)
 
--- What the fields take from the items of a list, if no item is left; or a fault, which says first whether the number of items is possible.
+-- What the fields take from the items of a list, if the number of items is possible and no item is left.
 abbrev pub read_struct : {M : Type 0} → (ℕ → Bool) → (List View → Taken M) → List View → Answer M Fault
 read_struct accepts read vs = if_possible (accepts (length vs)) (in_list (length vs) (take_all read vs))
 

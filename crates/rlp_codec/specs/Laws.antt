@@ -83,10 +83,15 @@ pub record AreSeen {P : Type 0} (f : FieldsForm P) : Type 0 where
 pub record TakeWidth {P : Type 0} (r : FieldsReading P) : Type 0 where
   pub taken : (vs : List View) → IfOk (r.read vs).result (λ t. length vs ≡ r.width + length t.1)
 
--- FieldsForm that fit are read back, and strict views give no other fields.
+-- If the fields are all of the items, the number of items is possible.
+pub record TakePossible {P : Type 0} (r : FieldsReading P) : Type 0 where
+  pub all : (vs : List View) → IfOk (r.read vs).result (λ t. t.1 ≡ [] → r.accepts (length vs) ≡ true)
+
+-- Fields that fit are read back, and strict views give no other fields.
 pub record AreLawful {P : Type 0} (f : FieldsForm P) : Type 0 where
   pub told : AreSeen f
   pub wide : f.reading.is_fixed ≡ true → TakeWidth f.reading
+  pub possible : TakePossible f.reading
   pub back : (is_strict : Bool) → TakesBack is_strict f
   pub exact : TakesOnly f
 

@@ -3,11 +3,11 @@ use Rattle.std.specs.Vec.{vec_items}
 use Rattle.rlp.specs.Codec.{Codec, list_type}
 use Rattle.rlp_eth.specs.declared.receipts.BlockReceipts.{BlockReceipts}
 use Rattle.rlp_eth.specs.declared.receipts.Receipts.{Receipts}
-use Rattle.rlp_headers.specs.TypedReceipt.{typed_receipt}
+use Rattle.rlp_headers.specs.AnyReceipt.{any_receipt}
 
 -- the list of the receipts of a block
 abbrev pub block_receipts : Codec BlockReceipts
-block_receipts = list_type (λ (b : BlockReceipts). vec_items b.0) typed_receipt
+block_receipts = list_type (λ (b : BlockReceipts). vec_items b.0) any_receipt
 
 -- the list of those lists
 abbrev pub receipts : Codec Receipts

@@ -198,7 +198,7 @@ impl StrictRead for BlockRangeUpdate {
 }
 
 /// A whole block that a client announces, message 0x07 of `eth`: the list of both fields.
-#[derive(Drop)]
+#[derive(Debug, PartialEq, Eq, Drop)]
 pub struct NewBlock {
     /// The block.
     pub block: Block,
@@ -247,7 +247,7 @@ impl StrictRead for NewBlock {
 
 /// Transactions that a client sends to others, message 0x02 of `eth`: the list of them, each as in a
 /// block. EIP-4844 forbids to send blob transactions in this message; this type doesn't check that.
-#[derive(Drop)]
+#[derive(Debug, PartialEq, Eq, Drop)]
 pub struct Transactions(pub Vec<AnyTransaction>);
 
 impl Encodable for Transactions {

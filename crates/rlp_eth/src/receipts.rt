@@ -6,12 +6,13 @@ use rlp::{
     Decodable, DecodePlaced, DecoderError, Each, Encodable, Rlp, RlpStream, RoundTrip, StrictRead,
     put_list_path,
 };
-use rlp_ethereum::TypedReceipt;
+use rlp_ethereum::AnyReceipt;
 use std::alloc::{AllocError, Global};
 
-/// The receipts of the transactions of a block, in their order: the list of them.
-#[derive(Drop)]
-pub struct BlockReceipts(pub Vec<TypedReceipt>);
+/// The receipts of the transactions of a block, in their order: the list of them. Those of types that
+/// aren't known are kept.
+#[derive(Debug, PartialEq, Eq, Drop)]
+pub struct BlockReceipts(pub Vec<AnyReceipt>);
 
 impl Encodable for BlockReceipts {
     ghost item = { block_receipts.item };
@@ -34,7 +35,7 @@ impl Decodable for BlockReceipts {
 
 impl DecodePlaced for BlockReceipts {
     fn put_path(alloc: Global, rlp: &Rlp<'_>, path: &mut Vec<usize>) -> Result<(), AllocError> {
-        put_list_path::<TypedReceipt>(alloc, rlp, path)
+        put_list_path::<AnyReceipt>(alloc, rlp, path)
     }
 }
 
@@ -48,7 +49,7 @@ impl StrictRead for BlockReceipts {
 
 /// The answer to [`GetReceipts`](crate::GetReceipts), in message 0x10 of `eth/68`: the list of the
 /// receipts of each block. Since `eth/69` the receipts are other lists, without filters of logs.
-#[derive(Drop)]
+#[derive(Debug, PartialEq, Eq, Drop)]
 pub struct Receipts(pub Vec<BlockReceipts>);
 
 impl Encodable for Receipts {

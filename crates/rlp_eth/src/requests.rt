@@ -65,7 +65,7 @@ impl StrictRead for GetBlockHeaders {
 }
 
 /// The answer to [`GetBlockHeaders`], in message 0x04 of `eth`: the list of the headers.
-#[derive(Drop)]
+#[derive(Debug, PartialEq, Eq, Drop)]
 pub struct BlockHeaders(pub Vec<Header>);
 
 impl Encodable for BlockHeaders {
@@ -139,7 +139,7 @@ impl StrictRead for GetBlockBodies {
 }
 
 /// The answer to [`GetBlockBodies`], in message 0x06 of `eth`: the list of the bodies.
-#[derive(Drop)]
+#[derive(Debug, PartialEq, Eq, Drop)]
 pub struct BlockBodies(pub Vec<Body>);
 
 impl Encodable for BlockBodies {
@@ -215,7 +215,7 @@ impl StrictRead for GetPooledTransactions {
 
 /// The answer to [`GetPooledTransactions`], in message 0x0a of `eth`: the list of the transactions.
 /// One of type 3 has its blobs, as in EIP-4844 or EIP-7594.
-#[derive(Drop)]
+#[derive(Debug, PartialEq, Eq, Drop)]
 pub struct PooledTransactions(pub Vec<PooledTransaction>);
 
 impl Encodable for PooledTransactions {

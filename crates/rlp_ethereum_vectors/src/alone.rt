@@ -4,7 +4,7 @@ use crate::reading::Bare;
 use bytes::BytesMut;
 use rlp::DecoderError;
 use rlp_ethereum::{
-    AnyTransaction, FeeMarketTransaction, Signed, Tagged, Transaction, TypedReceipt,
+    AnyReceipt, AnyTransaction, FeeMarketTransaction, Signed, Tagged, Transaction, TypedReceipt,
     UnsignedTransaction,
 };
 use std::alloc::{AllocError, Global};
@@ -32,6 +32,16 @@ impl Bare for AnyTransaction {
 impl Bare for TypedReceipt {
     fn from(alloc: Global, bytes: &[u8]) -> Result<TypedReceipt, DecoderError> {
         TypedReceipt::from_bytes(alloc, bytes)
+    }
+
+    fn to(&self, alloc: Global) -> Result<BytesMut, AllocError> {
+        self.to_bytes(alloc)
+    }
+}
+
+impl Bare for AnyReceipt {
+    fn from(alloc: Global, bytes: &[u8]) -> Result<AnyReceipt, DecoderError> {
+        AnyReceipt::from_bytes(alloc, bytes)
     }
 
     fn to(&self, alloc: Global) -> Result<BytesMut, AllocError> {

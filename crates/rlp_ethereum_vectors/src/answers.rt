@@ -7,10 +7,10 @@ use crate::{
     bounded, by_name, hashes, node_records, nodes, places, pooled, records, signing, unsigned,
 };
 use rlp_ethereum::{
-    AccessListTransaction, AnyTransaction, Authorization, BlobTransaction, Block, Body, Branch,
-    BranchChild, Child, Extension, FeeMarketTransaction, Hash, Header, Leaf, Log, NodeRecord,
-    SetCodeTransaction, Signed, SignedLegacyTransaction, Transaction, TrieNode, TypedReceipt,
-    UnsignedLegacyTransaction, UnsignedTransaction,
+    AccessListTransaction, AnyReceipt, AnyTransaction, Authorization, BlobTransaction, Block,
+    BlockAccessList, Body, Branch, BranchChild, Child, Extension, FeeMarketTransaction, Hash,
+    Header, Leaf, Log, NodeRecord, SetCodeTransaction, Signed, SignedLegacyTransaction,
+    Transaction, TrieNode, TypedReceipt, UnsignedLegacyTransaction, UnsignedTransaction,
 };
 use rlp_rows::Line;
 use std::alloc::Global;
@@ -20,8 +20,10 @@ use std::fmt::Write;
 /// Tells what a call answers about the bytes. The name of a type stands for reading it both ways.
 pub(crate) fn tell(alloc: Global, call: &str, bytes: &[u8], out: &mut Line) -> fmt::Result {
     match call {
+        "AnyReceipt" => ways::<Item<AnyReceipt>>(alloc, bytes, out),
         "AnyTransaction" => ways::<Item<AnyTransaction>>(alloc, bytes, out),
         "Block" => ways::<Item<Block>>(alloc, bytes, out),
+        "BlockAccessList" => ways::<Item<BlockAccessList>>(alloc, bytes, out),
         "Body" => ways::<Item<Body>>(alloc, bytes, out),
         "Hash" => ways::<Item<Hash>>(alloc, bytes, out),
         "Header" => ways::<Item<Header>>(alloc, bytes, out),
@@ -49,6 +51,7 @@ fn tell_payload(alloc: Global, call: &str, bytes: &[u8], out: &mut Line) -> fmt:
 /// Tells what a call answers about the bytes of an envelope by itself, or about fields.
 fn tell_alone_or_fields(alloc: Global, call: &str, bytes: &[u8], out: &mut Line) -> fmt::Result {
     match call {
+        "AnyReceipt alone" => ways::<Alone<AnyReceipt>>(alloc, bytes, out),
         "AnyTransaction alone" => ways::<Alone<AnyTransaction>>(alloc, bytes, out),
         "Transaction alone" => ways::<Alone<Transaction>>(alloc, bytes, out),
         "TypedReceipt alone" => ways::<Alone<TypedReceipt>>(alloc, bytes, out),
@@ -68,6 +71,7 @@ fn tell_alone_or_fields(alloc: Global, call: &str, bytes: &[u8], out: &mut Line)
         }
         "parts of Transaction alone" => unsigned::tell_signed(alloc, "parts", bytes, out),
         "kind of TypedReceipt" => fields::<TypedReceipt>(alloc, bytes, out),
+        "type of AnyReceipt" => fields::<AnyReceipt>(alloc, bytes, out),
         _ => tell_named(alloc, call, bytes, out),
     }
 }

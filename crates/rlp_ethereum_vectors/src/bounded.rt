@@ -51,7 +51,7 @@ pub(crate) const WITHOUT_MEMORY: &str = "
 pub(crate) const ROWS: &str = "
     at most: 17 Transaction | b867+ACCESS_LIST | Ok
     at most: 20 Body | f86cf869b867+ACCESS_LIST+c0 | Ok
-    at most: 1 AnyTransaction | 8205c0 | Ok
+    at most: 1 AnyTransaction | 8206c0 | Ok
 ";
 
 /// Tells the answer for a type with at most a number of items, which stands before the name of the

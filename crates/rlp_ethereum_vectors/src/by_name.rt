@@ -6,8 +6,8 @@ use crate::reading::{made, made_of};
 use rlp::Uint;
 use rlp_ethereum::{
     AccessList, Account, Address, BlobTransaction, BlobTransactionWithCellProofs,
-    BlobTransactionWithProofs, DepositTransaction, Hash, Recipient, Signed, Withdrawal,
-    WrapperVersion,
+    BlobTransactionWithProofs, DepositTransaction, Hash, NonZeroScalar, Recipient, Signed,
+    Withdrawal, WrapperVersion,
 };
 use rlp_rows::Line;
 use std::alloc::{AllocError, Global};
@@ -91,8 +91,12 @@ fn transaction(alloc: Global) -> Result<Signed<BlobTransaction>, AllocError> {
     Ok(Signed {
         payload,
         v: false,
-        r: Uint::<32>::from(1),
-        s: Uint::<32>::from(2),
+        r: NonZeroScalar {
+            number: Uint::<32>::from(1),
+        },
+        s: NonZeroScalar {
+            number: Uint::<32>::from(2),
+        },
     })
 }
 

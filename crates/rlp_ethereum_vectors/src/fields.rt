@@ -3,9 +3,9 @@
 use crate::reading::fault;
 use rlp::{Decodable, Rlp};
 use rlp_ethereum::{
-    AnyTransaction, BlobTransaction, Block, Body, Hash, Header, London, Recipient,
-    SetCodeTransaction, Signed, SignedAuthorization, SignedLegacyTransaction, Transaction,
-    TypedReceipt,
+    Amsterdam, AnyReceipt, AnyTransaction, BlobTransaction, Block, Body, Hash, Header, London,
+    Recipient, SetCodeTransaction, Signed, SignedAuthorization, SignedLegacyTransaction,
+    Transaction, TypedReceipt,
 };
 use rlp_rows::{Hex, Line};
 use std::alloc::Global;
@@ -98,7 +98,7 @@ pub(crate) fn forks(alloc: Global, bytes: &[u8], out: &mut Line) -> fmt::Result 
     }
 }
 
-/// Tells the gas of blobs, the base fee and the hashes of a header.
+/// Tells the gas of blobs, the base fee and the hashes of a header, and the slot.
 fn tell_forks(header: &Header, out: &mut Line) -> fmt::Result {
     let fee = match &header.since_london {
         Some(london) => london.base_fee_per_gas.bytes.as_slice(),
@@ -111,13 +111,25 @@ fn tell_forks(header: &Header, out: &mut Line) -> fmt::Result {
             out.then(Some(cancun.excess_blob_gas))?;
             out.write_str(" ")?;
             let parent = cancun.parent_beacon_block_root.0.as_slice();
-            let requests = digits_of(cancun.requests_hash.as_ref());
-            tell_words(&[fee, root, parent, requests], out)
+            let requests = digits_of(header.prague().map(|prague| &prague.requests_hash));
+            tell_words(&[fee, root, parent, requests], out)?;
+            tell_amsterdam(header.amsterdam(), out)
         }
         None => {
             out.write_str("None None ")?;
             tell_words(&[fee, root], out)
         }
+    }
+}
+
+/// Tells the hash of the access list and the slot.
+fn tell_amsterdam(fields: Option<&Amsterdam>, out: &mut Line) -> fmt::Result {
+    match fields {
+        Some(fields) => {
+            out.then(Hex(&fields.block_access_list_hash.0))?;
+            out.then(fields.slot_number)
+        }
+        None => Ok(()),
     }
 }
 
@@ -184,8 +196,8 @@ impl Told for SignedLegacyTransaction {
             &tx.gas_price.bytes,
             &tx.value.bytes,
             &self.v.bytes,
-            &self.r.bytes,
-            &self.s.bytes,
+            &self.r.number.bytes,
+            &self.s.number.bytes,
         ];
         tell_words(&words, out)?;
         out.then(tx.nonce)?;
@@ -203,8 +215,8 @@ fn tell_blob(signed: &Signed<BlobTransaction>, out: &mut Line) -> fmt::Result {
         &tx.value.bytes,
         tx.data.as_slice(),
         &tx.max_fee_per_blob_gas.bytes,
-        &signed.r.bytes,
-        &signed.s.bytes,
+        &signed.r.number.bytes,
+        &signed.s.number.bytes,
     ];
     tell_words(&words, out)?;
     let (chain, nonce, gas) = (tx.chain_id, tx.nonce, tx.gas_limit);
@@ -221,8 +233,8 @@ fn tell_set_code(signed: &Signed<SetCodeTransaction>, out: &mut Line) -> fmt::Re
         &tx.max_fee_per_gas.bytes,
         &tx.value.bytes,
         tx.data.as_slice(),
-        &signed.r.bytes,
-        &signed.s.bytes,
+        &signed.r.number.bytes,
+        &signed.s.number.bytes,
     ];
     tell_words(&words, out)?;
     out.then(tx.nonce)?;
@@ -232,7 +244,11 @@ fn tell_set_code(signed: &Signed<SetCodeTransaction>, out: &mut Line) -> fmt::Re
 
 /// Tells the fields of an authorization.
 fn tell_authorization(one: &SignedAuthorization, out: &mut Line) -> fmt::Result {
-    let words: [&[u8]; 3] = [&one.payload.chain_id.bytes, &one.r.bytes, &one.s.bytes];
+    let words: [&[u8]; 3] = [
+        &one.payload.chain_id.bytes,
+        &one.r.number.bytes,
+        &one.s.number.bytes,
+    ];
     tell_words(&words, out)?;
     out.then(one.payload.nonce)?;
     out.then(one.v)
@@ -287,5 +303,12 @@ impl Told for TypedReceipt {
             TypedReceipt::Blob(_) => "blob",
             TypedReceipt::SetCode(_) => "set code",
         })
+    }
+}
+
+/// The number of the type of a receipt's transaction.
+impl Told for AnyReceipt {
+    fn tell(&self, _len: usize, out: &mut Line) -> fmt::Result {
+        out.debug(self.transaction_type())
     }
 }

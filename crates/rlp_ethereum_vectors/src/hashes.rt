@@ -3,8 +3,9 @@
 use crate::reading::fault;
 use rlp::DecoderError;
 use rlp_ethereum::{
-    AccessListTransaction, AnyTransaction, FeeMarketTransaction, Hash, Header, Signed,
-    TypedTransaction, UnsignedLegacyTransaction, UnsignedTransaction, encoding_hash, signing_hash,
+    AccessListTransaction, AnyTransaction, BlockAccessList, FeeMarketTransaction, Hash, Header,
+    Signed, TypedTransaction, UnsignedLegacyTransaction, UnsignedTransaction, encoding_hash,
+    signing_hash,
 };
 use rlp_rows::{Hex, Line};
 use std::alloc::Global;
@@ -12,9 +13,12 @@ use std::fmt;
 use std::fmt::Write;
 
 /// What is hashed, its bytes as text, and the digits of its hash: the headers of the first two blocks
-/// of the main network, of block 0 of the network Holesky and of block 1 of a test of EIP-1559; the
-/// first transaction of the main network, the example of EIP-155 and a transaction of type 2; what is
-/// signed of a transaction of the tests of `go-ethereum`, of the one of type 2 and of the example.
+/// of the main network, of block 0 of the network Holesky, of block 1 of a test of EIP-1559 and of
+/// block 0 of the network Görli; the first transaction of the main network, the example of EIP-155, a
+/// transaction of type 2 and two transactions with chain 1 of the tests of `go-ethereum`; access lists
+/// of blocks, where that of the empty list is named in EIP-7928, and the other was computed by
+/// `fuzz/keccak.py`; what is signed of a transaction of these tests, of the one of type 2, of the
+/// example, and of two transactions without a chain of these tests.
 pub(crate) const ROWS: &str = "
     hash: header | GENESIS | d4e56740f876aef8c010b86a40d5f56745a118d0906a34e69aec8c0db1cb8fa3
     hash: header | BLOCK_1 | 88e96d4537bea4d9c05d12549907b32561d3bf31f45aae734cdc119f13406cb6
@@ -29,6 +33,13 @@ pub(crate) const ROWS: &str = "
      69702c7ccc63ed2e51bc034be9479b7bff4e68dee84accfa029b0562f7140574dd0d50dee8a271b22e1a0a7b78f\
      ca58f7c60370d8317ba2a9b90100+00*256+830200000188016345785d8a00008301553482079e42a0+00*32+88\
      +00*8+82036b | 6a251c7c3c5dca7b42407a3752ff48f3bbca1fab7f9868371d9918daf1988d1f
+    hash: header | f9026aa0+00*32+a01dcc4de8dec75d7aab85b567b6ccd41ad312451b948a7413f0a142fd40d\
+     4934794+00*20+a05d6cded585e73c4e322c30c2f782a336316f17dd85a4863b9d838d2d4b8b3008a056e81f17\
+     1bcc55a6ff8345e692c0f86e5b48e01b996cadc001622fb5e363b421a056e81f171bcc55a6ff8345e692c0f86e\
+     5b48e01b996cadc001622fb5e363b421b90100+00*256+018083a0000080845c51a607b87522466c657869206973\
+     2061207468696e6722202d204166726900000000000000e0a2bd4258d2768837baa26a28fe71dc079f84c7+00*\
+     65+a0+00*32+880000000000000000 | bf7e331f7f7c1dd2e05159666b3bf8bc7a8a3a9eb1d518969eab529dd\
+     9b88c1a
     hash: transaction | FIRST | 5c504ed432cb51138bcf09aa5e8a410dd4a1e204ef84bfed1be16dfba1b22060
     hash: transaction | SIGNED | 33469b22e9f636356c4160a87eb19df52b7412e8eac32a4a55ffe88ea8350788
     hash: transaction | 02f8b00142843b9aca008504a817c80082ad62946069a6c32cf691f5982febae4faf8a6f3ab2f0\
@@ -36,6 +47,12 @@ pub(crate) const ROWS: &str = "
      00000000000000000000000000000000000000000000000000000c080a0840cfc572845f5786e702984c2a58252\
      8cad4b49b2a10b9db1be7fca90058565a025e7109ceb98168d95b09b18bbf6b685130e0562f233877d492b94eee\
      0c5b6d1 | 0ec0b6a2df4d87424e5f6ad2a654e27aaeb7dac20ae9e8385cc09087ad532ee0
+    hash: transaction | f864808504a817c80082520894+35*20+808025a0044852b2a670ade5407e78fb2863c5\
+     1de9fcb96542a07186fe3aeda6bb8a116da0044852b2a670ade5407e78fb2863c51de9fcb96542a07186fe3aed\
+     a6bb8a116d | b1e2188bc490908a78184e4818dca53684167507417fdb4c09c2d64d32a9896a
+    hash: transaction | f864018504a817c80182a41094+35*20+018025a0489efdaa54c0f20c7adf612882df09\
+     50f5a951637e0307cdcb4c672f298b8bcaa0489efdaa54c0f20c7adf612882df0950f5a951637e0307cdcb4c67\
+     2f298b8bc6 | e62703f43b6f10d42b520941898bf710ebb66dba9df81702702b6d9bf23fef1b
     hash: payload of type 1 | 01f8630103018261a894b94f5374fce5edbc8e2a8697c15331677e6ebf0b0a825544c001\
      a0c9519f4f2b30335884581971573fadf60c6204f59a911df35ee8a540456b2660a032f1e8e2c5dd761f9e4f88f\
      41c8310aeaba26a8bfcdacfedfa12ec3862d37521 | 49b486f0ec0a60dfbbca2d30cb07c9e8ffb2a2ff41f29a1\
@@ -45,8 +62,16 @@ pub(crate) const ROWS: &str = "
      00000000000000000000000000000000000000000000000000000000000c080a0840cfc572845f5786e702984c2\
      a582528cad4b49b2a10b9db1be7fca90058565a025e7109ceb98168d95b09b18bbf6b685130e0562f233877d492\
      b94eee0c5b6d1 | 0d5688ac3897124635b6cf1bc0e29d6dfebceebdc10a54d74f2ef8b56535b682
+    hash: block access list | c0 | 1dcc4de8dec75d7aab85b567b6ccd41ad312451b948a7413f0a142fd40d49347
+    hash: block access list | f889f86c94+11*20+f2c981ffc6c20102c20380e7820100e3e205a080+00*31+c407\
+     820101cec28009ca02880de0b6b3a7640000c3c2010bcbc402826001c58301000080da94+12*20+c0c0c0c0c0 | 8\
+     5125be7cef2f747db48adb6441c7adffc423919084a9f72452435361cf89a0c
     hash: unsigned transaction | EXAMPLE | daf5a779ae972f972197303d7b574746c7ef83eadac0f2791ad23db92e4\
      c8e53
+    hash: unsigned transaction | da80808094095e7baea6a6c7c4c2dfeb977efac326af552d878080 | c775b\
+     99e7ad12f50d819fcd602390467e28141316969f4b57f0626f74fe3b386
+    hash: unsigned transaction | de03018207d094b94f5374fce5edbc8e2a8697c15331677e6ebf0b0a82554\
+     4 | fe7a79529ed5f7c3375d06b26b186a8644e0e16c373d7a12be41c62d6042b77a
     hash: unsigned legacy transaction | EXAMPLE | daf5a779ae972f972197303d7b574746c7ef83eadac0f2791ad2\
      3db92e4c8e53
 ";
@@ -55,6 +80,12 @@ pub(crate) const ROWS: &str = "
 fn header(alloc: Global, bytes: &[u8]) -> Result<Hash, DecoderError> {
     let header = rlp::decode_strict::<Header>(alloc, bytes)?;
     header.hash(alloc).or(Err(DecoderError::OutOfMemory))
+}
+
+/// Returns the hash of an access list of a block.
+fn block_access_list(alloc: Global, bytes: &[u8]) -> Result<Hash, DecoderError> {
+    let list = rlp::decode_strict::<BlockAccessList>(alloc, bytes)?;
+    list.hash(alloc).or(Err(DecoderError::OutOfMemory))
 }
 
 /// Returns the hash of a transaction.
@@ -87,6 +118,7 @@ fn payload<T: TypedTransaction>(alloc: Global, bytes: &[u8]) -> Result<Hash, Dec
 fn hash(alloc: Global, kind: &str, bytes: &[u8]) -> Result<Hash, DecoderError> {
     match kind {
         "header" => header(alloc, bytes),
+        "block access list" => block_access_list(alloc, bytes),
         "unsigned legacy transaction" => legacy(alloc, bytes),
         "transaction" => transaction(alloc, bytes),
         "unsigned transaction" => unsigned(alloc, bytes),

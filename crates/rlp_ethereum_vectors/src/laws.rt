@@ -4,12 +4,16 @@ use crate::node_records::TEXTS;
 use crate::text::bytes_of;
 use rlp::StrictRead;
 use rlp_ethereum::laws::{
-    bytes_tell_pooled_transactions, bytes_tell_transactions, encodings_tell_records,
-    no_bytes_are_signed_for_two_meanings, node_text_round_trips, pooled_transaction_keeps_its_hash,
-    pooled_transactions_stand_in_blocks, reading_without_memory_is_total, record_is_read,
-    record_is_written, record_round_trips,
+    bytes_tell_pooled_transactions, bytes_tell_receipts, bytes_tell_transactions,
+    encodings_tell_records, no_bytes_are_signed_for_two_meanings,
+    no_content_is_signed_for_two_meanings, node_text_round_trips,
+    pooled_transaction_keeps_its_hash, pooled_transactions_stand_in_blocks,
+    reading_without_memory_is_total, record_is_read, record_is_written, record_round_trips,
+    signed_transactions_are_no_signing_payloads,
 };
-use rlp_ethereum::{Account, AnyTransaction, NodeRecord, PooledTransaction, Withdrawal};
+use rlp_ethereum::{
+    Account, AnyReceipt, AnyTransaction, NodeRecord, PooledTransaction, Withdrawal,
+};
 use rlp_trie::laws::paths_have_one_value;
 use std::alloc::Global;
 use std::test::Fail;
@@ -49,12 +53,16 @@ fn laws_hold_of_records(rt: HostRuntime) -> Result<(), Fail> {
     let bytes = bytes_of(alloc, "FEE_MARKET")?;
     let transaction = AnyTransaction::from_bytes(alloc, bytes.as_slice())?;
     bytes_tell_transactions(&transaction, &transaction);
+    let receipt = AnyReceipt::from_bytes(alloc, &[0x7e, 0xc0])?;
+    bytes_tell_receipts(&receipt, &receipt);
     let pooled = PooledTransaction::from_bytes(alloc, bytes.as_slice())?;
     bytes_tell_pooled_transactions(&pooled, &pooled);
     pooled_transactions_stand_in_blocks(&pooled);
     let (sent, consensus) = pooled_transaction_keeps_its_hash(alloc, pooled)?;
     assert!(rt; sent == consensus);
     no_bytes_are_signed_for_two_meanings();
+    no_content_is_signed_for_two_meanings();
+    signed_transactions_are_no_signing_payloads();
     Ok(())
 }
 

@@ -132,8 +132,9 @@ fn tell_keys_of(alloc: Global, keys: &[&[u8]], out: &mut Line) -> fmt::Result {
     }
 }
 
-/// Texts, each with what the keys of its record give, or the fault. The records are that which EIP-778
-/// publishes as its example, one with each known key, one whose known keys have values of other shapes, and the shortest one. The
+/// Texts, each with what the keys of its record give, or the fault. The records are the example of
+/// EIP-778, two of boot nodes of the beacon chain, one with each known key, one whose known keys have
+/// values of other shapes, and the shortest one. The
 /// faults are of keys that are missing, out of order or there twice, of bytes that aren't a record,
 /// of a byte more, of the prefix, and of base64 with padding, a last bit or the other alphabet.
 pub(crate) const TEXTS: &str = "\
@@ -141,6 +142,16 @@ enr:-IS4QHCYrYZbAKWCBRlAy5zzaDZXJBGkcnh4MHcBFZntXNFrdvJjX04jRzjzCBOonrkTfj499SZu
     kgnY0gmlwhH8AAAGJc2VjcDI1NmsxoQPKY0yuDUmstAHYpMa2_oxVtw0RW_QAdpzBQA8yWM0xOIN1ZHCCdl8 | id 7634\
     , secp256k1 03ca634cae0d49acb401d8a4c6b6fe8c55b70d115bf400769cc1400f3258cd3138, ip 7f000001 Non\
     e Some(30303), ip6 none None None, udp 82765f Some(Ok(30303))
+enr:-Ku4QImhMc1z8yCiNJ1TyUxdcfNucje3BGwEHzodEZUan8PherEo4sF7pPHPSIB1NNuSg5fZy7qFsjmUKs2ea1Whi0EBh2F\
+    0dG5ldHOIAAAAAAAAAACEZXRoMpD1pf1CAAAAAP__________gmlkgnY0gmlwhBLf22SJc2VjcDI1NmsxoQOVphkDqal4Qz\
+    PMksc5wnpuC3gvSC8AfbFOnZY_On34wIN1ZHCCIyg | id 7634, secp256k1 0395a61903a9a9784333cc92c739c27a\
+    6e0b782f482f007db14e9d963f3a7df8c0, ip 12dfdb64 None Some(9000), ip6 none None None, udp 82232\
+    8 Some(Ok(9000))
+enr:-Ku4QP2xDnEtUXIjzJ_DhlCRN9SN99RYQPJL92TMlSv7U5C1YnYLjwOQHgZIUXw6c-BvRg2Yc2QsZxxoS_pPRVe0yK8Bh2F\
+    0dG5ldHOIAAAAAAAAAACEZXRoMpD1pf1CAAAAAP__________gmlkgnY0gmlwhBLf22SJc2VjcDI1NmsxoQMeFF5GrS7UZp\
+    AH2Ly84aLK-TyvH-dRo0JM1i8yygH50YN1ZHCCJxA | id 7634, secp256k1 031e145e46ad2ed4669007d8bcbce1a2\
+    caf93caf1fe751a3424cd62f32ca01f9d1, ip 12dfdb64 None Some(10000), ip6 none None None, udp 82271\
+    0 Some(Ok(10000))
 enr:-GuAAYJpZIJ2NIJpcIQKAAABg2lwNpAAAQIDBAUGBwgJCgsMDQ4PiXNlY3AyNTZrMaECAAAAAAAAAAAAAAAAAAAAAAAAAAA\
     AAAAAAAAAAAAAAACDdGNwAYR0Y3A2gv__g3VkcICEdWRwNoIBAA | id 7634, secp256k1 0200000000000000000000\
     00000000000000000000000000000000000000000000, ip 0a000001 Some(1) Some(0), ip6 0001020304050607\

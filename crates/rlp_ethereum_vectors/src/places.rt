@@ -3,9 +3,7 @@
 //! ones were worked out by hand.
 
 use rlp::{DecodePlaced, DecoderError, Rlp};
-use rlp_ethereum::{
-    Account, AnyTransaction, Block, NodeRecord, TrieNode, TypedReceipt, Withdrawal,
-};
+use rlp_ethereum::{Account, AnyReceipt, AnyTransaction, Block, NodeRecord, TrieNode, Withdrawal};
 use rlp_rows::Line;
 use std::alloc::Global;
 use std::fmt;
@@ -125,8 +123,8 @@ fn tell_alone(alloc: Global, name: &str, bytes: &[u8], out: &mut Line) -> fmt::R
     let mut path = Vec::new(alloc);
     let (fault, put) = if name == "receipt" {
         (
-            TypedReceipt::from_bytes(alloc, bytes).err(),
-            TypedReceipt::put_path_alone(alloc, bytes, &mut path),
+            AnyReceipt::from_bytes(alloc, bytes).err(),
+            AnyReceipt::put_path_alone(alloc, bytes, &mut path),
         )
     } else {
         (

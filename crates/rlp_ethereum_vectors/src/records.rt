@@ -4,7 +4,7 @@ use crate::reading::{digits, made, made_of};
 use rlp::Uint;
 use rlp_ethereum::{
     AccessList, AccessListItem, AccessListTransaction, Address, Bloom, FeeMarketTransaction, Hash,
-    Log, Receipt, ReceiptStatus, Recipient, Signed,
+    Log, NonZeroScalar, Receipt, ReceiptStatus, Recipient, Signed,
 };
 use rlp_rows::Line;
 use std::alloc::{AllocError, Global};
@@ -30,6 +30,42 @@ pub(crate) const ROWS: &str = "
     record: access list | f872f85994de0b295669a9fd93d5f28d9ec85e40f4cb697baef842a000000000000000000\
      00000000000000000000000000000000000000000000003a0000000000000000000000000000000000000000000000\
      0000000000000000007d694bb9bc244d798123fde783fcc1c72d3bb8c189413c0
+
+    Access lists of blocks by the draft of EIP-7928, which an independent program wrote: none, and one
+    with an account of which all fields have values, with a slot 255 before a slot 256, and another.
+    BlockAccessList | c0
+    BlockAccessList | f889f86c94+11*20+f2c981ffc6c20102c20380e7820100e3e205a080+00*31+c407820101cec\
+     28009ca02880de0b6b3a7640000c3c2010bcbc402826001c58301000080da94+12*20+c0c0c0c0c0
+
+    Addresses that are equal and that fall; slots of changes and of reads that do; and places in the
+    block, in the changes of a slot, of balances, of nonces and of code.
+    BlockAccessList | f6da94+11*20+c0c0c0c0c0da94+11*20+c0c0c0c0c0 | Custom(\"accounts are not in o\
+     rder\")
+    BlockAccessList | f6da94+12*20+c0c0c0c0c0da94+11*20+c0c0c0c0c0 | Custom(\"accounts are not in o\
+     rder\")
+    BlockAccessList | e1e094+11*20+c6c202c0c202c0c0c0c0c0 | Custom(\"accounts are not in order\")
+    BlockAccessList | e4e394+11*20+c9c4820100c0c381ffc0c0c0c0c0 | Custom(\"accounts are not in orde\
+     r\")
+    BlockAccessList | dddc94+11*20+c0c20707c0c0c0 | Custom(\"accounts are not in order\")
+    BlockAccessList | f838dc94+11*20+c0c20807c0c0c0da94+12*20+c0c0c0c0c0 | Custom(\"accounts are no\
+     t in order\")
+    BlockAccessList | e4e394+11*20+c9c802c6c20102c20103c0c0c0c0 | Custom(\"accounts are not in orde\
+     r\")
+    BlockAccessList | e1e094+11*20+c0c0c6c20201c20101c0c0 | Custom(\"accounts are not in order\")
+    BlockAccessList | e1e094+11*20+c0c0c0c6c20201c20202c0 | Custom(\"accounts are not in order\")
+    BlockAccessList | e1e094+11*20+c0c0c0c0c6c20280c20280 | Custom(\"accounts are not in order\")
+    BlockAccessList | f841da94+11*20+c0c0c0c0c0e594+12*20+c0c0c0c0cbc58301000080c482ffff80 | Custom\
+     (\"accounts are not in order\")
+
+    Too short an address, a slot that begins with a zero, five fields, a place of five bytes, three
+    items in a change, a slot of 33 bytes, and a string.
+    BlockAccessList | dad993+11*19+c0c0c0c0c0 | RlpIsTooShort
+    BlockAccessList | e0df94+11*20+c5c4820001c0c0c0c0c0 | RlpInvalidIndirection
+    BlockAccessList | dad994+11*20+c0c0c0c0 | RlpIncorrectListLen
+    BlockAccessList | e3e294+11*20+c0c0c8c785010000000001c0c0 | RlpIsTooBig
+    BlockAccessList | dfde94+11*20+c0c0c4c3010203c0c0 | RlpIncorrectListLen
+    BlockAccessList | f83ef83c94+11*20+c0e2a1+01*33+c0c0c0 | RlpIsTooBig
+    BlockAccessList | 80 | RlpExpectedToBeList
 
     The receipt of a transaction that succeeded, with one log.
     record: receipt | f9014601825208b90100+00*256+f83df83b94111111111111111111111111111111111111111\
@@ -67,9 +103,11 @@ pub(crate) const ROWS: &str = "
     forks of Header | GENESIS | 535 0 false None None
     forks of Header | BLOCK_1 | 532 1 false None None
 
-    Headers with chosen values, of the first forks and since London, Shanghai, Cancun and Prague:
-    the length, the number of the block, whether there is a root of withdrawals, the gas of blobs,
-    the base fee and the hashes. An independent program wrote those with the base fee 5.
+    Headers with chosen values, of the first forks and since London, Shanghai, Cancun, Prague and
+    Amsterdam: the length, the number of the block, whether there is a root of withdrawals, the gas
+    of blobs, the base fee and the hashes, and the slot. An independent program wrote those with the
+    base fee 5. Those since Amsterdam are by the lists of fields in the drafts of EIP-7928 and
+    EIP-7843.
     Header | f901ed+FIFTEEN
     fields of Header | f901ed+FIFTEEN | 01010101010101010101010101010101010101010101010101010101010\
      10101 0202020202020202020202020202020202020202020202020202020202020202 03030303030303030303030\
@@ -103,8 +141,21 @@ pub(crate) const ROWS: &str = "
      8080808080808080808080808080808080808 09090909090909090909090909090909090909090909090909090909\
      09090909 0a0a0a0a0a0a0a0a0a0a0a0a0a0a0a0a0a0a0a0a0a0a0a0a0a0a0a0a0a0a0a0a
 
-    Lists of 14 to 22 empty strings. Headers of forks have 15, 16, 17, 20 and 21 fields, and an empty
-    string is no hash.
+    Header | f90274+FIFTEEN+05a0+08*32+0607a0+09*32+a0+0a*32+a0+0b*32
+    forks of Header | f90274+FIFTEEN+05a0+08*32+0607a0+09*32+a0+0a*32+a0+0b*32 | 631 1 true Some(6\
+     ) Some(7) 0000000000000000000000000000000000000000000000000000000000000005 08080808080808080808\
+     08080808080808080808080808080808080808080808 0909090909090909090909090909090909090909090909090\
+     909090909090909 0a0a0a0a0a0a0a0a0a0a0a0a0a0a0a0a0a0a0a0a0a0a0a0a0a0a0a0a0a0a0a0a 0b0b0b0b0b0b0\
+     b0b0b0b0b0b0b0b0b0b0b0b0b0b0b0b0b0b0b0b0b0b0b0b0b0b None
+    Header | f90275+FIFTEEN+05a0+08*32+0607a0+09*32+a0+0a*32+a0+0b*32+0c
+    forks of Header | f90275+FIFTEEN+05a0+08*32+0607a0+09*32+a0+0a*32+a0+0b*32+0c | 632 1 true Some\
+     (6) Some(7) 0000000000000000000000000000000000000000000000000000000000000005 08080808080808080\
+     80808080808080808080808080808080808080808080808 0909090909090909090909090909090909090909090909\
+     090909090909090909 0a0a0a0a0a0a0a0a0a0a0a0a0a0a0a0a0a0a0a0a0a0a0a0a0a0a0a0a0a0a0a0a 0b0b0b0b0b\
+     0b0b0b0b0b0b0b0b0b0b0b0b0b0b0b0b0b0b0b0b0b0b0b0b0b0b0b Some(12)
+
+    Lists of 14 to 24 empty strings. Headers of forks have 15, 16, 17, 20, 21, 22 and 23 fields, and
+    an empty string is no hash.
     Header | ce+80*14 | RlpIncorrectListLen
     Header | cf+80*15 | RlpIsTooShort
     Header | d0+80*16 | RlpIsTooShort
@@ -113,11 +164,13 @@ pub(crate) const ROWS: &str = "
     Header | d3+80*19 | RlpIncorrectListLen
     Header | d4+80*20 | RlpIsTooShort
     Header | d5+80*21 | RlpIsTooShort
-    Header | d6+80*22 | RlpIncorrectListLen
+    Header | d6+80*22 | RlpIsTooShort
+    Header | d7+80*23 | RlpIsTooShort
+    Header | d8+80*24 | RlpIncorrectListLen
 
     Too many fields, one or two of the three fields of Cancun, a base fee that begins with a zero, a
     list in the place of a hash, a string, and a short list.
-    Header | f901f4+FIFTEEN+07070707070707 | RlpIncorrectListLen
+    Header | f901f6+FIFTEEN+070707070707070707 | RlpIncorrectListLen
     Header | f90210+FIFTEEN+05a0+08*32+06 | RlpIncorrectListLen
     Header | f90211+FIFTEEN+05a0+08*32+0607 | RlpIncorrectListLen
     Header | f901ee+FIFTEEN+00 | RlpInvalidIndirection
@@ -127,17 +180,19 @@ pub(crate) const ROWS: &str = "
 
     Lists that aren't the fields since London, with what the fault prints: a string, no items, a fee
     that begins with a zero, a list in the place of the root of the withdrawals and of the root of the
-    beacon block, and a hash of the requests of 31 bytes. The last lists have three items, the first
-    of them such a fee, and an item after all fields: a wrong number of items comes first, and has no
-    place.
+    beacon block, hashes of the requests and of the access list of 31 bytes, and a slot that begins
+    with a zero. The last lists have three items, the first of them such a fee, and an item after all
+    fields: a wrong number of items comes first, and has no place.
     London | 05 | RlpExpectedToBeList
     London | c0 | RlpIncorrectListLen
     London | c100 | field 0: RlpInvalidIndirection
     London | c205c0 | field 1: RlpExpectedToBeData
     London | e505a0+08*32+0607c0 | field 4: RlpExpectedToBeData
     London | f86505a0+08*32+0607a0+09*32+9f+0a*31 | field 5: RlpIsTooShort
+    London | f88605a0+08*32+0607a0+09*32+a0+0a*32+9f+0b*31 | field 6: RlpIsTooShort
+    London | f88a05a0+08*32+0607a0+09*32+a0+0a*32+a0+0b*32+82000c | field 7: RlpInvalidIndirection
     London | c300c0c0 | RlpIncorrectListLen
-    London | f86705a0+08*32+0607a0+09*32+a0+0a*32+80 | RlpIncorrectListLen
+    London | f88905a0+08*32+0607a0+09*32+a0+0a*32+a0+0b*32+0c80 | RlpIncorrectListLen
 
     The header of the example of EIP-2481.
     fields of Header | f901f9a00000000000000000000000000000000000000000000000000000000000000000a000\
@@ -217,6 +272,33 @@ pub(crate) const ROWS: &str = "
     kind of TypedReceipt | b9010c03f9010801825208b90100+00*256+c0 | blob
     kind of TypedReceipt | b9010c04f9010801825208b90100+00*256+c0 | set code
 
+    Receipts of types that aren't known are kept: that of a deposit of the OP stack, and those without a
+    payload or with any, by themselves also with a byte more. 0 and 5 are no types.
+    AnyReceipt | f9010801825208b90100+00*256+c0
+    AnyReceipt | b9010c02f9010801825208b90100+00*256+c0
+    AnyReceipt | b901107ef9010c0182b741b90100+00*256+c0833d3bbf
+    AnyReceipt | 06
+    AnyReceipt | 827f05
+    AnyReceipt alone | 04f9010801825208b90100+00*256+c0
+    AnyReceipt alone | 7ec101 | 7ec101
+    AnyReceipt alone | 06 | 06
+    type of AnyReceipt | f9010801825208b90100+00*256+c0 | 0
+    type of AnyReceipt | b9010c01f9010801825208b90100+00*256+c0 | 1
+    type of AnyReceipt | b9010c02f9010801825208b90100+00*256+c0 | 2
+    type of AnyReceipt | b9010c03f9010801825208b90100+00*256+c0 | 3
+    type of AnyReceipt | b9010c04f9010801825208b90100+00*256+c0 | 4
+    type of AnyReceipt | b901107ef9010c0182b741b90100+00*256+c0833d3bbf | 126
+    AnyReceipt | 00 | Custom(\"unknown transaction type\")
+    AnyReceipt | 8205c0 | Custom(\"unknown transaction type\")
+    AnyReceipt | 8180 | Custom(\"unknown transaction type\")
+    AnyReceipt | 80 | RlpIsTooShort
+    AnyReceipt | 8201c0 | RlpIncorrectListLen
+    AnyReceipt | c0 | RlpIncorrectListLen
+    AnyReceipt alone |  | RlpIsTooShort
+    AnyReceipt alone | 00c0 | Custom(\"unknown transaction type\")
+    AnyReceipt alone | 05c0 | Custom(\"unknown transaction type\")
+    AnyReceipt alone | 80c0 | Custom(\"unknown transaction type\")
+
     Bytes that are no receipts, as items and by themselves.
     TypedReceipt |  | RlpIsTooShort
     TypedReceipt | 80 | RlpIsTooShort
@@ -251,8 +333,12 @@ fn payment(alloc: Global) -> Signed<FeeMarketTransaction> {
     Signed {
         payload,
         v: false,
-        r: Uint::<32>::from(1),
-        s: Uint::<32>::from(2),
+        r: NonZeroScalar {
+            number: Uint::<32>::from(1),
+        },
+        s: NonZeroScalar {
+            number: Uint::<32>::from(2),
+        },
     }
 }
 
@@ -275,8 +361,12 @@ fn creation(alloc: Global) -> Result<Signed<AccessListTransaction>, AllocError> 
     Ok(Signed {
         payload,
         v: true,
-        r: Uint::<32>::from(1),
-        s: Uint::<32>::from(2),
+        r: NonZeroScalar {
+            number: Uint::<32>::from(1),
+        },
+        s: NonZeroScalar {
+            number: Uint::<32>::from(2),
+        },
     })
 }
 

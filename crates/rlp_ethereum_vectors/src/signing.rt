@@ -4,8 +4,8 @@ use crate::reading::{Alone, Bare, digits, ways};
 use bytes::BytesMut;
 use rlp::DecoderError;
 use rlp_ethereum::{
-    BlobTransactionWithCellProofs, BlobTransactionWithProofs, DepositTransaction, Enveloped,
-    Transaction,
+    BlobTransactionWithCellProofs, BlobTransactionWithProofs, DepositReceipt, DepositTransaction,
+    Enveloped, Transaction,
 };
 use rlp_rows::{Hex, Line};
 use std::alloc::{AllocError, Global};
@@ -106,6 +106,34 @@ pub(crate) const ROWS: &str = "
     Transaction alone | 04e1+80*5+94+35*20+8080c0c0020102 | Custom(\"invalid boolean value\")
     Transaction alone | 01cd+80*7+c08201000102 | RlpIsTooBig
     Transaction alone | 01cb+80*7+c0000102 | RlpInvalidIndirection
+    What is signed of the example of EIP-155 for Polygon, chain 137, is no signed transaction.
+    Transaction alone | ed098504a817c800825208943535353535353535353535353535353535353535880de0b6b3a\
+     76400008081898080 | Custom(\"not a scalar of a signature\")
+    UnsignedTransaction alone | ed098504a817c800825208943535353535353535353535353535353535353535880\
+     de0b6b3a76400008081898080
+    signed: numbers | ed098504a817c800825208943535353535353535353535353535353535353535880de0b6b3a76\
+     400008081898080 | Some(137) 9 21000
+    Each number of a signature is from 1 to below the order of the group, in SEC 2.
+    Transaction alone | c98080808080801b8002 | Custom(\"not a scalar of a signature\")
+    Transaction alone | c98080808080801b0180 | Custom(\"not a scalar of a signature\")
+    Transaction alone | e98080808080801ba0fffffffffffffffffffffffffffffffebaaedce6af48a03bbfd25e8cd\
+     036414102 | Custom(\"not a scalar of a signature\")
+    Transaction alone | e98080808080801b01a0fffffffffffffffffffffffffffffffebaaedce6af48a03bbfd25e8\
+     cd0364141 | Custom(\"not a scalar of a signature\")
+    Transaction alone | e98080808080801ba0fffffffffffffffffffffffffffffffebaaedce6af48a03bbfd25e8cd\
+     036414002
+    Transaction alone | e98080808080801b01a0fffffffffffffffffffffffffffffffebaaedce6af48a03bbfd25e8\
+     cd0364140
+    Transaction alone | e98080808080801ba0fffffffffffffffffffffffffffffffffffffffffffffffffffffffff\
+     fffffff02 | Custom(\"not a scalar of a signature\")
+    Transaction alone | 01cb+80*7+c0018002 | Custom(\"not a scalar of a signature\")
+    Transaction alone | 01cb+80*7+c0010180 | Custom(\"not a scalar of a signature\")
+    A second number is low up to half of the order, rounded down, in EIP-2.
+    signing: low s | e98080808080801b01a07fffffffffffffffffffffffffffffff5d576e7357a4501ddfe92f4668\
+     1b20a0 | true
+    signing: low s | e98080808080801b01a07fffffffffffffffffffffffffffffff5d576e7357a4501ddfe92f4668\
+     1b20a1 | false
+    signing: low s | 01cb+80*7+c0010102 | true
     With one blob of zeros, as in EIP-4844 and EIP-7594.
     sent: with proofs | 03fa0200b1+f843018002030494+35*20+0780c008e1a001+00*31+800102+fa020004ba02\
      0000+00*131072+f1b0c0+00*47+f1b0c0+00*47
@@ -137,6 +165,19 @@ pub(crate) const ROWS: &str = "
      00000000000000000000000000000000000000000000000000000000000f4240
     sent: deposit | 7ec0 | RlpIncorrectListLen
     sent: deposit | 02c0 | Custom(\"another type\")
+    Receipts of deposits: those of the tests of reth's OP stack, since Regolith with the nonce 4012991,
+    and since Canyon with the version 1. Before Regolith there is neither, as in Ethereum's receipts,
+    and a version without a nonce isn't possible. Then seven fields, three, and a version in two bytes.
+    sent: deposit receipt | 7ef9010c0182b741b90100+00*256+c0833d3bbf
+    sent: deposit receipt | 7ef9010d0182b741b90100+00*256+c0833d3bbf01
+    sent: deposit receipt | 7ef901080182b741b90100+00*256+c0
+    sent: deposit receipt | 7ef9010e0182b741b90100+00*256+c0833d3bbf0101 | RlpIncorrectListLen
+    sent: deposit receipt | 7ec30102c0 | RlpIncorrectListLen
+    sent: deposit receipt | 7ef9010f0182b741b90100+00*256+c0833d3bbf820001 | RlpInvalidIndirection
+    sent: deposit receipt | 01f9010c0182b741b90100+00*256+c0833d3bbf | Custom(\"another type\")
+    sent: since Regolith | 7ef9010c0182b741b90100+00*256+c0833d3bbf | 46913 Some(4012991) None
+    sent: since Regolith | 7ef9010d0182b741b90100+00*256+c0833d3bbf01 | 46913 Some(4012991) Some(1)
+    sent: since Regolith | 7ef901080182b741b90100+00*256+c0 | 46913 None None
     Statuses of receipts, of which the third is in the trie of the receipts of block 46,147.
     TypedReceipt | f9010801825208b90100+00*256+c0
     TypedReceipt | f9010880825208b90100+00*256+c0
@@ -169,8 +210,21 @@ pub(crate) fn tell_sent(alloc: Global, name: &str, bytes: &[u8], out: &mut Line)
         "with cell proofs" => {
             ways::<Alone<Sent<BlobTransactionWithCellProofs>>>(alloc, bytes, out)
         }
+        "deposit receipt" => ways::<Alone<Sent<DepositReceipt>>>(alloc, bytes, out),
+        "since Regolith" => tell_regolith(alloc, bytes, out),
         _ => ways::<Alone<Sent<DepositTransaction>>>(alloc, bytes, out),
     }
+}
+
+/// Tells the gas of the receipt of a deposit, and what it has since Regolith and Canyon.
+fn tell_regolith(alloc: Global, bytes: &[u8], out: &mut Line) -> fmt::Result {
+    let Ok(receipt) = DepositReceipt::from_bytes(alloc, bytes) else {
+        return out.write_str("not read");
+    };
+    let since = receipt.since_regolith;
+    out.debug(receipt.cumulative_gas_used)?;
+    out.then(since.map(|regolith| regolith.deposit_nonce))?;
+    out.then(since.and_then(|regolith| regolith.deposit_receipt_version))
 }
 
 /// Tells what is signed of a transaction.
@@ -205,6 +259,11 @@ pub(crate) fn tell_parity(signed: &Transaction, out: &mut Line) -> fmt::Result {
         Transaction::Legacy(tx) => out.debug(tx.y_parity()),
         _ => Err(fmt::Error),
     }
+}
+
+/// Tells whether the second number of the signature is low.
+pub(crate) fn tell_low(signed: &Transaction, out: &mut Line) -> fmt::Result {
+    out.debug(signed.has_low_s())
 }
 
 /// Tells the type, the chain, the two fees as they are written, and whether there is a price of gas.

@@ -4,7 +4,7 @@
 
 use crate::fields::{second, tell_parts, tell_second, tell_typed};
 use crate::reading::{Alone, digits, fault, made, ways};
-use crate::signing::{tell_again, tell_fees, tell_parity, tell_payload};
+use crate::signing::{tell_again, tell_fees, tell_low, tell_parity, tell_payload};
 use rlp::Uint;
 use rlp_ethereum::{
     Address, Authorization, LegacyTransaction, Recipient, Tagged, Transaction,
@@ -136,23 +136,30 @@ pub(crate) const ROWS: &str = "
     An envelope with a byte after the payload.
     Transaction | 9e02db0108843b9aca008504a817c800825208800600c08082333382444400 | RlpIsTooBig
 
-    Transactions of types that aren't known, in a block: types 5, 0 and 0x7f, two without a payload.
-    By themselves they have any payload, also with a byte more. Then strings whose first byte is no
-    type, and a known type whose payload is at fault.
-    AnyTransaction | 8205c0
-    AnyTransaction | 00
+    Transactions of types that aren't known, in a block: types 6 and 0x7f, two without a payload. By
+    themselves they have any payload, also with a byte more. Then strings whose first byte is no
+    type, also 0, which EIP-2718 excludes, and 5, the byte of EIP-7702 before what is signed of an
+    authorization, and a known type whose payload is at fault.
+    AnyTransaction | 8206c0
+    AnyTransaction | 06
     AnyTransaction | 7f
     AnyTransaction | 9d+FEE_MARKET
     AnyTransaction | SIGNED
     AnyTransaction alone | FEE_MARKET
-    AnyTransaction alone | 05c0 | 05c0
+    AnyTransaction alone | 06c0 | 06c0
     AnyTransaction | 80 | RlpIsTooShort
+    AnyTransaction | 00 | Custom(\"unknown transaction type\")
+    AnyTransaction | 05 | Custom(\"unknown transaction type\")
+    AnyTransaction | 8205c0 | Custom(\"unknown transaction type\")
     AnyTransaction | 8180 | Custom(\"unknown transaction type\")
     AnyTransaction | 82ffc0 | Custom(\"unknown transaction type\")
     AnyTransaction | 8105 | RlpInvalidIndirection
     AnyTransaction | 01 | RlpExpectedToBeList
     AnyTransaction | 8202c0 | RlpIncorrectListLen
     AnyTransaction alone |  | RlpIsTooShort
+    AnyTransaction alone | 00 | Custom(\"unknown transaction type\")
+    AnyTransaction alone | 00c0 | Custom(\"unknown transaction type\")
+    AnyTransaction alone | 05c0 | Custom(\"unknown transaction type\")
     AnyTransaction alone | 80c0 | Custom(\"unknown transaction type\")
     AnyTransaction alone | 04c0 | RlpIncorrectListLen
 
@@ -352,6 +359,7 @@ fn tell_of(alloc: Global, name: &str, signed: &Transaction, out: &mut Line) -> f
         "what is signed" => tell_payload(alloc, signed, out),
         "fees" => tell_fees(alloc, signed, out),
         "parity" => tell_parity(signed, out),
+        "low s" => tell_low(signed, out),
         _ => match second(signed) {
             Some(second) => digits(second.payload.signing_payload(alloc), out),
             None => Err(fmt::Error),

@@ -4,7 +4,9 @@ use Rattle.std.specs.Prelude.{Option, refl}
 use Rattle.std.specs.Vec.{vec_items}
 use Rattle.rlp.specs.Codec.{Codec, Fields, byte_array, byte_string, field, number, optional_group, struct_of, uint}
 use Rattle.rlp_headers.specs.declared.header.Header.{Header}
+use Rattle.rlp_headers.specs.declared.header.forks.Amsterdam.{Amsterdam}
 use Rattle.rlp_headers.specs.declared.header.forks.Cancun.{Cancun}
+use Rattle.rlp_headers.specs.declared.header.forks.Prague.{Prague}
 use Rattle.rlp_headers.specs.declared.header.forks.Shanghai.{Shanghai}
 use Rattle.rlp_records.specs.Address.{address}
 use Rattle.rlp_headers.specs.Bloom.{bloom}
@@ -43,3 +45,11 @@ since_shanghai h = option_and_then (λ l. l.since_shanghai) h.since_london
 -- what a header has since Cancun
 abbrev pub since_cancun : Header → Option Cancun
 since_cancun h = option_and_then (λ s. s.since_cancun) (since_shanghai h)
+
+-- what a header has since Prague
+abbrev pub since_prague : Header → Option Prague
+since_prague h = option_and_then (λ c. c.since_prague) (since_cancun h)
+
+-- what a header has since Amsterdam
+abbrev pub since_amsterdam : Header → Option Amsterdam
+since_amsterdam h = option_and_then (λ p. p.since_amsterdam) (since_prague h)

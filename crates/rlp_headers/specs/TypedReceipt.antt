@@ -28,3 +28,11 @@ typed_receipt = newtype receipt_as_sum (list_or_string receipt (enveloped typed_
 -- what the bytes of a receipt give by themselves
 abbrev pub receipt_alone : List ℕ → Answer typed_receipt.reading.M Fault
 receipt_alone d = read_alone receipt.reading.read typed_receipts.cases.read d
+
+-- the number of the transaction's type, and 0 without one
+abbrev pub receipt_type : TypedReceipt → ℕ
+receipt_type (Legacy r) = 0
+receipt_type (AccessList r) = 1
+receipt_type (FeeMarket r) = 2
+receipt_type (Blob r) = 3
+receipt_type (SetCode r) = 4

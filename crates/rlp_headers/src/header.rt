@@ -1,15 +1,15 @@
-//! Headers of the blocks of all forks up to Prague.
+//! Headers of the blocks of all forks up to Amsterdam.
 
 ghost use Rattle.std.specs.Option.{option_copied};
 ghost use Rattle.std.specs.Prelude.{◌≡◌, IfOk, OnOk};
 ghost use Rattle.rlp.specs.Format.Encoding.{encoding};
 ghost use Rattle.rlp_records.specs.Hashing.{IsHashOf};
-ghost use Rattle.rlp_headers.specs.Header.{since_cancun, since_shanghai, header};
+ghost use Rattle.rlp_headers.specs.Header.{header, since_amsterdam, since_cancun, since_prague, since_shanghai};
 
 mod forks;
 
 use crate::Bloom;
-pub use forks::{Cancun, London, Shanghai};
+pub use forks::{Amsterdam, Cancun, London, Prague, Shanghai};
 use rlp::{
     Decodable, DecodePlaced, DecoderError, Encodable, OptionalGroup, OptionalGroupOf, Rlp,
     RlpStream, RoundTrip, StrictRead, Uint,
@@ -20,9 +20,10 @@ use std::alloc::{AllocError, Global};
 /// The header of a block: the list of fifteen fields, and of those that later forks added.
 ///
 /// See section 4.4 of the yellow paper, and the EIPs of the fields. A list of 15 items is a header
-/// of the first forks, and one of 16, 17, 20 or 21 items is a header since [`London`], [`Shanghai`],
-/// [`Cancun`] or Prague. A list with any other number of items fails with `RlpIncorrectListLen`. A
-/// header that has the fields of a fork also has the fields of every earlier fork.
+/// of the first forks, and one of 16, 17, 20, 21 or 22 items is a header since [`London`],
+/// [`Shanghai`], [`Cancun`], [`Prague`] or [`Amsterdam`]; with the slot's number, since Amsterdam it
+/// has 23. A list with any other number of items fails with `RlpIncorrectListLen`. A header that has
+/// the fields of a fork also has the fields of every earlier fork.
 #[derive(Debug, Clone, PartialEq, Eq, Drop)]
 pub struct Header {
     /// The hash of the parent's header.
@@ -76,6 +77,26 @@ impl Header {
     {
         match self.shanghai() {
             Some(shanghai) => shanghai.since_cancun.as_ref(),
+            None => None,
+        }
+    }
+
+    /// What came with Prague and later, or `None` in blocks before Prague.
+    pub fn prague(&self) -> Option<&Prague>
+        ensures { option_copied result ≡ since_prague self.now }
+    {
+        match self.cancun() {
+            Some(cancun) => cancun.since_prague.as_ref(),
+            None => None,
+        }
+    }
+
+    /// What came with Amsterdam, or `None` in blocks before Amsterdam.
+    pub fn amsterdam(&self) -> Option<&Amsterdam>
+        ensures { option_copied result ≡ since_amsterdam self.now }
+    {
+        match self.prague() {
+            Some(prague) => prague.since_amsterdam.as_ref(),
             None => None,
         }
     }

@@ -1,9 +1,13 @@
-//! Headers of blocks, and what they commit to: receipts, withdrawals and accounts.
+//! Headers of blocks, and what they commit to: receipts, withdrawals, accounts and access lists.
 #![tactic(auto)]
 
 mod account;
+mod any_receipt;
+mod block_access_list;
 mod bloom;
+mod deposit_receipt;
 mod header;
+pub mod laws;
 mod log;
 mod receipt;
 mod receipt_status;
@@ -11,8 +15,11 @@ mod typed_receipt;
 mod withdrawal;
 
 pub use account::Account;
+pub use any_receipt::AnyReceipt;
+pub use block_access_list::{AccountChanges, BlockAccessList, SlotChanges, StateChange};
 pub use bloom::Bloom;
-pub use header::{Cancun, Header, London, Shanghai};
+pub use deposit_receipt::{DepositReceipt, Regolith};
+pub use header::{Amsterdam, Cancun, Header, London, Prague, Shanghai};
 pub use log::Log;
 pub use receipt::Receipt;
 pub use receipt_status::ReceiptStatus;

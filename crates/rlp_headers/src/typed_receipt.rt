@@ -6,7 +6,7 @@ ghost use Rattle.rlp.specs.DecoderError.TheVariants.{OutOfMemory};
 ghost use Rattle.rlp.specs.Views.View.{strict_view_of};
 ghost use Rattle.rlp.specs.Form.{IsPlaced, fault_of, map_value};
 ghost use Rattle.rlp_records.specs.Alone.{bytes_alone};
-ghost use Rattle.rlp_headers.specs.TypedReceipt.{receipt_alone, typed_receipt, typed_receipts};
+ghost use Rattle.rlp_headers.specs.TypedReceipt.{receipt_alone, receipt_type, typed_receipt, typed_receipts};
 
 use crate::Receipt;
 use bytes::BytesMut;
@@ -86,6 +86,20 @@ impl TypedReceipt {
         match Envelope::split(bytes) {
             Ok(envelope) => put_payload_path(alloc, &envelope, path),
             Err(_) => Ok(()),
+        }
+    }
+
+    /// Returns the number of the transaction's type, as in EIP-2718, or 0 for the receipt of a
+    /// transaction without a type.
+    pub fn transaction_type(&self) -> u8
+        ensures { result ≡ receipt_type self.now }
+    {
+        match self {
+            TypedReceipt::Legacy(_) => 0,
+            TypedReceipt::AccessList(_) => ACCESS_LIST_TYPE,
+            TypedReceipt::FeeMarket(_) => FEE_MARKET_TYPE,
+            TypedReceipt::Blob(_) => BLOB_TYPE,
+            TypedReceipt::SetCode(_) => SET_CODE_TYPE,
         }
     }
 }

@@ -2,7 +2,7 @@
 
 use crate::reading::fault;
 use rlp::Decodable;
-use rlp_ethereum::{AnyTransaction, PooledTransaction, TypedReceipt};
+use rlp_ethereum::{AnyReceipt, AnyTransaction, PooledTransaction};
 use rlp_messages::{
     BlockBodies, BlockHeaders, Disconnect, Hello, NewBlock, PooledTransactions, Receipts,
     Receipts69, Transactions, WithRequestId,
@@ -129,24 +129,12 @@ impl Told for NewBlock {
     }
 }
 
-/// Returns the name of the type of a receipt.
-fn kind(receipt: &TypedReceipt) -> &'static str {
-    match receipt {
-        TypedReceipt::Legacy(_) => "legacy",
-        TypedReceipt::AccessList(_) => "access list",
-        TypedReceipt::FeeMarket(_) => "fee market",
-        TypedReceipt::Blob(_) => "blob",
-        TypedReceipt::SetCode(_) => "set code",
-    }
-}
-
 /// The types of the receipts of each block.
 impl Told for Receipts {
     fn tell(&self, out: &mut Line) -> fmt::Result {
         for block in self.0.iter() {
             for receipt in block.0.iter() {
-                out.write_str(" ")?;
-                out.write_str(kind(receipt))?;
+                out.then(receipt.transaction_type())?;
             }
             out.write_str(";")?;
         }

@@ -110,9 +110,10 @@ pub(crate) const ROWS: &str = "
     Transactions | c1c0 | RlpIncorrectListLen
     Transactions | c28180 | Custom(\"unknown transaction type\")
 
-    Two transactions of types that aren't known, of which the first has no payload.
-    Transactions | c40582067f
-    fields of Transactions | c40582067f | type 5 0 0, type 6 0 0,
+    Two transactions of types that aren't known, of which the first has no payload. 5 is no type.
+    Transactions | c40682077f
+    fields of Transactions | c40682077f | type 6 0 0, type 7 0 0,
+    Transactions | c40582067f | Custom(\"unknown transaction type\")
 ";
 
 /// Returns the greeting.

@@ -109,11 +109,18 @@ pub(crate) const ROWS: &str = "
      53535880de0b6b3a764000080c0800102c0d9d80102940303030303030303030303030303030303030303\
      04 | 2: 2 0; 2 0;
     Receipts | f90172820457f9016cf90169f901668001b90100+00*256+LOGS
-    fields of Receipts | f90172820457f9016cf90169f901668001b90100+00*256+LOGS | 1111: legacy;
+    fields of Receipts | f90172820457f9016cf90169f901668001b90100+00*256+LOGS | 1111: 0;
     Receipts | f9039203f9038ef90278f9010801825208b90100+00*256+c0b9016a02f901668001b90100+00*256+LO\
      GS+c0f9010fb9010c03f9010801825208b90100+00*256+c0
     fields of Receipts | f9039203f9038ef90278f9010801825208b90100+00*256+c0b9016a02f901668001b90100\
-     +00*256+LOGS+c0f9010fb9010c03f9010801825208b90100+00*256+c0 | 3: legacy fee market;; blob;
+     +00*256+LOGS+c0f9010fb9010c03f9010801825208b90100+00*256+c0 | 3: 0 2;; 3;
+    The answer 3 with the receipts of a block of the OP stack: of a legacy transaction, of a deposit, and
+    of a type without a payload. Worked out by hand. 5 is no type.
+    Receipts | f9022703f90223f90220f9010801825208b90100+00*256+c0b901117ef9010d0182b741b90100+00*2\
+     56+c0833d3bbf0106
+    fields of Receipts | f9022703f90223f90220f9010801825208b90100+00*256+c0b901117ef9010d0182b741b\
+     90100+00*256+c0833d3bbf0106 | 3: 0 126 6;
+    Receipts | c403c2c105 | Custom(\"unknown transaction type\")
 ";
 
 /// Returns the request for five headers downwards, with seven blocks skipped before each next one.

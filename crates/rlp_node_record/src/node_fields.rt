@@ -61,6 +61,8 @@ impl DecodeFields for NodePair {
     fn decode_fields(alloc: Global, fields: &mut Fields<'_>) -> Result<NodePair, DecoderError> {
         rlp::decode_fields!(fields alloc, fields, NodePair { key, value })
     }
+
+    ghost possible = { pair_fields.laws.possible };
 }
 
 impl DecodeFieldsPlaced for NodePair {

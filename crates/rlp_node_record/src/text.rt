@@ -28,7 +28,8 @@ impl NodeRecord {
     ///
     /// Fails with `Custom("text does not begin with enr:")`, with `Custom("text is not base64")` if
     /// what follows isn't URL-safe base64 without padding, with the fault that
-    /// [`rlp::decode_strict`] finds in the bytes, and with `OutOfMemory` if memory is refused.
+    /// [`rlp::decode_strict`] finds in the bytes, and with `OutOfMemory` if memory is refused. Bits of
+    /// the last digit that belong to no byte must be 0; some clients ignore them.
     pub fn from_text(alloc: Global, text: &str) -> Result<NodeRecord, DecoderError>
         ensures value { IfOk result (λ r. IsNodeRecord r × (text.now ≡ node_text r)) }
         ensures fault { IfErr result (λ e. IsNodeTextFault text.now e

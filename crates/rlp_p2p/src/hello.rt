@@ -123,6 +123,8 @@ impl DecodeFields for FurtherItem {
     fn decode_fields(alloc: Global, fields: &mut Fields<'_>) -> Result<FurtherItem, DecoderError> {
         rlp::decode_fields!(fields alloc, fields, FurtherItem { item })
     }
+
+    ghost possible = { further_fields.laws.possible };
 }
 
 impl DecodeFieldsPlaced for FurtherItem {

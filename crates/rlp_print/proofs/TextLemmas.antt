@@ -1,17 +1,8 @@
--- Which digits are the digits of zero, which bytes are words, and which rows the headers of lists have.
-use Rattle.std.proofs.Common.{◌≡◌, ◌≢◌, ◌==◌, ◌∙◌, ℕ, zero, suc, ◌+◌, ◌-◌, ◌*◌, Bool, true, false, List, [], ◌∷◌, IsUtf8, codes, refl, ap, arith, ne_eqb, sym}
+-- Which bytes are words, and which rows the headers of lists have.
+use Rattle.std.proofs.Common.{◌≡◌, ◌≢◌, ◌==◌, ◌∙◌, ℕ, zero, suc, ◌-◌, Bool, true, false, List, [], ◌∷◌, IsUtf8, codes, refl, ap, arith}
 use Rattle.std.proofs.lemmas.{Bool.Decides.nat_tests, Bool.cond-false, Bool.cond-true, Str.IsUtf8-from_ascii}
-use Rattle.std.specs.{Prelude.◌&&◌, Int.Digits.number_from_digits_after, List.list_all, Str.IsAscii}
+use Rattle.std.specs.{Prelude.◌&&◌, List.list_all, Str.IsAscii}
 use Rattle.rlp_print.specs.{Dump.Dump, Dump.enter_lists, Dump.list_header, Dump.row, Lines.begins_with_letter, Lines.is_word, Lines.is_word_byte}
-
-positive : (n : ℕ) (ds : List ℕ) → n ≢ 0 → (number_from_digits_after 256 n ds == 0) ≡ false
-positive n [] some = ne_eqb n 0 some
-positive n (d ∷ ds) some = positive (n * 256 + d) ds (λ none. some (omega (arith, none)))
-
-pub zero_digits : (ds : List ℕ) → list_all (λ d. d == 0) ds ≡ (number_from_digits_after 256 0 ds == 0)
-zero_digits [] = refl
-zero_digits (zero ∷ ds) = zero_digits ds
-zero_digits (suc d ∷ ds) = ap (λ b. b && list_all (λ d. d == 0) ds) (ne_eqb (suc d) 0 (omega arith)) ∙ sym (positive (0 * 256 + suc d) ds (omega arith))
 
 -- words are text
 ascii : (d : List ℕ) → list_all is_word_byte d ≡ true → IsAscii d

@@ -2,18 +2,26 @@
 use Rattle.std.specs.Prelude.{codes, ℕ, List, length, map}
 use Rattle.keccak.specs.Keccak.{keccak256}
 use Rattle.rlp_headers.specs.{Header.header, declared.header.Header.Header}
-use Rattle.rlp_headers.specs.Forks.{cancun_fields, london_fields, shanghai_fields}
+use Rattle.rlp_headers.specs.Forks.{amsterdam_fields, cancun_fields, london_fields, prague_fields, shanghai_fields}
 use Rattle.rlp_ethereum.specs.{Block.block, Body.body}
 use Rattle.rlp_print.specs.Display.{Display, Fields, a_list, a_number, a_string, after_derived, an_object, bytes_as, derived, end, field, if_there, in_forms, in_order, one, one_if, same, through}
 use Rattle.rlp_print.specs.{Records.hash_entries, Records.withdrawal_display, Records.written, Transactions.any_transaction_display}
 use Rattle.rlp_print.specs.declared.sink.BytesKind.TheVariants.{Sparse}
 
 -- what forks added
+abbrev pub amsterdam_display : Fields amsterdam_fields.reading.M
+amsterdam_display =
+    field (codes "block_access_list_hash") (codes "blockAccessListHash") a_string (
+    one_if (codes "slot_number") (codes "slotNumber") a_number)
+
+abbrev pub prague_display : Fields prague_fields.reading.M
+prague_display = field (codes "requests_hash") (codes "requestsHash") a_string (if_there amsterdam_display)
+
 abbrev pub cancun_display : Fields cancun_fields.reading.M
 cancun_display =
     field (codes "blob_gas_used") (codes "blobGasUsed") a_number (field (codes "excess_blob_gas") (codes "excessBlobGas") a_number (
     field (codes "parent_beacon_block_root") (codes "parentBeaconBlockRoot") a_string (
-    one_if (codes "requests_hash") (codes "requestsHash") a_string)))
+    if_there prague_display)))
 
 abbrev pub shanghai_display : Fields shanghai_fields.reading.M
 shanghai_display = field (codes "withdrawals_root") (codes "withdrawalsRoot") a_string (if_there cancun_display)

@@ -1,10 +1,12 @@
 -- What is shown of withdrawals, accounts, logs and receipts, and of the fault of a record.
-use Rattle.std.specs.Prelude.{codes, refl, ℕ, List, ◌≡◌, Option, Some, None}
+use Rattle.std.specs.Prelude.{codes, refl, ℕ, Bool, true, false, List, drop, ◌≡◌, Option, Some, None}
+use Rattle.std.proofs.Common.{inl, inr, sym, ap, ◌∙◌}
 use Rattle.rlp.specs.{Form.Reading, Format.Encoding.encoding}
-use Rattle.rlp_headers.specs.{Account.account, Log.log, Receipt.receipt_fields, ReceiptStatus.receipt_status, TypedReceipt.typed_receipt, Withdrawal.withdrawal}
-use Rattle.rlp_print.specs.Display.{Display, Fields, a_bit, a_list, a_number, a_string, a_text, after_derived, an_object, and_type, bytes_as, end, field, field_if, in_order, last_type, no_type_entries, number_as, of_type, one, same}
-use Rattle.rlp_print.specs.Value.{Entries, bytes, content, entry, by_form}
-use Rattle.rlp_print.specs.declared.{sink.NumberKind.TheVariants.Place, sink.BytesKind.TheVariants.Any, sink.BytesKind.TheVariants.Sparse}
+use Rattle.rlp_records.specs.OtherEnvelope.{other_type}
+use Rattle.rlp_headers.specs.{Account.account, AnyReceipt.any_receipt, Log.log, Receipt.receipt_fields, ReceiptStatus.receipt_status, TypedReceipt.typed_receipt, Withdrawal.withdrawal}
+use Rattle.rlp_print.specs.Display.{Display, Fields, a_bit, a_list, a_number, a_string, a_text, a_type, after_derived, an_object, and_type, bytes_as, either, end, field, field_if, in_order, last_type, no_type_entries, number_as, of_type, one, same, through}
+use Rattle.rlp_print.specs.Value.{Entries, both, bytes, content, entry, by_form}
+use Rattle.rlp_print.specs.declared.{sink.NumberKind.TheVariants.Place, sink.BytesKind.TheVariants.Any, sink.BytesKind.TheVariants.Payload, sink.BytesKind.TheVariants.Sparse}
 
 -- An object with the one member `error`: the place of a field, if the fault is in one; the name of an item; and the fault.
 abbrev pub fault_display : Display (Option ℕ × (List ℕ × List ℕ))
@@ -54,10 +56,37 @@ receipt_display =
     field (codes "cumulative_gas_used") (codes "cumulativeGasUsed") a_number (
     field (codes "logs_bloom") (codes "logsBloom") (bytes_as Sparse) (same (codes "logs") (a_list log_display) end)))
 
--- receipts of all types
-abbrev pub typed_receipt_display : Display typed_receipt.reading.M
-typed_receipt_display = an_object (
+-- receipts of the types that are known
+abbrev pub receipt_by_type_display : Fields typed_receipt.reading.M
+receipt_by_type_display = (
     and_type 0 (after_derived (λ r. no_type_entries) receipt_display) (λ r. refl) (
     and_type 1 (of_type 1 receipt_display) (λ r. refl) (
     and_type 2 (of_type 2 receipt_display) (λ r. refl) (
     and_type 3 (of_type 3 receipt_display) (λ r. refl) (last_type 4 (of_type 4 receipt_display) (λ r. refl)))))).fields
+
+abbrev pub typed_receipt_display : Display typed_receipt.reading.M
+typed_receipt_display = an_object receipt_by_type_display
+
+-- a transaction or a receipt of a type that isn't known: the number of the type, and the payload
+abbrev pub other_display : Fields (List ℕ)
+other_display = through (λ d. (other_type d, drop 1 d)) (
+    same (codes "type") a_type (one (codes "payload") (codes "payload") (bytes_as Payload)))
+
+-- a known type isn't shown as another: only of another is the second of two fields the last
+abbrev pub ends_second : Entries → Bool
+ends_second (both first (entry name json v)) = true
+ends_second es = false
+
+pub other_apart : {M : Type 0} (f : Fields M) → ((m : M) → ends_second (f.shown m) ≡ false) → (m : M) (d : List ℕ) → f.shown m ≡ other_display.shown d → ⊥
+other_apart f goes_on m d is = let both : false ≡ true = sym (goes_on m) ∙ ap ends_second is in cc
+
+pub goes_on : (r : typed_receipt.reading.M) → ends_second (receipt_by_type_display.shown r) ≡ false
+goes_on (inl r) = refl
+goes_on (inr (inl r)) = refl
+goes_on (inr (inr (inl r))) = refl
+goes_on (inr (inr (inr (inl r)))) = refl
+goes_on (inr (inr (inr (inr r)))) = refl
+
+-- receipts of all types: of one that isn't known, the number of the type and the payload
+abbrev pub any_receipt_display : Display any_receipt.reading.M
+any_receipt_display = an_object (either receipt_by_type_display other_display (other_apart receipt_by_type_display goes_on))

@@ -1,21 +1,21 @@
 -- What is shown of transactions of all types, with their signatures and without, and as they are sent with their blobs.
-use Rattle.std.specs.Prelude.{ℕ, List, codes, refl, ◌≡◌, ◌==◌, ◌&&◌, if◌then◌else◌, Bool, true, false, ◌∷◌, Option, Some, None, option_map, drop, length, [], ⊤}
-use Rattle.std.proofs.Common.{inl, inr, ap, arith, sym, ◌∙◌}
+use Rattle.std.specs.Prelude.{ℕ, List, codes, refl, ◌≡◌, Bool, true, false, ◌∷◌, Option, Some, None, option_map, length, [], ⊤}
+use Rattle.std.proofs.Common.{inl, inr, ap, arith}
 use Rattle.keccak.specs.Keccak.{keccak256}
 use Rattle.rlp.specs.{Format.Encoding.encoding, Format.Encoding.list_of, Form.FieldsReading}
 use Rattle.rlp_records.specs.Alone.{bytes_alone}
-use Rattle.rlp_transactions.specs.{declared.eip155.Eip155.Eip155, Eip155.said_by, Signatures.number_of, UnsignedTransaction.unsigned_transaction}
+use Rattle.rlp_transactions.specs.{declared.eip155.Eip155.Eip155, Eip155.said_by, NonZeroScalar.scalar_value, UnsignedTransaction.unsigned_transaction}
 use Rattle.rlp_transactions.specs.declared.signed.Signed.{Signed}
 use Rattle.rlp_transactions.specs.{Access.access_list, Access.access_list_item, AccessListTransaction.access_list_transaction_fields, AnyTransaction.any_transaction, Authorization.authorization_fields}
 use Rattle.rlp_transactions.specs.{Authorization.signed_authorization, BlobTransaction.blob_transaction_fields, BlobTransaction.signed_blob_transaction, Recipient.recipient}
 use Rattle.rlp_transactions.specs.{BlobWrapper.with_cell_proofs, BlobWrapper.with_proofs, FeeMarketTransaction.fee_market_transaction_fields, Transaction.transaction}
-use Rattle.rlp_transactions.specs.{LegacyTransaction.legacy_transaction_fields, LegacyTransaction.signed_legacy_transaction, OtherTransaction.other_type}
+use Rattle.rlp_transactions.specs.{LegacyTransaction.legacy_transaction_fields, LegacyTransaction.signed_legacy_transaction}
 use Rattle.rlp_transactions.specs.{PooledBlobTransaction.pooled_blob_transaction, PooledTransaction.pooled_transaction, PooledTransaction.seen_consensus}
 use Rattle.rlp_transactions.specs.{SetCodeTransaction.set_code_transaction_fields, UnsignedLegacyTransaction.chain_fields, UnsignedLegacyTransaction.unsigned_legacy_transaction}
-use Rattle.rlp_print.specs.Display.{Display, Fields, a_bit, a_content, a_list, a_number, a_quantity, a_string, a_type, after_derived, an_object, and_type, bytes_as, derived, either, end, field, field_if, if_there, in_order, last_type, no_type_entries, of_type, one, one_if, same, shown_type, through}
-use Rattle.rlp_print.specs.{Records.hash_entries, Records.written, declared.sink.NumberKind.TheVariants.Decimal, declared.sink.NumberKind.TheVariants.LegacyV}
+use Rattle.rlp_print.specs.Display.{Display, Fields, a_bit, a_content, a_list, a_number, a_quantity, a_string, after_derived, an_object, and_type, bytes_as, derived, either, end, field, field_if, if_there, in_order, last_type, no_type_entries, number_as, of_type, one, one_if, same, shown_type, through}
+use Rattle.rlp_print.specs.{Records.ends_second, Records.hash_entries, Records.other_apart, Records.other_display, Records.written, declared.sink.NumberKind.TheVariants.Decimal, declared.sink.NumberKind.TheVariants.LegacyV}
 use Rattle.rlp_print.specs.Value.{Content, Entries, both, by_form, bytes, content, entries_if, entry, nothing, number}
-use Rattle.rlp_print.specs.declared.sink.BytesKind.TheVariants.{Any, Null, Payload, Sparse}
+use Rattle.rlp_print.specs.declared.sink.BytesKind.TheVariants.{Any, Null, Sparse}
 
 -- the bytes of an account, or none for a transaction that creates a contract
 abbrev pub recipient_content : recipient.reading.M → Content
@@ -99,7 +99,7 @@ typed_fields tag r f = through (λ m. (m.0, (m.1.0, m.1))) (of_type tag (
 
 -- a payload as it is shown, the signature, and the payload as it is signed
 abbrev pub typed_seen : {T M N : Type 0} → (T → M) → (T → N) → Signed T Bool → M × (Bool × (ℕ × (ℕ × N)))
-typed_seen seen signed x = (seen x.payload, (x.v, (number_of x.r, (number_of x.s, signed x.payload))))
+typed_seen seen signed x = (seen x.payload, (x.v, (scalar_value x.r, (scalar_value x.s, signed x.payload))))
 
 -- the same of what contracts see of a transaction
 abbrev pub typed_display : {T : Type 0} → ℕ → (r : FieldsReading T) → Fields r.M → Fields (r.M × (Bool × (ℕ × (ℕ × ⊤))))
@@ -116,26 +116,6 @@ set_code_display = chain_and_nonce (fees (call (codes "destination") a_string (a
     field (codes "authorization_list") (codes "authorizationList") (a_list signed_authorization_display) end))))
 
 -- ---- transactions without a type
-
--- Whether r and s are zero, so that the transaction isn't signed. Then `v` says nothing: in what EIP-155 signs it is the number of the chain.
-abbrev pub is_unsigned : signed_legacy_transaction.reading.M → Bool
-is_unsigned m = (m.1.1.0 == 0) && (m.1.1.1.0 == 0)
-
-abbrev pub said_of : signed_legacy_transaction.reading.M → Option Eip155
-said_of m = if is_unsigned m then None else said_by m.1.0
-
--- whether the transaction isn't signed, and `v`, with which lines have what it says if the transaction is signed
-abbrev pub v_seen : signed_legacy_transaction.reading.M → Bool × ℕ
-v_seen m = (is_unsigned m, m.1.0)
-
-abbrev pub v_content : Bool × ℕ → Content
-v_content (true, v) = number Decimal v
-v_content (false, v) = number LegacyV v
-
-pub v_apart : (v w : Bool × ℕ) → v_content v ≡ v_content w → v ≡ w
-v_apart (true, v) (true, w) is = cc
-v_apart (false, v) (false, w) is = cc
-v_apart _ _ is = absurd cc
 
 -- what `v` says: the number of the chain, if it is signed, and the parity
 abbrev pub said_seen : Eip155 → Option ℕ × Bool
@@ -154,11 +134,11 @@ legacy_signing_hash t None = None
 legacy_signing_hash t (Some x) = Some (legacy_hash t x.chain_id)
 
 abbrev pub signed_legacy_display : Fields signed_legacy_transaction.reading.M
-signed_legacy_display = through (λ m. (m.0, (v_seen m, (m, (m.1.1.0, (m.1.1.1.0, m)))))) (after_derived (λ m. no_type_entries) (
+signed_legacy_display = through (λ m. (m.0, (m.1.0, (m, (m.1.1.0, (m.1.1.1.0, m)))))) (after_derived (λ m. no_type_entries) (
     in_order legacy_display (
-    same (codes "v") (a_content v_content v_apart) (
-    in_order (derived (λ m. by_form nothing (entries_if said_display.shown (option_map said_seen (said_of m))))) (
-    signature_before (derived (λ m. (one_if (codes "signing_hash") (codes "signingHash") a_string).shown (legacy_signing_hash m.0 (said_of m)))))))))
+    same (codes "v") (number_as LegacyV) (
+    in_order (derived (λ m. by_form nothing (entries_if said_display.shown (option_map said_seen (said_by m.1.0))))) (
+    signature_before (derived (λ m. (one_if (codes "signing_hash") (codes "signingHash") a_string).shown (legacy_signing_hash m.0 (said_by m.1.0)))))))))
 
 -- transactions of the types that are known
 abbrev pub transaction_display : Fields transaction.reading.M
@@ -169,29 +149,16 @@ transaction_display = (
     and_type 3 (typed_display 3 blob_transaction_fields.reading blob_display) (λ m. refl) (
     last_type 4 (typed_display 4 set_code_transaction_fields.reading set_code_display) (λ m. refl)))))).fields
 
--- a transaction of a type that isn't known: the number of the type, and the payload
-abbrev pub other_display : Fields (List ℕ)
-other_display = through (λ d. (other_type d, drop 1 d)) (
-    same (codes "type") a_type (one (codes "payload") (codes "payload") (bytes_as Payload)))
-
--- a known type isn't shown as another: only of another is the second of two fields the last
-abbrev ends_second : Entries → Bool
-ends_second (both first (entry name json v)) = true
-ends_second es = false
-
-goes_on : (t : transaction.reading.M) → ends_second (transaction_display.shown t) ≡ false
+pub goes_on : (t : transaction.reading.M) → ends_second (transaction_display.shown t) ≡ false
 goes_on (inl t) = refl
 goes_on (inr (inl t)) = refl
 goes_on (inr (inr (inl t))) = refl
 goes_on (inr (inr (inr (inl t)))) = refl
 goes_on (inr (inr (inr (inr t)))) = refl
 
-pub known_apart : (t : transaction.reading.M) (d : List ℕ) → transaction_display.shown t ≡ other_display.shown d → ⊥
-known_apart t d is = let both : false ≡ true = sym (goes_on t) ∙ ap ends_second is in cc
-
 -- transactions of all types: of one that isn't known, the number of the type and the payload
 abbrev pub by_type_display : Fields any_transaction.reading.M
-by_type_display = either transaction_display other_display known_apart
+by_type_display = either transaction_display other_display (other_apart transaction_display goes_on)
 
 -- the hash of a transaction
 unfoldable pub transaction_hash : any_transaction.reading.M → List ℕ

@@ -1,18 +1,37 @@
 //! Blocks, their headers and their bodies.
 
 ghost use Rattle.std.specs.Prelude.{◌≡◌, IfOk, map};
-ghost use Rattle.rlp_headers.specs.Forks.{cancun_fields, london_fields, shanghai_fields};
+ghost use Rattle.rlp_headers.specs.Forks.{amsterdam_fields, cancun_fields, london_fields, prague_fields, shanghai_fields};
 ghost use Rattle.rlp_headers.specs.Header.{header};
 ghost use Rattle.rlp_ethereum.specs.{Block.block, Body.body};
-ghost use Rattle.rlp_print.specs.Blocks.{block_display, block_size, body_fields_display, cancun_display, hashed_header_display, header_display, london_display, more_of_block, seen_hash, shanghai_display};
+ghost use Rattle.rlp_print.specs.Blocks.{amsterdam_display, block_display, block_size, body_fields_display, cancun_display, hashed_header_display, header_display, london_display, more_of_block, prague_display, seen_hash, shanghai_display};
 ghost use Rattle.rlp_print.specs.Display.{an_object, seen_as};
 
 use crate::records::{hash_of, written};
 use crate::show::{ByForm, Items, Object, Show, ShowFields, fields, give_fields, show_fields};
 use crate::sink::{BytesKind, Shown, Sink};
 use rlp_ethereum::{Block, Body};
-use rlp_headers::{Cancun, Header, London, Shanghai};
+use rlp_headers::{Amsterdam, Cancun, Header, London, Prague, Shanghai};
 use std::alloc::{AllocError, Global};
+
+impl ShowFields for Amsterdam {
+    ghost fields = { seen_as amsterdam_fields.reading.seen amsterdam_display };
+
+    fn give<S: Sink>(&self, alloc: Global, name: &str, sink: &mut S) -> Result<(), AllocError> {
+        give_fields!(alloc, name, sink;
+            self.block_access_list_hash "blockAccessListHash";
+            "slot_number" "slotNumber" ? &self.slot_number
+        )
+    }
+}
+
+impl ShowFields for Prague {
+    ghost fields = { seen_as prague_fields.reading.seen prague_display };
+
+    fn give<S: Sink>(&self, alloc: Global, name: &str, sink: &mut S) -> Result<(), AllocError> {
+        give_fields!(alloc, name, sink; self.requests_hash "requestsHash"; &self.since_amsterdam)
+    }
+}
 
 impl ShowFields for Cancun {
     ghost fields = { seen_as cancun_fields.reading.seen cancun_display };
@@ -20,8 +39,7 @@ impl ShowFields for Cancun {
     fn give<S: Sink>(&self, alloc: Global, name: &str, sink: &mut S) -> Result<(), AllocError> {
         give_fields!(alloc, name, sink;
             self.blob_gas_used "blobGasUsed"; self.excess_blob_gas "excessBlobGas";
-            self.parent_beacon_block_root "parentBeaconBlockRoot";
-            "requests_hash" "requestsHash" ? &self.requests_hash
+            self.parent_beacon_block_root "parentBeaconBlockRoot"; &self.since_prague
         )
     }
 }

@@ -5,7 +5,7 @@ ghost use Rattle.rlp_p2p.specs.{Disconnect.disconnect, Hello.capability, Hello.f
 ghost use Rattle.rlp_eth.specs.Announcements.{block_range_update, new_block, new_block_hash, new_pooled_transaction_hashes};
 ghost use Rattle.rlp_eth.specs.{HashOrNumber.hash_or_number, Receipts.block_receipts, Receipts69.block_receipts69, Receipts69.receipt69, Requests.get_block_headers, Status.fork_id, Status.status68, Status.status69};
 ghost use Rattle.rlp_print.specs.Display.{a_list, an_object, end, seen_as};
-ghost use Rattle.rlp_print.specs.Records.{typed_receipt_display};
+ghost use Rattle.rlp_print.specs.Records.{any_receipt_display};
 ghost use Rattle.rlp_print.specs.Messages as shown;
 
 use crate::show::{Items, Object, Show, ShowFields, give_fields, show_fields};
@@ -126,7 +126,7 @@ impl Show for GetBlockHeaders {
 }
 
 impl Show for BlockReceipts {
-    ghost display = { seen_as block_receipts.reading.seen (a_list typed_receipt_display) };
+    ghost display = { seen_as block_receipts.reading.seen (a_list any_receipt_display) };
 
     fn show<S: Sink>(&self, alloc: Global, name: &str, sink: &mut S) -> Result<(), AllocError> {
         Items(&self.0).show(alloc, name, sink)

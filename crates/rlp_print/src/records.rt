@@ -3,16 +3,18 @@
 ghost use Rattle.std.specs.{Prelude.◌≡◌, Prelude.IfOk, Vec.vec_items};
 ghost use Rattle.keccak.specs.Keccak.{keccak256};
 ghost use Rattle.rlp.specs.Codec.{uint};
-ghost use Rattle.rlp_headers.specs.{Account.account, Log.log, Receipt.receipt, ReceiptStatus.receipt_status, TypedReceipt.typed_receipt, Withdrawal.withdrawal, Withdrawal.withdrawals};
+ghost use Rattle.rlp_headers.specs.{Account.account, AnyReceipt.any_receipt, Log.log, Receipt.receipt, ReceiptStatus.receipt_status, TypedReceipt.typed_receipt, Withdrawal.withdrawal, Withdrawal.withdrawals};
 ghost use Rattle.rlp_print.specs.Display.{a_list, a_number, a_string, seen_as};
-ghost use Rattle.rlp_print.specs.Records.{account_display, fault_display, log_display, receipt_display, status_fields, typed_receipt_display, withdrawal_display, written};
+ghost use Rattle.rlp_print.specs.Records.{account_display, any_receipt_display, fault_display, log_display, receipt_display, status_fields, typed_receipt_display, withdrawal_display, written};
 
 use crate::show::{ByForm, Items, Object, Show, ShowFields, fields, give_fields, show_fields};
 use crate::sink::{BytesKind, NumberKind, Shown, Sink, bytes, number};
 use bytes::BytesMut;
 use keccak::keccak256;
 use rlp::{RoundTrip, Uint};
-use rlp_headers::{Account, Log, Receipt, ReceiptStatus, TypedReceipt, Withdrawal, Withdrawals};
+use rlp_headers::{
+    Account, AnyReceipt, Log, Receipt, ReceiptStatus, TypedReceipt, Withdrawal, Withdrawals,
+};
 use rlp_records::{Address, Hash};
 use std::alloc::{AllocError, Global};
 
@@ -165,6 +167,20 @@ impl Show for TypedReceipt {
         };
         let kind = fields!("type" "type" Shown::TypeByte(kind));
         Object(&(kind, receipt)).show(alloc, name, sink)
+    }
+}
+
+impl Show for AnyReceipt {
+    ghost display = { seen_as any_receipt.reading.seen any_receipt_display };
+
+    fn show<S: Sink>(&self, alloc: Global, name: &str, sink: &mut S) -> Result<(), AllocError> {
+        match self {
+            AnyReceipt::Known(receipt) => receipt.show(alloc, name, sink),
+            AnyReceipt::Other(receipt) => show_fields!(alloc, name, sink;
+                "type" "type" Shown::TypeByte(receipt.transaction_type());
+                "payload" "payload" Shown::Bytes(BytesKind::Payload, receipt.payload())
+            ),
+        }
     }
 }
 

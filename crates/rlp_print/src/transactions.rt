@@ -1,23 +1,20 @@
 //! Transactions of all types, with their signatures and without, and as they are sent with their
 //! blobs.
 
-ghost use Rattle.std.specs.Int.Digits.{number_from_digits};
-ghost use Rattle.std.specs.Prelude.{◌≡◌, ◌==◌, IfOk};
+ghost use Rattle.std.specs.Prelude.{◌≡◌, IfOk};
 ghost use Rattle.rlp_transactions.specs.{Access.access_list_item, AccessListTransaction.access_list_transaction_fields, AnyTransaction.any_transaction, Authorization.authorization_fields};
 ghost use Rattle.rlp_transactions.specs.{Authorization.signed_authorization, Blob.blob, BlobTransaction.blob_transaction_fields, BlobTransaction.signed_blob_transaction, Recipient.recipient};
 ghost use Rattle.rlp_transactions.specs.{BlobWrapper.with_cell_proofs, BlobWrapper.with_proofs, FeeMarketTransaction.fee_market_transaction_fields, Transaction.transaction};
 ghost use Rattle.rlp_transactions.specs.{LegacyTransaction.legacy_transaction_fields, LegacyTransaction.signed_legacy_transaction, SetCodeTransaction.set_code_transaction_fields};
 ghost use Rattle.rlp_transactions.specs.{PooledBlobTransaction.pooled_blob_transaction, PooledTransaction.pooled_transaction};
 ghost use Rattle.rlp_transactions.specs.{UnsignedLegacyTransaction.unsigned_legacy_transaction, UnsignedTransaction.unsigned_transaction};
-ghost use Rattle.rlp_print.specs.{Display.bytes_as, Display.seen_as, Value.content_of, declared.sink.BytesKind.TheVariants.Sparse};
+ghost use Rattle.rlp_print.specs.{Display.bytes_as, Display.seen_as, declared.sink.BytesKind.TheVariants.Sparse};
 ghost use Rattle.rlp_print.specs.Transactions as shown;
 
 use crate::records::hash_of;
 use crate::show::{ByForm, Items, Show, ShowFields, fields, give_fields, show_fields};
 use crate::sink::{BytesKind, NumberKind, Shown, Sink, bytes, number};
-use crate::texts::are_zero;
 use keccak::keccak256;
-use rlp::Uint;
 use rlp_records::Hash;
 use rlp_transactions::{
     AccessListItem, AccessListTransaction, AnyTransaction, Authorization, Blob, BlobTransaction,
@@ -147,8 +144,8 @@ impl<T: TypedTransaction + ShowFields> ShowFields for Signed<T, bool> {
             &self.payload;
             "y_parity" "yParity" number(self.v as u64);
             ByForm((), fields!("v" "v" number(self.v as u64)));
-            "r" "r" Shown::Number(NumberKind::Quantity, self.r);
-            "s" "s" Shown::Number(NumberKind::Quantity, self.s);
+            "r" "r" Shown::Number(NumberKind::Quantity, self.r.number);
+            "s" "s" Shown::Number(NumberKind::Quantity, self.s.number);
             "signing_hash" "signingHash" &hash
         )
     }
@@ -163,8 +160,8 @@ impl Show for SignedAuthorization {
         show_fields!(alloc, name, sink;
             &self.payload;
             "y_parity" "yParity" number(u64::from(self.v));
-            "r" "r" Shown::Number(NumberKind::Quantity, self.r);
-            "s" "s" Shown::Number(NumberKind::Quantity, self.s);
+            "r" "r" Shown::Number(NumberKind::Quantity, self.r.number);
+            "s" "s" Shown::Number(NumberKind::Quantity, self.s.number);
             "signing_hash" "signingHash" &hash
         )
     }
@@ -202,49 +199,19 @@ fn legacy_signing_hash(
     Ok(Some(hash))
 }
 
-/// Returns whether a number is zero.
-#[tactic(auto, using(crate::proofs::TextLemmas::zero_digits))]
-fn is_zero(number: &Uint<32>) -> bool
-    ensures { result ≡ (number_from_digits 256 number.now.bytes == 0) }
-{
-    are_zero(&number.bytes)
-}
-
-/// Returns what `v` says, if the transaction is signed: one of the two numbers of its signature isn't
-/// zero, as both are in what EIP-155 signs.
-fn said_of(tx: &SignedLegacyTransaction) -> Option<Eip155>
-    ensures { result ≡ shown.said_of (signed_legacy_transaction.reading.seen tx.now) }
-{
-    if is_zero(&tx.r) && is_zero(&tx.s) {
-        return None;
-    }
-    Eip155::from_v(&tx.v)
-}
-
-/// Returns the `v` of a transaction, which comes with what it says if the transaction is signed.
-fn v_of(tx: &SignedLegacyTransaction) -> Shown<'static>
-    ensures { content_of result ≡ shown.v_content
-        (shown.v_seen (signed_legacy_transaction.reading.seen tx.now)) }
-{
-    if is_zero(&tx.r) && is_zero(&tx.s) {
-        return Shown::Number(NumberKind::Decimal, tx.v);
-    }
-    Shown::Number(NumberKind::LegacyV, tx.v)
-}
-
 impl ShowFields for SignedLegacyTransaction {
     ghost fields = { seen_as signed_legacy_transaction.reading.seen shown.signed_legacy_display };
 
     fn give<S: Sink>(&self, alloc: Global, name: &str, sink: &mut S) -> Result<(), AllocError> {
-        let said = said_of(self);
+        let said = Eip155::from_v(&self.v);
         let hash = legacy_signing_hash(alloc, &self.payload, said)?;
         give_fields!(alloc, name, sink;
             ByForm((), fields!("type" "type" Shown::TypeByte(0)));
             &self.payload;
-            "v" "v" v_of(self);
+            "v" "v" Shown::Number(NumberKind::LegacyV, self.v);
             ByForm((), &said);
-            "r" "r" Shown::Number(NumberKind::Quantity, self.r);
-            "s" "s" Shown::Number(NumberKind::Quantity, self.s);
+            "r" "r" Shown::Number(NumberKind::Quantity, self.r.number);
+            "s" "s" Shown::Number(NumberKind::Quantity, self.s.number);
             "signing_hash" "signingHash" ? &hash
         )
     }

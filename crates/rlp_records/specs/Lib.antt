@@ -4,3 +4,5 @@ pub mod Bounded
 pub mod Envelope
 pub mod Hash
 pub mod Hashing
+pub mod OtherEnvelope
+pub mod OtherStrings

@@ -25,6 +25,13 @@ pub const BLOB_TYPE: u8 = 0x03;
 /// The type of a transaction that sets code: EIP-7702.
 pub const SET_CODE_TYPE: u8 = 0x04;
 
+/// The byte before the list of an authorization's fields in what is signed, as in EIP-7702. No
+/// transaction has this type.
+pub const AUTHORIZATION_MAGIC: u8 = 0x05;
+
+/// The type of a deposit of the OP stack, as in its specification.
+pub const DEPOSIT_TYPE: u8 = 0x7e;
+
 /// Returns the envelope of a value: the byte `kind` of its type, and its encoding. In EIP-2718 the
 /// type is below 0x80, so an envelope doesn't begin as a list does.
 pub fn to_envelope<T: Encodable>(

@@ -7,9 +7,8 @@ use rlp::{
 };
 use std::alloc::{AllocError, Global};
 
-/// A Keccak-256 hash, or the root of a trie: 32 bytes.
-///
-/// See section 4.3 and appendix B of the yellow paper.
+/// A hash of 32 bytes: a Keccak-256 hash or the root of a trie, as in section 4.3 and appendix B of
+/// the yellow paper. The fields of newer EIPs also hold hashes by SHA-256 and roots of SSZ trees.
 #[derive(Debug, Clone, Copy, PartialEq, Eq)]
 pub struct Hash(pub [u8; 32]);
 

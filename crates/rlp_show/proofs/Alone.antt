@@ -1,6 +1,6 @@
 -- Bytes that stand by themselves give what they give as an item.
 use Rattle.std.proofs.Common.{◌≡◌, ◌≢◌, ◌<◌, ◌≤◌, ◌^◌, ◌⊎◌, inl, inr, ℕ, Bool, true, false, List, [], ◌∷◌, length, refl, sym, ap, ◌∙◌, Ok, Err}
-use Rattle.std.proofs.Common.{arith, leb-true, le-ltb, ltb}
+use Rattle.std.proofs.Common.{arith, leb-true}
 use Rattle.std.proofs.lemmas.Bool.{cond-true, cond-false}
 use Rattle.rlp.specs.DecoderError.{DecoderError}
 use Rattle.rlp.specs.DecoderError.TheVariants.{OutOfMemory, RlpExpectedToBeData}
@@ -13,15 +13,17 @@ use Rattle.std.proofs.lemmas.List.{append-nil}
 use Rattle.rlp_codec.specs.Form.{Answer, Fault, fault_of, go_on, here, map_answer, seen_fault, string_of}
 use Rattle.rlp_codec.specs.Sums.{envelope_of, read_either}
 use Rattle.rlp_records.specs.Alone.{read_alone}
+use Rattle.rlp_records.specs.OtherEnvelope.{is_other}
+use Rattle.rlp_records.specs.OtherStrings.{kept_alone, string_or}
+use Rattle.rlp_records.proofs.OtherTypes.{list_known}
+use Rattle.rlp_headers.specs.AnyReceipt.{any_receipt, any_receipt_alone}
 use Rattle.rlp_headers.specs.TypedReceipt.{receipt_alone, typed_receipt, typed_receipts}
 use Rattle.rlp_headers.specs.Receipt.{receipt}
 use Rattle.rlp_transactions.specs.AnyTransaction.{any_alone, any_transaction}
 use Rattle.rlp_transactions.specs.LegacyTransaction.{signed_legacy_transaction}
-use Rattle.rlp_transactions.specs.OtherStrings.{string_or}
-use Rattle.rlp_transactions.specs.OtherTransaction.{is_other}
 use Rattle.rlp_transactions.specs.Transaction.{transaction, transaction_alone, typed_transactions}
 use Rattle.rlp_transactions.specs.UnsignedTransaction.{unsigned_alone}
-use Rattle.rlp_print.specs.Records.{typed_receipt_display}
+use Rattle.rlp_print.specs.Records.{any_receipt_display}
 use Rattle.rlp_print.specs.Transactions.{any_transaction_display}
 use Rattle.rlp_show.specs.Shown.{item_alone, receipt_shown, transaction_shown, unsigned_or, signed_shown}
 
@@ -63,31 +65,31 @@ module _ {M N : Type 0} (lists : View → Answer M Fault) (typed : ℕ → View 
       ∙ sym (cond-false (begins_as_list (encoding (string b))) _ _ (string_kind b few))
       ∙ ap (λ d. read_either lists held (strict_view_of d)) is
 
-pub receipt_read : (b : List ℕ) → length (item_alone b) < 2 ^ 64 → typed_receipt.reading.read (strict_view_of (item_alone b)) ≡ receipt_alone b
-receipt_read b short = sym (either_alone receipt.reading.read typed_receipts.cases.read b (begins_as_list b) refl short)
+-- the same for a type whose other values are kept as their bytes
+module _ {M : Type 0} (read : View → Answer M Fault) (alone : List ℕ → Answer M Fault)
+    (same : (b : List ℕ) → length (item_alone b) < 2 ^ 64 → read (strict_view_of (item_alone b)) ≡ alone b) where
+  kept_by : (b : List ℕ) (kind : Bool) → begins_as_list b ≡ kind → length (item_alone b) < 2 ^ 64
+      → string_or is_other (alone b) (string_of (strict_view_of (item_alone b))) ≡ kept_alone alone b
+  kept_by b true kind short =
+      ap (string_or is_other (alone b)) (ap (λ d. string_of (strict_view_of d)) (sym (list_item b kind)) ∙ list_string b kind)
+      ∙ sym (cond-false (is_other b) _ _ (list_known b kind))
+  kept_by b false kind short =
+      let is = string_item b (encoding (string b)) kind refl in
+      ap (string_or is_other (alone b)) (ap (λ d. string_of (strict_view_of d)) (sym is) ∙ string_string b (omega (arith, short, ap length is)))
 
-transaction_read : (b : List ℕ) → length (item_alone b) < 2 ^ 64 → transaction.reading.read (strict_view_of (item_alone b)) ≡ transaction_alone b
-transaction_read b short = sym (either_alone signed_legacy_transaction.reading.read typed_transactions.cases.read b (begins_as_list b) refl short)
+  pub kept_read : (b : List ℕ) → length (item_alone b) < 2 ^ 64
+      → string_or is_other (read (strict_view_of (item_alone b))) (string_of (strict_view_of (item_alone b))) ≡ kept_alone alone b
+  kept_read b short = ap (λ a. string_or is_other a (string_of (strict_view_of (item_alone b)))) (same b short) ∙ kept_by b (begins_as_list b) refl short
 
-list_known : (d : List ℕ) → begins_as_list d ≡ true → is_other d ≡ false
-list_known [] kind = refl
-list_known (first ∷ rest) kind =
-    let above : 0xc0 ≤ first = leb-true 0xc0 first kind in
-    let large : ltb first 0x80 ≡ false = le-ltb first 0x80 (omega (arith, above)) in
-    cc
-
-any_by : (b : List ℕ) (kind : Bool) → begins_as_list b ≡ kind → length (item_alone b) < 2 ^ 64
-    → string_or is_other (transaction_alone b) (string_of (strict_view_of (item_alone b))) ≡ any_alone b
-any_by b true kind short =
-    ap (string_or is_other (transaction_alone b)) (ap (λ d. string_of (strict_view_of d)) (sym (list_item b kind)) ∙ list_string b kind)
-    ∙ sym (cond-false (is_other b) _ _ (list_known b kind))
-any_by b false kind short =
-    let is = string_item b (encoding (string b)) kind refl in
-    ap (string_or is_other (transaction_alone b)) (ap (λ d. string_of (strict_view_of d)) (sym is) ∙ string_string b (omega (arith, short, ap length is)))
+pub receipt_read : (b : List ℕ) → length (item_alone b) < 2 ^ 64 → any_receipt.reading.read (strict_view_of (item_alone b)) ≡ any_receipt_alone b
+receipt_read =
+    kept_read typed_receipt.reading.read receipt_alone
+    (λ b short. sym (either_alone receipt.reading.read typed_receipts.cases.read b (begins_as_list b) refl short))
 
 pub any_read : (b : List ℕ) → length (item_alone b) < 2 ^ 64 → any_transaction.reading.read (strict_view_of (item_alone b)) ≡ any_alone b
-any_read b short =
-    ap (λ a. string_or is_other a (string_of (strict_view_of (item_alone b)))) (transaction_read b short) ∙ any_by b (begins_as_list b) refl short
+any_read =
+    kept_read transaction.reading.read transaction_alone
+    (λ b short. sym (either_alone signed_legacy_transaction.reading.read typed_transactions.cases.read b (begins_as_list b) refl short))
 
 pub unsigned_faulty : (b : List ℕ) (e : Fault) → (unsigned_alone b).result ≡ Err e → transaction_shown b ≡ signed_shown b
 unsigned_faulty b e is = ap (unsigned_or (signed_shown b)) is
@@ -101,5 +103,5 @@ signed_given b e P (inl is) other short =
 signed_given b e P (inr full) other short = absurd (other full.0)
 
 pub receipt_given : (b : List ℕ) → length (item_alone b) < 2 ^ 64
-    → map_answer typed_receipt_display.shown (typed_receipt.reading.read (strict_view_of (item_alone b))) ≡ receipt_shown b
-receipt_given b short = ap (map_answer typed_receipt_display.shown) (receipt_read b short)
+    → map_answer any_receipt_display.shown (any_receipt.reading.read (strict_view_of (item_alone b))) ≡ receipt_shown b
+receipt_given b short = ap (map_answer any_receipt_display.shown) (receipt_read b short)

@@ -3,12 +3,12 @@ use Rattle.std.proofs.Common.{◌≡◌, ◌<◌, ◌^◌, ◌⊎◌, inl, inr, 
 use Rattle.rlp.specs.Format.Encoding.{AreBytes}
 use Rattle.rlp_codec.specs.Form.{Fault}
 use Rattle.rlp_records.specs.Alone.{bytes_alone}
-use Rattle.rlp_headers.proofs.Receipts.{receipt_strings}
-use Rattle.rlp_headers.specs.TypedReceipt.{receipt_alone, typed_receipt}
+use Rattle.rlp_headers.proofs.Receipts.{any_receipt_strings}
+use Rattle.rlp_headers.specs.AnyReceipt.{any_receipt, any_receipt_alone}
 use Rattle.rlp_transactions.proofs.Strings.{any_strings, unsigned_strings}
 use Rattle.rlp_transactions.specs.AnyTransaction.{any_alone, any_transaction}
 use Rattle.rlp_transactions.specs.UnsignedTransaction.{unsigned_alone, unsigned_transaction}
-use Rattle.rlp_print.specs.Records.{typed_receipt_display}
+use Rattle.rlp_print.specs.Records.{any_receipt_display}
 use Rattle.rlp_print.specs.Transactions.{any_transaction_display, unsigned_display}
 use Rattle.rlp_print.specs.Value.{Value}
 use Rattle.rlp_show.specs.Answers.{IsRead}
@@ -16,10 +16,10 @@ use Rattle.rlp_show.specs.Shown.{receipt_shown, signed_shown, transaction_shown,
 use Rattle.rlp_show.proofs.LineLemmas.{read_by}
 
 pub receipt_only : (b : List ℕ) (v : Value) → AreBytes b × (length b < 2 ^ 64) → (receipt_shown b).result ≡ Ok v
-    → IsRead (λ r. typed_receipt.Fits r × (b ≡ bytes_alone (typed_receipt.item r))) typed_receipt.reading typed_receipt_display.shown v
+    → IsRead (λ r. any_receipt.Fits r × (b ≡ bytes_alone (any_receipt.item r))) any_receipt.reading any_receipt_display.shown v
 receipt_only b v slice is =
-    read_by (λ r. typed_receipt.Fits r × (b ≡ bytes_alone (typed_receipt.item r))) typed_receipt.reading typed_receipt_display.shown (receipt_alone b).result v is
-    (λ r same. receipt_strings.only b r slice.0 slice.1 same)
+    read_by (λ r. any_receipt.Fits r × (b ≡ bytes_alone (any_receipt.item r))) any_receipt.reading any_receipt_display.shown (any_receipt_alone b).result v is
+    (λ r same. any_receipt_strings.only b r slice.0 slice.1 same)
 
 -- a transaction that isn't signed, or one that is
 abbrev IsUnsigned : List ℕ → Value → Type 0

@@ -65,7 +65,7 @@ strings_kind count second third =
     else if count == 4 then Some (four_kind third)
     else if (count == 6) && is_address second then Some Authorization
     else if count == 9 then Some Transaction
-    else if nat_le 15 count && (nat_le count 21 && is_address third) then Some Header
+    else if nat_le 15 count && (nat_le count 23 && is_address third) then Some Header
     else if count == 17 then Some Node
     else if nat_le 6 count && (count % 2 == 0) then Some NodeRecord
     else None

@@ -4,7 +4,7 @@ use Rattle.rlp.specs.Codec.{Codec}
 use Rattle.rlp.specs.Format.{Encoding.encoding, Encoding.string, Framing.begins_as_list}
 use Rattle.rlp.specs.Views.View.{View, strict_view_of}
 use Rattle.rlp_codec.specs.Form.{Answer, Fault, Reading, here, map_answer}
-use Rattle.rlp_headers.specs.{Account.account, Header.header, TypedReceipt.receipt_alone, Withdrawal.withdrawal}
+use Rattle.rlp_headers.specs.{Account.account, AnyReceipt.any_receipt_alone, Header.header, Withdrawal.withdrawal}
 use Rattle.rlp_transactions.specs.{Access.access_list, AnyTransaction.any_alone, Authorization.signed_authorization, UnsignedTransaction.unsigned_alone}
 use Rattle.rlp_transactions.specs.UnsignedTransaction.{unsigned_transaction}
 use Rattle.rlp_trie.specs.TrieNodeLaws.{trie_node}
@@ -16,7 +16,7 @@ use Rattle.rlp_eth.specs.Requests.{block_bodies, block_headers, get_block_bodies
 use Rattle.rlp_eth.specs.{Receipts.receipts, Receipts69.receipts69, Status.status68, Status.status69, WithRequestId.with_request_id_reading}
 use Rattle.rlp_print.specs.Value.{Value, both, entry, object}
 use Rattle.rlp_print.specs.Display.{Display, a_list, a_number, a_string, an_object, end}
-use Rattle.rlp_print.specs.Records.{account_display, typed_receipt_display, withdrawal_display}
+use Rattle.rlp_print.specs.Records.{account_display, any_receipt_display, withdrawal_display}
 use Rattle.rlp_print.specs.Transactions.{access_list_display, any_transaction_display, pooled_transaction_display, signed_authorization_display, unsigned_display}
 use Rattle.rlp_print.specs.Blocks.{block_display, body_fields_display, header_display}
 use Rattle.rlp_print.specs.{Items.node_display, NodeRecords.node_fields_display}
@@ -68,7 +68,7 @@ abbrev pub transaction_shown : List ℕ → Shown
 transaction_shown b = unsigned_or (signed_shown b) (unsigned_alone b).result
 
 abbrev pub receipt_shown : List ℕ → Shown
-receipt_shown b = map_answer typed_receipt_display.shown (receipt_alone b)
+receipt_shown b = map_answer any_receipt_display.shown (any_receipt_alone b)
 
 -- what the bytes of a message give
 abbrev pub message_shown : MessageKind → List ℕ → Shown
@@ -89,7 +89,7 @@ message_shown message.NewPooledTransactionHashes = whole new_pooled_transaction_
 message_shown message.GetPooledTransactions = numbered get_pooled_transactions (a_list a_string)
 message_shown message.PooledTransactions = numbered pooled_transactions (a_list pooled_transaction_display)
 message_shown message.GetReceipts = numbered get_receipts (a_list a_string)
-message_shown message.Receipts68 = numbered receipts (a_list (a_list typed_receipt_display))
+message_shown message.Receipts68 = numbered receipts (a_list (a_list any_receipt_display))
 message_shown message.Receipts69 = numbered receipts69 (a_list (a_list receipt69_display))
 message_shown message.BlockRangeUpdate = whole block_range_update (an_object range_display)
 

@@ -135,7 +135,7 @@ fn strings_kind(count: usize, second: u8, third: u8) -> Option<Kind>
         Some(Kind::Authorization)
     } else if count == 9 {
         Some(Kind::Transaction)
-    } else if count >= 15 && count <= 21 && third == ADDRESS {
+    } else if count >= 15 && count <= 23 && third == ADDRESS {
         Some(Kind::Header)
     } else if count == 17 {
         Some(Kind::Node)

@@ -59,7 +59,7 @@ Without KIND the kind is guessed, and its name comes before those of the fields:
                          receipt (more than 55), else record
     6                    authorization if the second has 20 bytes, else record
     9                    transaction
-    15 to 21             header if the third has 20 bytes, else node (17), record
+    15 to 23             header if the third has 20 bytes, else node (17), record
     8 and all even ones  record
 Where two kinds fit, the commoner one is taken.
 

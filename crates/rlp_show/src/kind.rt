@@ -21,7 +21,7 @@ pub enum Kind {
     Header,
     /// Nodes of the trie.
     Node,
-    /// Receipts, also in the envelopes of types 1 to 4.
+    /// Receipts, also in envelopes.
     Receipt,
     /// Node records.
     NodeRecord,

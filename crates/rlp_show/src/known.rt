@@ -20,9 +20,8 @@ use rlp_eth::{
     NewPooledTransactionHashes, Status68, Status69, WithRequestId,
 };
 use rlp_ethereum::{
-    AccessListItem, Account, AnyTransaction, Block, Body, Hash, Header, NodeRecord,
-    PooledTransaction, SignedAuthorization, TrieNode, TypedReceipt, UnsignedTransaction,
-    Withdrawal,
+    AccessListItem, Account, AnyReceipt, AnyTransaction, Block, Body, Hash, Header, NodeRecord,
+    PooledTransaction, SignedAuthorization, TrieNode, UnsignedTransaction, Withdrawal,
 };
 use rlp_p2p::{Disconnect, Hello, Ping, Pong};
 use rlp_print::Show;
@@ -143,7 +142,7 @@ pub(crate) fn put_known(
         Kind::Body => put_record::<Body>(alloc, given, out),
         Kind::Header => put_record::<Header>(alloc, given, out),
         Kind::Node => put_record::<TrieNode>(alloc, given, out),
-        Kind::Receipt => put_alone::<TypedReceipt>(alloc, given, out),
+        Kind::Receipt => put_alone::<AnyReceipt>(alloc, given, out),
         Kind::NodeRecord => put_node_record(alloc, given, out),
         Kind::Transaction => put_transaction(alloc, given, out),
         Kind::Withdrawal => put_record::<Withdrawal>(alloc, given, out),

@@ -6,8 +6,8 @@ ghost use Rattle.std.specs.Str.Lines.{strip_carriage_return};
 ghost use Rattle.rlp.specs.Format.Encoding.{IsSized, encoding};
 ghost use Rattle.rlp_codec.specs.Form.{Fault};
 ghost use Rattle.rlp_lines.specs.Digits.{bytes_in};
-ghost use Rattle.rlp_headers.specs.TypedReceipt.{typed_receipt};
-ghost use Rattle.rlp_headers.specs.declared.typed_receipt.TypedReceipt.{TypedReceipt};
+ghost use Rattle.rlp_headers.specs.AnyReceipt.{any_receipt};
+ghost use Rattle.rlp_headers.specs.declared.any_receipt.AnyReceipt.{AnyReceipt};
 ghost use Rattle.rlp_records.specs.Alone.{bytes_alone};
 ghost use Rattle.rlp_transactions.specs.AnyTransaction.{any_transaction};
 ghost use Rattle.rlp_transactions.specs.UnsignedTransaction.{unsigned_alone, unsigned_transaction};
@@ -18,7 +18,7 @@ ghost use Rattle.rlp_trie.specs.TrieNodeLaws.{trie_node};
 ghost use Rattle.rlp_trie.specs.declared.trie_node.TrieNode.{TrieNode};
 ghost use Rattle.rlp_print.specs.Items.{node_display};
 ghost use Rattle.rlp_print.specs.Json.{json_of};
-ghost use Rattle.rlp_print.specs.Records.{typed_receipt_display};
+ghost use Rattle.rlp_print.specs.Records.{any_receipt_display};
 ghost use Rattle.rlp_print.specs.Transactions.{any_transaction_display, unsigned_display};
 ghost use Rattle.rlp_print.specs.Value.{Value, entry, object};
 ghost use Rattle.rlp_show.specs.Answers.{IsAnswered, IsRead, answer_of, camel};
@@ -101,14 +101,14 @@ pub fn only_transactions_are_shown(line: &[u8])
         × IsAnswered kind.Transaction line.now bytes v }
 {}
 
-/// If the digits of a line are the bytes of a receipt by itself, as `TypedReceipt::to_bytes` of
+/// If the digits of a line are the bytes of a receipt by itself, as `AnyReceipt::to_bytes` of
 /// `rlp_ethereum` returns them, the answer is what is shown of the receipt.
 pub fn receipts_are_shown(line: &[u8])
-    ensures { (r : TypedReceipt) → typed_receipt.Fits r
-        → length (bytes_alone (typed_receipt.item r)) < 2 ^ 64
-        → bytes_in (strip_carriage_return line.now) ≡ Some (bytes_alone (typed_receipt.item r))
-        → IsAnswered kind.Receipt line.now (bytes_alone (typed_receipt.item r))
-        (typed_receipt_display.shown (typed_receipt.reading.seen r)) }
+    ensures { (r : AnyReceipt) → any_receipt.Fits r
+        → length (bytes_alone (any_receipt.item r)) < 2 ^ 64
+        → bytes_in (strip_carriage_return line.now) ≡ Some (bytes_alone (any_receipt.item r))
+        → IsAnswered kind.Receipt line.now (bytes_alone (any_receipt.item r))
+        (any_receipt_display.shown (any_receipt.reading.seen r)) }
 {}
 
 /// If the digits of a line are bytes that are shown as a receipt without a fault, the answer is what
@@ -118,8 +118,8 @@ pub fn only_receipts_are_shown(line: &[u8])
     ensures { (bytes : List ℕ) (v : Value)
         → bytes_in (strip_carriage_return line.now) ≡ Some bytes
         → (kind_shown kind.Receipt bytes).result ≡ Ok v
-        → IsRead (λ r. typed_receipt.Fits r × (bytes ≡ bytes_alone (typed_receipt.item r)))
-        typed_receipt.reading typed_receipt_display.shown v
+        → IsRead (λ r. any_receipt.Fits r × (bytes ≡ bytes_alone (any_receipt.item r)))
+        any_receipt.reading any_receipt_display.shown v
         × IsAnswered kind.Receipt line.now bytes v }
 {}
 

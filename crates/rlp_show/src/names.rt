@@ -109,7 +109,8 @@ const HEADER: Fields = fields!(
     "parent_hash"; "ommers_hash"; "beneficiary"; "state_root"; "transactions_root";
     "receipts_root"; "logs_bloom"; "difficulty"; "number"; "gas_limit"; "gas_used"; "timestamp";
     "extra_data"; "mix_hash"; "nonce"; "base_fee_per_gas"; "withdrawals_root"; "blob_gas_used";
-    "excess_blob_gas"; "parent_beacon_block_root"; "requests_hash"
+    "excess_blob_gas"; "parent_beacon_block_root"; "requests_hash"; "block_access_list_hash";
+    "slot_number"
 );
 
 const HELLO: Fields = fields!(

@@ -1,4 +1,4 @@
-//! Blocks, a header of 21 fields, and transactions of types 3 and 4 and of types that aren't known.
+//! Blocks, a header of 23 fields, and transactions of types 3 and 4 and of types that aren't known.
 //!
 //! The bytes and all expected lines were written by a Python script from the fields of the records,
 //! in the order of the EIPs and the yellow paper.
@@ -16,9 +16,9 @@ const TRANSACTIONS: [Row; 4] = [
          \n",
     ),
     (
-        "transaction 00",
-        "hash: 0xbc36789e7a1e281436464229828f817d6612f7b477d66591ff96a9e064bcc98a\n\
-         type: 0\n\
+        "transaction 06",
+        "hash: 0xd0591206d9e81e07f4defc5327957173572bcd1bca7838caa7be39b0c12b1873\n\
+         type: 6\n\
          payload: 0x\n\
          \n",
     ),
@@ -58,9 +58,9 @@ const TRANSACTIONS: [Row; 4] = [
         "transaction 04f8ae88ffffffffffffffff800102825208940102030405060708090a0b0c0d0e0f1011\
          121314880de0b6b3a7640000821234c0f858db80945df9b87991262f6ba471f09758cde1\
          c0fc1de7340581ff090af83aa0ffffffffffffffffffffffffffffffffffffffffffffff\
-         ffffffffffffffffff940102030405060708090a0b0c0d0e0f1011121314808080800180\
-         a0ffffffffffffffffffffffffffffffffffffffffffffffffffffffffffffffff",
-        "hash: 0x7bf3094a09621c43aab54107f8b33b696e0c25b85596d2266365b18b9f27701a\n\
+         ffffffffffffffffff940102030405060708090a0b0c0d0e0f1011121314808001020101\
+         a0fffffffffffffffffffffffffffffffebaaedce6af48a03bbfd25e8cd0364140",
+        "hash: 0xfdcc3dbf936a417631794472697417f0317dbf71859f96de313862bbc891228c\n\
          type: 4\n\
          chain_id: 18446744073709551615\n\
          nonce: 0\n\
@@ -86,13 +86,13 @@ const TRANSACTIONS: [Row; 4] = [
          4\n\
          authorization_list[1].nonce: 0\n\
          authorization_list[1].y_parity: 0\n\
-         authorization_list[1].r: 0x0\n\
-         authorization_list[1].s: 0x0\n\
+         authorization_list[1].r: 0x1\n\
+         authorization_list[1].s: 0x2\n\
          authorization_list[1].signing_hash: 0x78362f10a690e4c53126f264ce5f2dfff606\
          e6da69368ce2e965344ea8ff97d7\n\
          y_parity: 1\n\
-         r: 0x0\n\
-         s: 0xffffffffffffffffffffffffffffffffffffffffffffffffffffffffffffffff\n\
+         r: 0x1\n\
+         s: 0xfffffffffffffffffffffffffffffffebaaedce6af48a03bbfd25e8cd0364140\n\
          signing_hash: 0xf23f439b02651373562d8eef7810820d6c2581021f4fdb89d6d63205aa\
          7a7aaf\n\
          \n",
@@ -377,7 +377,7 @@ const BLOCKS: [Row; 4] = [
          \n",
     ),
     (
-        "header f90267a0000102030405060708090a0b0c0d0e0f101112131415161718191a1b1c1d1e1f\
+        "header f9028ca0000102030405060708090a0b0c0d0e0f101112131415161718191a1b1c1d1e1f\
          a0ffffffffffffffffffffffffffffffffffffffffffffffffffffffffffffffff945df9\
          b87991262f6ba471f09758cde1c0fc1de734a0000102030405060708090a0b0c0d0e0f10\
          1112131415161718191a1b1c1d1e1fa0ffffffffffffffffffffffffffffffffffffffff\
@@ -394,8 +394,9 @@ const BLOCKS: [Row; 4] = [
          0000000000843b9aca00a0000102030405060708090a0b0c0d0e0f101112131415161718\
          191a1b1c1d1e1f8302000080a0000102030405060708090a0b0c0d0e0f10111213141516\
          1718191a1b1c1d1e1fa0e3b0c44298fc1c149afbf4c8996fb92427ae41e4649b934ca495\
-         991b7852b855",
-        "hash: 0xcc5bf6377a8fb490b48dfcc7ee63e3658e2fa050d76c9f8032cf3d67389274f9\n\
+         991b7852b855a00f1e2d3c4b5a69788796a5b4c3d2e1f00112233445566778899aabbccd\
+         deeff083cb6657",
+        "hash: 0x5ca7409b6486b799382aff48586c16a53db06e0de5ef84f6c953b0a8bfc14279\n\
          parent_hash: 0x000102030405060708090a0b0c0d0e0f101112131415161718191a1b1\
          c1d1e1f\n\
          ommers_hash: 0xfffffffffffffffffffffffffffffffffffffffffffffffffffffffff\
@@ -433,6 +434,9 @@ const BLOCKS: [Row; 4] = [
          161718191a1b1c1d1e1f\n\
          requests_hash: 0xe3b0c44298fc1c149afbf4c8996fb92427ae41e4649b934ca495991\
          b7852b855\n\
+         block_access_list_hash: 0x0f1e2d3c4b5a69788796a5b4c3d2e1f001122334455667\
+         78899aabbccddeeff0\n\
+         slot_number: 13330007\n\
          \n",
     ),
 ];

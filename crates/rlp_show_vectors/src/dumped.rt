@@ -78,16 +78,16 @@ const ROWS: [Row; 9] = [
          131 82 765f pairs[3].value: 30303\n\n",
     ),
     (
-        "transactions c40582067f",
+        "transactions c40682077f",
         "0 c4 - list\n\
-         - - - transactions[0].hash: 0xdbb8d0f4c497851a5043c6363657698cb1387682cac2f786c7\
-         31f8936109d795\n\
-         1 - 05 transactions[0].type: 5\n\
+         - - - transactions[0].hash: 0xd0591206d9e81e07f4defc5327957173572bcd1bca7838caa7\
+         be39b0c12b1873\n\
+         1 - 06 transactions[0].type: 6\n\
          - - - transactions[0].payload: 0x\n\
-         - - - transactions[1].hash: 0xca136295f34176aa30ef7fabff6431ee762816a3350571441d\
-         ad7f90e89b6c77\n\
+         - - - transactions[1].hash: 0x4b021e7bd5647537762eeac03cd57bfc38e382b15aced16a59\
+         7f196d850f9283\n\
          2 82 - envelope\n\
-         3 - 06 transactions[1].type: 6\n\
+         3 - 07 transactions[1].type: 7\n\
          4 - 7f transactions[1].payload: 0x7f\n\n",
     ),
     (

@@ -8,7 +8,7 @@ use rlp_show::Kind;
 use std::test::Fail;
 
 /// Transactions: the kind, the digits, and what is wrong.
-const TRANSACTION_FAULTS: [Row; 9] = [
+const TRANSACTION_FAULTS: [Row; 10] = [
     (
         "transaction 01f89d0180843b9aca008252088080826000f84ef7945df9b87991262f6ba471f09758cd\
          e1c0fc1de734e1a0000102030405060708090a0b0c0d0e0f101112131415161718191a1b\
@@ -46,6 +46,10 @@ const TRANSACTION_FAULTS: [Row; 9] = [
         "transaction 85f853818988ffffffffffffffff80880de0b6b3a7640000827530940102030405060708\
          090a0b0c0d0e0f1011121314a0dd15fe86affad91249ef0eb713f39ebeaa987b6e6fd2a0\
          00000000000000000080c0800708",
+        "error Custom(\"unknown transaction type\")\n",
+    ),
+    (
+        "receipt 05c0",
         "error Custom(\"unknown transaction type\")\n",
     ),
     (

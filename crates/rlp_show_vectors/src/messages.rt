@@ -8,7 +8,7 @@ use crate::support::{Row, check};
 use std::test::Fail;
 
 /// The kind, the digits of a body, and its lines.
-const MESSAGES: [Row; 22] = [
+const MESSAGES: [Row; 23] = [
     (
         "hello f87137916b6e6574682f76302e39312f706c616e39cdc5836574683dc6846d6f72\
          6b1682270fb840fda1cff674c90c9a197539fe3dfb53086ace64f83ed7c6eabec741f7f3\
@@ -81,14 +81,14 @@ const MESSAGES: [Row; 22] = [
          \n",
     ),
     (
-        "transactions c40582067f",
-        "transactions[0].hash: 0xdbb8d0f4c497851a5043c6363657698cb1387682cac2f786\
-         c731f8936109d795\n\
-         transactions[0].type: 5\n\
+        "transactions c40682077f",
+        "transactions[0].hash: 0xd0591206d9e81e07f4defc5327957173572bcd1bca7838ca\
+         a7be39b0c12b1873\n\
+         transactions[0].type: 6\n\
          transactions[0].payload: 0x\n\
-         transactions[1].hash: 0xca136295f34176aa30ef7fabff6431ee762816a335057144\
-         1dad7f90e89b6c77\n\
-         transactions[1].type: 6\n\
+         transactions[1].hash: 0x4b021e7bd5647537762eeac03cd57bfc38e382b15aced16a\
+         597f196d850f9283\n\
+         transactions[1].type: 7\n\
          transactions[1].payload: 0x7f\n\
          \n",
     ),
@@ -258,6 +258,15 @@ const MESSAGES: [Row; 22] = [
          block.transactions: []\n\
          block.ommers: []\n\
          total_difficulty: 34351349760\n\
+         \n",
+    ),
+    (
+        "receipts68 c703c5c40682077f",
+        "request_id: 3\n\
+         content[0][0].type: 6\n\
+         content[0][0].payload: 0x\n\
+         content[0][1].type: 7\n\
+         content[0][1].payload: 0x7f\n\
          \n",
     ),
     (

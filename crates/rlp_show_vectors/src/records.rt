@@ -9,7 +9,7 @@ use crate::support::{Row, check};
 use std::test::Fail;
 
 /// The kind, the digits of a record, and its lines.
-const RECORDS: [Row; 10] = [
+const RECORDS: [Row; 11] = [
     (
         "transaction f86c098504a817c800825208943535353535353535353535353535353535353535880de0\
          b6b3a76400008025a028ef61340bd939bc2195fe537567866003e1a15d3c71ff63e15906\
@@ -80,9 +80,9 @@ const RECORDS: [Row; 10] = [
          cde1c0fc1de734f842a0000102030405060708090a0b0c0d0e0f10111213141516171819\
          1a1b1c1d1e1fa0ffffffffffffffffffffffffffffffffffffffffffffffffffffffffff\
          ffffffd6940102030405060708090a0b0c0d0e0f1011121314c001a0ffffffffffffffff\
-         ffffffffffffffffffffffffffffffffffffffffffffffff9b184f03e93ff9f4daa797ed\
+         fffffffffffffffebaaedce6af48a03bbfd25e8cd03641409b184f03e93ff9f4daa797ed\
          6e38ed64bf6a1f010000000000000000",
-        "hash: 0x9e7267fa945d6ad029a6842ffc373347dd4022c34285d55658fb9a8bf6bd31c9\n\
+        "hash: 0xc317063024756cabb07f9a4d43fbf088db86c6c34c5cf0efcf59c20c797dbe30\n\
          type: 1\n\
          chain_id: 1\n\
          nonce: 0\n\
@@ -99,7 +99,7 @@ const RECORDS: [Row; 10] = [
          access_list[1].address: 0x0102030405060708090a0b0c0d0e0f1011121314\n\
          access_list[1].storage_keys: []\n\
          y_parity: 1\n\
-         r: 0xffffffffffffffffffffffffffffffffffffffffffffffffffffffffffffffff\n\
+         r: 0xfffffffffffffffffffffffffffffffebaaedce6af48a03bbfd25e8cd0364140\n\
          s: 0x184f03e93ff9f4daa797ed6e38ed64bf6a1f010000000000000000\n\
          signing_hash: 0xc8018b3689c0ebb15c52da01e8b29ffbfe1416bdea1870855e0e19aad1\
          935dba\n\
@@ -148,6 +148,12 @@ const RECORDS: [Row; 10] = [
          000000000000000000000000000000000000000000000000000000000000000000000000\
          0000000000000000000000\n\
          logs: []\n\
+         \n",
+    ),
+    (
+        "receipt 7ec401020304",
+        "type: 126\n\
+         payload: 0xc401020304\n\
          \n",
     ),
     (

@@ -1,23 +1,18 @@
 -- Transactions by themselves: the bytes of a transaction are read back, and no other bytes are read.
-use Rattle.std.proofs.Common.{◌≡◌, ℕ, ◌^◌, ◌<◌, ◌≤◌, inl, inr, true, false, ltb, List, [], ◌∷◌, length, refl, arith, le-ltb, leb-true}
-use Rattle.rlp.specs.Format.Encoding.{string}
-use Rattle.rlp.specs.Format.Framing.{begins_as_list}
-use Rattle.rlp.specs.Values.Sums.{sum_item}
-use Rattle.rlp_codec.specs.Sums.{envelope}
+use Rattle.std.proofs.Common.{◌<◌, inl, inr, refl, arith}
 use Rattle.rlp_codec.proofs.StringLaws.{ReadsStrings}
 use Rattle.rlp.specs.Codec.{plain}
-use Rattle.rlp_records.proofs.Alone.{alone_strings, list_alone_begins}
+use Rattle.rlp_records.proofs.Alone.{alone_strings}
 use Rattle.rlp_records.proofs.Bytes.{strings_held}
+use Rattle.rlp_records.proofs.OtherTypes.{known_bytes, or_strings}
 use Rattle.rlp_records.specs.Alone.{bytes_alone}
-use Rattle.rlp_transactions.proofs.OtherTypes.{or_strings}
+use Rattle.rlp_records.specs.OtherEnvelope.{is_other}
 use Rattle.rlp_transactions.specs.AnyTransaction.{any_alone, any_sum, any_transaction, known_type}
 use Rattle.rlp_transactions.specs.LegacyTransaction.{signed_legacy_transaction}
-use Rattle.rlp_transactions.specs.OtherTransaction.{is_other}
 use Rattle.rlp_transactions.specs.PooledTransaction.{pooled_alone, pooled_sum, pooled_transaction, pooled_types}
 use Rattle.rlp_transactions.specs.Transaction.{as_sum, transaction, transaction_alone, typed_transactions}
 use Rattle.rlp_transactions.specs.UnsignedLegacyTransaction.{unsigned_legacy_transaction}
 use Rattle.rlp_transactions.specs.UnsignedTransaction.{unsigned_alone, unsigned_sum, unsigned_transaction, unsigned_types}
-use Rattle.rlp_transactions.specs.declared.transaction.Transaction.{Transaction}
 
 -- the numbers of the types are below the first byte of every list
 low : (y : _) → typed_transactions.cases.tag y < 0xc0
@@ -59,25 +54,10 @@ unsigned_strings =
     strings_held unsigned_sum _ _ _ _ _
     (alone_strings (plain unsigned_legacy_transaction) unsigned_types.cases (λ x. refl) unsigned_low unsigned_legacy_transaction.reads_strictly unsigned_types.laws)
 
-list_known : (d : List ℕ) → begins_as_list d ≡ true → is_other d ≡ false
-list_known [] kind = refl
-list_known (first ∷ rest) kind =
-    let above : 0xc0 ≤ first = leb-true 0xc0 first kind in
-    let large : ltb first 0x80 ≡ false = le-ltb first 0x80 (omega (arith, above)) in
-    cc
-
--- the bytes of a transaction of a type that is known aren't the bytes of another type
-known_bytes : (t : Transaction) → length (bytes_alone (transaction.item t)) < 2 ^ 64 → is_other (bytes_alone (transaction.item t)) ≡ false
-known_bytes t short = by (as_sum t) short
-  where
-    by : (s : _) → length (bytes_alone (sum_item signed_legacy_transaction.item (λ y. string (envelope typed_transactions.cases y)) s)) < 2 ^ 64
-        → is_other (bytes_alone (sum_item signed_legacy_transaction.item (λ y. string (envelope typed_transactions.cases y)) s)) ≡ false
-    by (inl x) short = list_known (bytes_alone (signed_legacy_transaction.item x)) (list_alone_begins (signed_legacy_transaction.item x) refl short)
-    by (inr y) short = known_type y
-
 -- transactions of every type
 pub any_strings : ReadsStrings any_transaction.Fits (λ t. bytes_alone (any_transaction.item t)) any_transaction.reading.seen
     (λ m. bytes_alone (any_transaction.reading.item m)) (λ d. (any_alone d).result)
 any_strings =
     strings_held any_sum _ _ _ _ _
-    (or_strings is_other transaction.Fits transaction.item transaction.reading.seen transaction.reading.item transaction_alone transaction_strings known_bytes)
+    (or_strings is_other transaction.Fits transaction.item transaction.reading.seen transaction.reading.item transaction_alone transaction_strings
+    (λ t. known_bytes signed_legacy_transaction.item typed_transactions.cases (λ x. refl) known_type (as_sum t)))

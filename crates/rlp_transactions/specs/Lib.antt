@@ -11,11 +11,11 @@ pub mod Eip155
 pub mod FeeMarketTransaction
 pub mod ItemCounts
 pub mod LegacyTransaction
-pub mod OtherStrings
-pub mod OtherTransaction
+pub mod NonZeroScalar
 pub mod PooledBlobTransaction
 pub mod PooledTransaction
 pub mod Recipient
+pub mod Secp256k1
 pub mod SetCodeTransaction
 pub mod Signatures
 pub mod Signed

@@ -3,6 +3,7 @@ use Rattle.std.specs.Prelude.{ℕ, ◌≡◌, ◌≢◌, ◌<◌, ◌^◌, Bool,
 use Rattle.std.specs.Int.Digits.{number_from_digits}
 use Rattle.rlp.specs.Uint.{Uint}
 use Rattle.rlp_transactions.specs.declared.eip155.Eip155.{Eip155}
+use Rattle.rlp_transactions.specs.declared.scalar.NonZeroScalar.{NonZeroScalar}
 use Rattle.rlp_transactions.specs.declared.transaction.Transaction.{Transaction}
 use Rattle.rlp_transactions.specs.declared.transaction.Transaction.TheVariants.{AccessList, Blob, FeeMarket, Legacy, SetCode}
 use Rattle.rlp_transactions.specs.declared.unsigned_transaction.UnsignedTransaction.{UnsignedTransaction}
@@ -30,7 +31,7 @@ IsChainOf (Blob t) chain = chain ≡ Some t.payload.chain_id
 IsChainOf (SetCode t) chain = chain ≡ Some t.payload.chain_id
 
 -- the first number of the signature
-abbrev pub r_of : Transaction → Uint 32
+abbrev pub r_of : Transaction → NonZeroScalar
 r_of (Legacy t) = t.r
 r_of (AccessList t) = t.r
 r_of (FeeMarket t) = t.r
@@ -38,7 +39,7 @@ r_of (Blob t) = t.r
 r_of (SetCode t) = t.r
 
 -- the second number of the signature
-abbrev pub s_of : Transaction → Uint 32
+abbrev pub s_of : Transaction → NonZeroScalar
 s_of (Legacy t) = t.s
 s_of (AccessList t) = t.s
 s_of (FeeMarket t) = t.s

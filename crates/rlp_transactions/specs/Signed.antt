@@ -2,7 +2,8 @@
 use Rattle.std.specs.Prelude.{◌≡◌, List, ◌++◌, ◌∷◌, true}
 use Rattle.rlp.specs.Format.Encoding.{Item, list_of}
 use Rattle.rlp_codec.specs.Form.{FieldsReading, Reading, group_before, one_field, struct_reading}
-use Rattle.rlp.specs.Codec.{Codec, Fields, end, field, group, newtype, struct_of, uint}
+use Rattle.rlp.specs.Codec.{Codec, Fields, end, field, group, newtype, struct_of}
+use Rattle.rlp_transactions.specs.NonZeroScalar.{scalar}
 use Rattle.rlp_transactions.specs.declared.signed.Signed.{Signed}
 use Rattle.rlp_transactions.specs.declared.signed.Listed.{Listed}
 
@@ -12,7 +13,7 @@ listed {T} f = newtype (λ (u : Listed T). u.0) (struct_of f)
 
 -- the last two fields
 abbrev pub both_numbers : {T V : Type 0} → Fields (Signed T V)
-both_numbers {T} {V} = field (λ (x : Signed T V). x.r) (uint 32) (field (λ (x : Signed T V). x.s) (uint 32) end)
+both_numbers {T} {V} = field (λ (x : Signed T V). x.r) scalar (field (λ (x : Signed T V). x.s) scalar end)
 
 -- the fields of the payload, and then those of the signature
 abbrev pub signed_fields : {T V : Type 0} (f : Fields T) → f.reading.is_fixed ≡ true → Codec V → Fields (Signed T V)

@@ -84,6 +84,8 @@ impl DecodeFields for AccessListTransaction {
             }
         )
     }
+
+    ghost possible = { access_list_transaction_fields.laws.possible };
 }
 
 impl DecodeFieldsPlaced for AccessListTransaction {

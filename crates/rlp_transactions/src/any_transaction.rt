@@ -7,14 +7,13 @@ ghost use Rattle.rlp_records.specs.Alone.{bytes_alone};
 ghost use Rattle.rlp_records.specs.Hashing.{IsHashOf};
 ghost use Rattle.rlp_transactions.specs.AnyTransaction.{any_alone, any_transaction, any_type};
 
-use crate::other_transaction::is_other;
-use crate::{OtherTransaction, Transaction};
+use crate::Transaction;
 use bytes::BytesMut;
 use keccak::keccak256;
 use rlp::{
     Decodable, DecodePlaced, DecoderError, Encodable, Rlp, RlpStream, RoundTrip, StrictRead,
 };
-use rlp_records::Hash;
+use rlp_records::{Hash, OtherEnvelope};
 use std::alloc::{AllocError, Global};
 
 /// A transaction in the list of a block's transactions, of any type: one of a type that isn't known
@@ -23,8 +22,8 @@ use std::alloc::{AllocError, Global};
 pub enum AnyTransaction {
     /// A transaction without a type, or of a type that is known.
     Known(Transaction),
-    /// A transaction of another type.
-    Other(OtherTransaction),
+    /// A transaction of another type, such as a [`DepositTransaction`](crate::DepositTransaction).
+    Other(OtherEnvelope),
 }
 
 impl AnyTransaction {
@@ -43,7 +42,7 @@ impl AnyTransaction {
     /// Reads a transaction strictly from its bytes, as [`AnyTransaction::to_bytes`] returns them.
     /// For such bytes it fails only if memory runs out.
     ///
-    /// Fails as [`Transaction::from_bytes`] does, but not for a type below 0x80 that isn't known.
+    /// Fails as [`Transaction::from_bytes`] does, but not for the type of an [`OtherEnvelope`].
     pub fn from_bytes(alloc: Global, bytes: &[u8]) -> Result<AnyTransaction, DecoderError>
         ensures whole { IfOk result (λ t. any_transaction.Fits t
             × (bytes.now ≡ bytes_alone (any_transaction.item t))) }
@@ -55,8 +54,8 @@ impl AnyTransaction {
             → bytes.now ≡ bytes_alone (any_transaction.item t)
             → IfErr result (λ e. e ≡ OutOfMemory) }
     {
-        if is_other(bytes) {
-            return match OtherTransaction::from_bytes(alloc, bytes) {
+        if OtherEnvelope::is_other(bytes) {
+            return match OtherEnvelope::from_bytes(alloc, bytes) {
                 Ok(other) => Ok(AnyTransaction::Other(other)),
                 Err(_) => Err(DecoderError::OutOfMemory),
             };
@@ -114,17 +113,18 @@ impl Encodable for AnyTransaction {
     }
 }
 
-/// Reading fails as reading a [`Transaction`] does, but not for the string of a type below 0x80 that
-/// isn't known.
+/// Reading fails as reading a [`Transaction`] does, but not for the string of an [`OtherEnvelope`].
 impl Decodable for AnyTransaction {
     ghost reading = { any_transaction.reading };
 
     fn decode(alloc: Global, rlp: &Rlp<'_>) -> Result<AnyTransaction, DecoderError> {
         match rlp.decoder().string() {
-            Ok(bytes) if is_other(bytes) => match OtherTransaction::from_bytes(alloc, bytes) {
-                Ok(other) => Ok(AnyTransaction::Other(other)),
-                Err(_) => Err(DecoderError::OutOfMemory),
-            },
+            Ok(bytes) if OtherEnvelope::is_other(bytes) => {
+                match OtherEnvelope::from_bytes(alloc, bytes) {
+                    Ok(other) => Ok(AnyTransaction::Other(other)),
+                    Err(_) => Err(DecoderError::OutOfMemory),
+                }
+            }
             _ => {
                 let known = rlp.as_val(alloc)?;
                 Ok(AnyTransaction::Known(known))

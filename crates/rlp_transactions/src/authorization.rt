@@ -8,11 +8,8 @@ use rlp::{
     AppendFields, CountedFields, DecodeFields, DecodeFieldsPlaced, DecoderError, Fields,
     FixedFields, RlpStream, Uint,
 };
-use rlp_records::Address;
+use rlp_records::{AUTHORIZATION_MAGIC, Address};
 use std::alloc::{AllocError, Global};
-
-/// The byte before the list of an authorization's fields in what is signed, as in EIP-7702.
-pub const AUTHORIZATION_MAGIC: u8 = 0x05;
 
 /// An authorization with its signature: the list of six fields. The parity of the signature's point
 /// is any number below 256, as in the EIP.
@@ -65,6 +62,8 @@ impl DecodeFields for Authorization {
             }
         )
     }
+
+    ghost possible = { authorization_fields.laws.possible };
 }
 
 impl DecodeFieldsPlaced for Authorization {

@@ -98,6 +98,8 @@ impl DecodeFields for BlobTransaction {
             }
         )
     }
+
+    ghost possible = { blob_transaction_fields.laws.possible };
 }
 
 impl DecodeFieldsPlaced for BlobTransaction {

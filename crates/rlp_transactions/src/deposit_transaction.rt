@@ -6,11 +6,8 @@ use crate::Recipient;
 use rlp::{
     Decodable, DecodePlaced, DecoderError, Encodable, Rlp, RlpStream, RoundTrip, StrictRead, Uint,
 };
-use rlp_records::{Address, Enveloped, Hash};
+use rlp_records::{Address, DEPOSIT_TYPE, Enveloped, Hash};
 use std::alloc::{AllocError, Global};
-
-/// The type of a [`DepositTransaction`]: the specification of deposits of the OP stack.
-pub const DEPOSIT_TYPE: u8 = 0x7e;
 
 /// A deposit of the OP stack, a transaction that comes from the chain below: the list of its eight
 /// fields, after the byte `0x7e`. It has no signature.

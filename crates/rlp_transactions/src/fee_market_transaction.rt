@@ -88,6 +88,8 @@ impl DecodeFields for FeeMarketTransaction {
             }
         )
     }
+
+    ghost possible = { fee_market_transaction_fields.laws.possible };
 }
 
 impl DecodeFieldsPlaced for FeeMarketTransaction {

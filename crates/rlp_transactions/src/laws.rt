@@ -7,6 +7,7 @@ ghost use Rattle.rlp_transactions.specs.AnyTransaction.{any_transaction};
 ghost use Rattle.rlp_transactions.specs.PooledTransaction.{consensus_form, pooled_transaction};
 ghost use Rattle.rlp_transactions.specs.Transaction.{transaction};
 ghost use Rattle.rlp_transactions.specs.TransactionParts.{type_of};
+ghost use Rattle.rlp_transactions.specs.declared.transaction.Transaction.{Transaction};
 
 use crate::{AnyTransaction, PooledTransaction};
 use rlp_records::Hash;
@@ -78,4 +79,14 @@ pub fn no_bytes_are_signed_for_two_meanings()
     ensures { (one other : Signable) → FitsSigning one → FitsSigning other
         → length (signed_bytes one) < 2 ^ 64 → signed_bytes one ≡ signed_bytes other
         → HaveOneMeaning one other }
+{}
+
+/// The bytes of a signed transaction are the signing payload of nothing: what
+/// [`Transaction::to_bytes`](crate::Transaction::to_bytes) writes, fewer than 2^64 bytes, is what a
+/// key signs of no transaction and of no authorization. So no bytes are read both as signed and as
+/// what is to be signed.
+pub fn signed_transactions_are_no_signing_payloads()
+    ensures { (t : Transaction) (x : Signable)
+        → length (bytes_alone (transaction.item t)) < 2 ^ 64
+        → bytes_alone (transaction.item t) ≢ signed_bytes x }
 {}

@@ -117,6 +117,8 @@ impl DecodeFields for LegacyTransaction {
             }
         )
     }
+
+    ghost possible = { legacy_transaction_fields.laws.possible };
 }
 
 impl DecodeFieldsPlaced for LegacyTransaction {

@@ -31,7 +31,7 @@ use std::alloc::{AllocError, Global};
 ///
 /// Reading doesn't compare the blobs with the transaction: [`PooledBlobTransaction::check_blobs`]
 /// tests their number and the versioned hashes. Nothing here tests the proofs, which takes KZG.
-#[derive(Drop)]
+#[derive(Debug, PartialEq, Eq, Drop)]
 pub enum PooledTransaction {
     /// A transaction without a type.
     Legacy(SignedLegacyTransaction),

@@ -95,6 +95,8 @@ impl DecodeFields for SetCodeTransaction {
             }
         )
     }
+
+    ghost possible = { set_code_transaction_fields.laws.possible };
 }
 
 impl DecodeFieldsPlaced for SetCodeTransaction {

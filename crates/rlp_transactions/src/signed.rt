@@ -1,19 +1,21 @@
 //! Payloads with their signatures and without.
 
-ghost use Rattle.std.specs.Prelude.{◌≡◌, ◌∷◌, ◌⊎◌, ℕ, true, Bool, Err, IfErr, IfOk, IsTrue, Ok, OnOk};
+ghost use Rattle.std.specs.Prelude.{◌≡◌, ◌∷◌, ◌⊎◌, ◌↔◌, ℕ, true, Bool, Err, IfErr, IfOk, IsTrue, Ok, OnOk};
 ghost use Rattle.rlp.specs.DecoderError.TheVariants.{OutOfMemory};
 ghost use Rattle.rlp.specs.Format.Encoding.{encoding, list_of};
 ghost use Rattle.rlp_codec.specs.Form.{fault_of, held_reading, struct_reading};
 ghost use Rattle.rlp_codec.specs.Laws.{AreLawful, fields_of};
 ghost use Rattle.rlp.specs.Codec.{codec_of, lawful_fields};
 ghost use Rattle.rlp_records.specs.Envelope.{another_type, read_after};
+ghost use Rattle.rlp_transactions.specs.Secp256k1.{IsLow};
 ghost use Rattle.rlp_transactions.specs.Signed.{SignedFits, listed, signed, signed_item, signed_reading};
 ghost use Rattle.rlp_transactions.specs.declared.signed.Signed.{Signed};
 
+use crate::NonZeroScalar;
 use bytes::BytesMut;
 use rlp::{
     AppendFields, Decodable, DecodeFieldsPlaced, DecodePlaced, DecoderError, Encodable, FieldsOf,
-    FixedFields, Joined, Rlp, RlpStream, RoundTrip, StrictRead, Uint,
+    FixedFields, Joined, Rlp, RlpStream, RoundTrip, StrictRead,
 };
 use rlp_records::{from_envelope, to_envelope, typed_list};
 use std::alloc::{AllocError, Global};
@@ -29,7 +31,7 @@ pub trait Payload: AppendFields + FixedFields {
 
     /// Returns the record with this signature, which isn't checked. The number `v` says which of two
     /// points belongs to the signature, as in [`Signed`].
-    final fn with_signature<V>(self, v: V, r: Uint<32>, s: Uint<32>) -> Signed<Self, V>
+    final fn with_signature<V>(self, v: V, r: NonZeroScalar, s: NonZeroScalar) -> Signed<Self, V>
         ensures payload { result.payload ≡ self }
         ensures v { result.v ≡ v }
         ensures r { result.r ≡ r }
@@ -102,18 +104,25 @@ pub struct Signed<T, V = bool> {
     /// with EIP-155 twice the number of the chain plus 35 or 36.
     pub v: V,
     /// The first number of the signature.
-    pub r: Uint<32>,
+    pub r: NonZeroScalar,
     /// The second number of the signature.
-    pub s: Uint<32>,
+    pub s: NonZeroScalar,
 }
 
 impl<T, V> Signed<T, V> {
     /// Returns the fields that are signed, and the numbers `v`, `r` and `s` of the signature.
-    pub fn into_parts(self) -> (T, V, Uint<32>, Uint<32>)
+    pub fn into_parts(self) -> (T, V, NonZeroScalar, NonZeroScalar)
         ensures { (result.0 ≡ self.payload) × ((result.1 ≡ self.v)
             × ((result.2 ≡ self.r) × (result.3 ≡ self.s))) }
     {
         (self.payload, self.v, self.r, self.s)
+    }
+
+    /// Whether the second number is low, as EIP-2 demands of a transaction's signature.
+    pub fn has_low_s(&self) -> bool
+        ensures { IsTrue result ↔ IsLow self.now.s.number }
+    {
+        self.s.is_low()
     }
 }
 
@@ -179,7 +188,9 @@ impl<T: Payload, V: Decodable> Decodable for Signed<T, V> {
 
 impl<T: Payload + DecodeFieldsPlaced, V: DecodePlaced> DecodePlaced for Signed<T, V> {
     fn put_path(alloc: Global, rlp: &Rlp<'_>, path: &mut Vec<usize>) -> Result<(), AllocError> {
-        rlp::put_path_of::<Joined<T, rlp::field_types!(V, Uint<32>, Uint<32>)>>(alloc, rlp, path)
+        rlp::put_path_of::<Joined<T, rlp::field_types!(V, NonZeroScalar, NonZeroScalar)>>(
+            alloc, rlp, path,
+        )
     }
 }
 

@@ -6,11 +6,11 @@ ghost use Rattle.rlp_transactions.specs.Eip155.{v_of};
 ghost use Rattle.rlp_transactions.specs.Signatures.{number_of};
 ghost use Rattle.rlp_transactions.specs.UnsignedLegacyTransaction.{unsigned_legacy_transaction};
 
-use crate::{Eip155, LegacyTransaction, Payload, SignedLegacyTransaction};
+use crate::{Eip155, LegacyTransaction, NonZeroScalar, Payload, SignedLegacyTransaction};
 use bytes::BytesMut;
 use rlp::{
     AppendFields, Decodable, DecodePlaced, DecoderError, Encodable, FieldsOf, Joined,
-    OptionalGroup, Rlp, RlpStream, RoundTrip, StrictRead, Uint, write_struct,
+    OptionalGroup, Rlp, RlpStream, RoundTrip, StrictRead, write_struct,
 };
 use std::alloc::{AllocError, Global};
 
@@ -29,7 +29,12 @@ pub struct UnsignedLegacyTransaction {
 impl UnsignedLegacyTransaction {
     /// Returns the transaction with this signature, which isn't checked. Its `v` says the chain and the
     /// parity of the y value of the signature's point, as in EIP-155.
-    pub fn with_signature(self, y_parity: bool, r: Uint<32>, s: Uint<32>) -> SignedLegacyTransaction
+    pub fn with_signature(
+        self,
+        y_parity: bool,
+        r: NonZeroScalar,
+        s: NonZeroScalar,
+    ) -> SignedLegacyTransaction
         ensures payload { result.payload ≡ self.payload }
         ensures v { number_of result.v
             ≡ v_of (record { chain_id = self.chain_id; y_parity = y_parity }) }

@@ -12,11 +12,11 @@ ghost use Rattle.rlp_transactions.specs.UnsignedTransaction.{unsigned_transactio
 use crate::signed::{Listed, Payload, Tagged};
 use crate::typed_payload::decode_typed;
 use crate::{
-    AccessListTransaction, BlobTransaction, FeeMarketTransaction, SetCodeTransaction, Transaction,
-    UnsignedLegacyTransaction,
+    AccessListTransaction, BlobTransaction, FeeMarketTransaction, NonZeroScalar,
+    SetCodeTransaction, Transaction, UnsignedLegacyTransaction,
 };
 use bytes::BytesMut;
-use rlp::{DecoderError, Envelope, Rlp, Uint};
+use rlp::{DecoderError, Envelope, Rlp};
 use rlp_records::{ACCESS_LIST_TYPE, BLOB_TYPE, FEE_MARKET_TYPE, SET_CODE_TYPE};
 use std::alloc::{AllocError, Global};
 
@@ -56,7 +56,7 @@ impl UnsignedTransaction {
 
     /// Returns the transaction with this signature, which isn't checked. The parity is that of the y
     /// value of the signature's point.
-    pub fn with_signature(self, y_parity: bool, r: Uint<32>, s: Uint<32>) -> Transaction
+    pub fn with_signature(self, y_parity: bool, r: NonZeroScalar, s: NonZeroScalar) -> Transaction
         ensures signs { Signs result self y_parity }
         ensures r { r_of result ≡ r }
         ensures s { s_of result ≡ s }

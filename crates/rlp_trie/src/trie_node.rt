@@ -21,7 +21,7 @@ use std::alloc::{AllocError, Global};
 ///
 /// See appendix D of the yellow paper. A branch is a list of 17 items, and leaves and extensions are
 /// lists of two, which the path tells apart, as [`ends_in_leaf`](crate::ends_in_leaf) explains.
-#[derive(Drop)]
+#[derive(Debug, PartialEq, Eq, Drop)]
 pub enum TrieNode {
     /// The empty trie, which has no node: the empty string.
     Empty,

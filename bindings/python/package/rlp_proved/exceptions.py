@@ -14,7 +14,7 @@ FAULTS = {
     8: ("RlpInvalidIndirection", "there is a shorter encoding"),
     9: ("RlpInconsistentLengthAndData", "the bytes end before the string does"),
     10: ("RlpInvalidLength", "a header and its string are 2^64 bytes or more"),
-    11: ("RlpInvalidBoolean", "a parity is a number above 1"),
+    11: ("RlpInvalidSignature", "a number of a signature is out of range"),
     14: ("RlpTooDeep", "there are more lists, one in the other, than allowed"),
     15: ("RlpBadItems", "the items describe no tree"),
     16: ("RlpUnknownType", "the type of the transaction isn't known"),

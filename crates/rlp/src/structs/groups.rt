@@ -4,6 +4,7 @@ ghost use Rattle.std.specs.Prelude.{◌≡◌, ◌≤◌, ◌^◌, MatchOption};
 ghost use Rattle.std.specs.Vec.{vec_items};
 ghost use Rattle.rlp_codec.specs.Form.{group_fields, one_field, part_fields};
 ghost use Rattle.rlp_codec.specs.Laws.{TakeWidth};
+ghost use Rattle.rlp_codec.proofs.GroupLaws.{groups_possible};
 ghost use Rattle.rlp_codec.proofs.FieldLaws.{end_wide, group_wide, one_wide, part_wide};
 
 use crate::rlpin::Fields;
@@ -84,4 +85,6 @@ impl<G: FixedFields> DecodeFields for Groups<G> {
         }
         Ok(Groups(groups))
     }
+
+    ghost possible = { groups_possible (λ x. vec_items x.0) G.reading G.takes };
 }

@@ -1,6 +1,7 @@
 //! Last fields of a struct that may be missing.
 
 ghost use Rattle.rlp_codec.specs.Form.{one_field, optional_fields};
+ghost use Rattle.rlp_codec.proofs.FieldLaws.{one_possible, optional_possible};
 
 use crate::rlpin::Fields;
 use crate::structs::DecodeFields;
@@ -29,6 +30,9 @@ impl<T: Decodable> DecodeFields for OptionalField<T> {
         let value = T::decode(alloc, &item)?;
         Ok(OptionalField(Some(value)))
     }
+
+    ghost possible = { optional_possible (λ x. x.0) (one_field T.reading)
+        (one_possible T.reading) };
 }
 
 /// Fields that are missing together, read from the last items of a list.
@@ -52,4 +56,6 @@ impl<S: DecodeFields> DecodeFields for OptionalGroup<S> {
         let values = S::decode_fields(alloc, fields)?;
         Ok(OptionalGroup(Some(values)))
     }
+
+    ghost possible = { optional_possible (λ x. x.0) S.reading S.possible };
 }

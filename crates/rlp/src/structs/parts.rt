@@ -1,6 +1,7 @@
 //! Structs whose lists begin with the fields of another struct.
 
 ghost use Rattle.rlp_codec.specs.Form.{group_before, part_fields};
+ghost use Rattle.rlp_codec.proofs.FieldLaws.{group_possible, part_possible};
 
 use crate::rlpin::Fields;
 use crate::structs::{DecodeFields, FixedFields};
@@ -31,4 +32,7 @@ impl<P: FixedFields, Q: DecodeFields> DecodeFields for Joined<P, Q> {
             Err(fault) => Err(fault),
         }
     }
+
+    ghost possible = { group_possible (λ x. x.0) P.reading (part_fields (λ x. x.1) Q.reading)
+        P.takes (part_possible (λ x. x.1) Q.reading Q.possible) };
 }

@@ -12,7 +12,7 @@ use super::unkept::{AnyString, EachOf, Joined, Step, StructOf, TestFields, Unkep
 use rlp::{DecoderError, OptionalGroup, Rlp, Uint, decode_struct};
 use rlp_headers::{Bloom, London};
 use rlp_records::{Address, Hash};
-use rlp_transactions::{Recipient, SignedAuthorization};
+use rlp_transactions::{NonZeroScalar, Recipient, SignedAuthorization};
 use std::alloc::Global;
 
 /// The types of fields as steps. Behind the `;` stands what comes after them.
@@ -42,7 +42,7 @@ type U256 = Uint<32>;
 type AccessList = EachOf<StructOf<Step<Address, Step<EachOf<Hash>, ()>>>>;
 
 /// The last three fields of a transaction.
-type Signature<V> = Step<V, Step<U256, Step<U256, ()>>>;
+type Signature<V> = Step<V, Step<NonZeroScalar, Step<NonZeroScalar, ()>>>;
 
 /// The most fields that a record has.
 pub(crate) fn most_fields(list: Record) -> usize
@@ -54,7 +54,7 @@ pub(crate) fn most_fields(list: Record) -> usize
         Record::FeeMarketPayload => 12,
         Record::BlobPayload => 14,
         Record::SetCodePayload => 13,
-        Record::Header => 21,
+        Record::Header => 23,
     }
 }
 
@@ -71,25 +71,22 @@ pub(crate) fn check_record(
 {
     match list {
         Record::Legacy => check_fields::<
-            Joined<6, steps!(u64, U256, u64, Recipient, U256, AnyString; ()), Signature<U256>>,
+            Joined<steps!(u64, U256, u64, Recipient, U256, AnyString; ()), Signature<U256>>,
         >(alloc, bytes),
         Record::AccessListPayload => check_fields::<
             Joined<
-                8,
                 steps!(u64, u64, U256, u64, Recipient, U256, AnyString, AccessList; ()),
                 Signature<bool>,
             >,
         >(alloc, bytes),
         Record::FeeMarketPayload => check_fields::<
             Joined<
-                9,
                 steps!(u64, u64, U256, U256, u64, Recipient, U256, AnyString, AccessList; ()),
                 Signature<bool>,
             >,
         >(alloc, bytes),
         Record::BlobPayload => check_fields::<
             Joined<
-                11,
                 steps!(
                     u64, u64, U256, U256, u64, Address, U256, AnyString, AccessList,
                     U256, EachOf<Hash>; ()
@@ -99,7 +96,6 @@ pub(crate) fn check_record(
         >(alloc, bytes),
         Record::SetCodePayload => check_fields::<
             Joined<
-                10,
                 steps!(
                     u64, u64, U256, U256, u64, Address, U256, AnyString, AccessList,
                     EachOf<SignedAuthorization>; ()

@@ -1,11 +1,13 @@
 //! Tests of values and of fields that keep nothing of what they read, so that they take no memory.
 
-ghost use Rattle.std.specs.Prelude.{ℕ, ◌≡◌, ◌⊎◌, ⊤, Err, IfErr, IsOkAnd, IsTrue, List, Ok, OnOk, Option, false};
+ghost use Rattle.std.specs.Prelude.{ℕ, ◌≡◌, ◌≤◌, ◌^◌, ◌⊎◌, ⊤, Err, IfErr, IsOkAnd, IsTrue, List, MatchOption, Ok, OnOk, Option, false};
 ghost use Rattle.rlp_reading.specs.declared.error.DecoderError.TheVariants.{OutOfMemory};
 ghost use Rattle.rlp_codec.specs.Form.{FieldsReading, Reading, fault_of, group_before, held_reading, list_reading, no_fields, one_field, optional_fields, part_fields, struct_reading, take_item};
 ghost use Rattle.rlp.specs.Codec.{byte_string};
 ghost use Rattle.rlp_c.specs.Fields.{without_value};
-ghost use Rattle.rlp_c.specs.Forgotten.{forgotten, joined};
+ghost use Rattle.rlp_codec.specs.Laws.{TakePossible, TakeWidth};
+ghost use Rattle.rlp_codec.proofs.FieldLaws.{end_possible, end_wide, group_possible, group_wide, one_wide, optional_possible, part_possible, part_wide};
+ghost use Rattle.rlp_c.specs.Forgotten.{forgotten, forgotten_possible};
 
 use rlp::{Decodable, DecodeFields, DecoderError, Fields, OptionalGroup, Rlp, decode_struct};
 use std::alloc::Global;
@@ -49,6 +51,19 @@ pub trait TestFields {
             ≡ Err (fields.new.views, fault_of e))
             ⊎ ((e ≡ OutOfMemory) × IsTrue tested.takes_memory)) }
         ensures after { fields.new.after ≡ fields.old.after };
+
+    /// Where the fields are all of the items, [`accepts`](TestFields::accepts) takes their number.
+    ghost possible: { TakePossible Self.tested };
+}
+
+/// A test of fields that are a fixed number of items.
+pub trait TestFixed: TestFields {
+    /// Returns the number of items, or `None` if it is 2^64 or more.
+    fn width() -> Option<usize>
+        ensures { MatchOption result (2 ^ 64 ≤ Self.tested.width) (λ n. n ≡ Self.tested.width) };
+
+    /// The fields take this number of items.
+    ghost takes: { TakeWidth Self.tested };
 }
 
 /// A value that is read and let go.
@@ -76,6 +91,16 @@ impl TestFields for () {
     fn test_fields(_alloc: Global, _fields: &mut Fields<'_>) -> Result<(), DecoderError> {
         Ok(())
     }
+
+    ghost possible = { end_possible };
+}
+
+impl TestFixed for () {
+    fn width() -> Option<usize> {
+        Some(0)
+    }
+
+    ghost takes = { end_wide };
 }
 
 /// Last fields that are read and let go.
@@ -92,6 +117,8 @@ impl<S: DecodeFields> TestFields for OptionalGroup<S> {
         OptionalGroup::<S>::decode_fields(alloc, fields)?;
         Ok(())
     }
+
+    ghost possible = { optional_possible (λ o. o) S.reading S.possible };
 }
 
 /// Any string.
@@ -157,6 +184,8 @@ impl<F: TestFields> DecodeFields for Unkept<F> {
         F::test_fields(alloc, fields)?;
         Ok(Unkept(PhantomData))
     }
+
+    ghost possible = { forgotten_possible F.tested F.possible };
 }
 
 /// A field, and those after it.
@@ -175,24 +204,47 @@ impl<T: Test, Q: TestFields> TestFields for Step<T, Q> {
         take_field::<T>(alloc, fields)?;
         Q::test_fields(alloc, fields)
     }
+
+    ghost possible = { group_possible (λ s. s.0) (one_field T.tested)
+        (part_fields (λ s. s.1) Q.tested) (one_wide T.tested)
+        (part_possible (λ s. s.1) Q.tested Q.possible) };
 }
 
-/// Fields that take `WIDTH` items, and the fields after them.
-pub struct Joined<const WIDTH: usize, P, Q>(PhantomData<P>, PhantomData<Q>);
+impl<T: Test, Q: TestFixed> TestFixed for Step<T, Q> {
+    fn width() -> Option<usize> {
+        match Q::width() {
+            Some(others) => others.checked_add(1),
+            None => None,
+        }
+    }
 
-impl<const WIDTH: usize, P: TestFields, Q: TestFields> TestFields for Joined<WIDTH, P, Q> {
+    ghost takes = { group_wide (λ s. s.0) (one_field T.tested) (part_fields (λ s. s.1) Q.tested)
+        (one_wide T.tested) (part_wide (λ s. s.1) Q.tested Q.takes) };
+}
+
+/// Fields that are a fixed number of items, and the fields after them.
+pub struct Joined<P, Q>(PhantomData<P>, PhantomData<Q>);
+
+impl<P: TestFixed, Q: TestFields> TestFields for Joined<P, Q> {
     ghost Value = { P.Value × Q.Value };
 
-    ghost tested = { joined WIDTH (λ s. s.0) P.tested (part_fields (λ s. s.1) Q.tested) };
+    ghost tested = { group_before (λ s. s.0) P.tested (part_fields (λ s. s.1) Q.tested) };
 
+    #[tactic(auto, using(rlp_codec::proofs::StructLaws::too_wide))]
     fn accepts(len: usize) -> bool {
-        WIDTH <= len && Q::accepts(len - WIDTH)
+        match P::width() {
+            Some(width) => width <= len && Q::accepts(len - width),
+            None => false,
+        }
     }
 
     fn test_fields(alloc: Global, fields: &mut Fields<'_>) -> Result<(), DecoderError> {
         P::test_fields(alloc, fields)?;
         Q::test_fields(alloc, fields)
     }
+
+    ghost possible = { group_possible (λ s. s.0) P.tested (part_fields (λ s. s.1) Q.tested) P.takes
+        (part_possible (λ s. s.1) Q.tested Q.possible) };
 }
 
 /// Tests a field. It isn't inlined, so that the library stays small.

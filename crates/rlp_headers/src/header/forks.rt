@@ -3,7 +3,7 @@
 //! A fork's struct has its fields and, as an `Option`, the struct of the next fork. So a header has
 //! the fields of a fork only with those of each fork before it.
 
-ghost use Rattle.rlp_headers.specs.Forks.{london_fields, shanghai_fields, cancun_fields};
+ghost use Rattle.rlp_headers.specs.Forks.{amsterdam_fields, cancun_fields, london_fields, prague_fields, shanghai_fields};
 
 use rlp::{
     AppendFields, CountedFields, DecodeFields, DecodeFieldsPlaced, DecoderError, Fields, Optional,
@@ -60,6 +60,8 @@ impl DecodeFields for London {
             }
         )
     }
+
+    ghost possible = { london_fields.laws.possible };
 }
 
 impl DecodeFieldsPlaced for London {
@@ -112,6 +114,8 @@ impl DecodeFields for Shanghai {
             }
         )
     }
+
+    ghost possible = { shanghai_fields.laws.possible };
 }
 
 impl DecodeFieldsPlaced for Shanghai {
@@ -124,7 +128,7 @@ impl DecodeFieldsPlaced for Shanghai {
     }
 }
 
-/// What a header has since Cancun: three fields, and that of Prague.
+/// What a header has since Cancun: three fields, and those of later forks.
 #[derive(Debug, Clone, Copy, PartialEq, Eq)]
 pub struct Cancun {
     /// The blob gas that the block's transactions used. EIP-4844.
@@ -133,8 +137,8 @@ pub struct Cancun {
     pub excess_blob_gas: u64,
     /// The root of the parent's block of the beacon chain. EIP-4788.
     pub parent_beacon_block_root: Hash,
-    /// The hash of the block's requests, or `None` in blocks before Prague. EIP-7685.
-    pub requests_hash: Option<Hash>,
+    /// What came with Prague and later, or `None` in blocks before Prague.
+    pub since_prague: Option<Prague>,
 }
 
 impl AppendFields for Cancun {
@@ -147,7 +151,7 @@ impl AppendFields for Cancun {
             &self.blob_gas_used,
             &self.excess_blob_gas,
             &self.parent_beacon_block_root,
-            Optional(&self.requests_hash)
+            OptionalGroupOf(&self.since_prague)
         ])
         .field_count()
     }
@@ -157,7 +161,7 @@ impl AppendFields for Cancun {
             &self.blob_gas_used,
             &self.excess_blob_gas,
             &self.parent_beacon_block_root,
-            Optional(&self.requests_hash)
+            OptionalGroupOf(&self.since_prague)
         ])
         .append_fields(s)
     }
@@ -167,7 +171,7 @@ impl DecodeFields for Cancun {
     ghost reading = { cancun_fields.reading };
 
     fn accepts(len: usize) -> bool {
-        <(u64, (u64, (Hash, OptionalField<Hash>))) as DecodeFields>::accepts(len)
+        <(u64, (u64, (Hash, OptionalGroup<Prague>))) as DecodeFields>::accepts(len)
     }
 
     fn decode_fields(alloc: Global, fields: &mut Fields<'_>) -> Result<Cancun, DecoderError> {
@@ -178,10 +182,12 @@ impl DecodeFields for Cancun {
                 blob_gas_used,
                 excess_blob_gas,
                 parent_beacon_block_root,
-                requests_hash: ?
+                since_prague: (..)?
             }
         )
     }
+
+    ghost possible = { cancun_fields.laws.possible };
 }
 
 impl DecodeFieldsPlaced for Cancun {
@@ -190,8 +196,119 @@ impl DecodeFieldsPlaced for Cancun {
         fields: &mut CountedFields<'_>,
         path: &mut Vec<usize>,
     ) -> Result<bool, AllocError> {
-        <(u64, (u64, (Hash, OptionalField<Hash>))) as DecodeFieldsPlaced>::put_path(
+        <(u64, (u64, (Hash, OptionalGroup<Prague>))) as DecodeFieldsPlaced>::put_path(
             alloc, fields, path,
         )
+    }
+}
+
+/// What a header has since Prague: one field, and those of later forks.
+#[derive(Debug, Clone, Copy, PartialEq, Eq)]
+pub struct Prague {
+    /// The hash of the block's requests. EIP-7685.
+    pub requests_hash: Hash,
+    /// What came with Amsterdam, or `None` in blocks before Amsterdam.
+    pub since_amsterdam: Option<Amsterdam>,
+}
+
+impl AppendFields for Prague {
+    ghost items = { prague_fields.items };
+
+    ghost fit = { prague_fields.Fits };
+
+    fn field_count(&self) -> Option<usize> {
+        (&self.requests_hash, OptionalGroupOf(&self.since_amsterdam)).field_count()
+    }
+
+    fn append_fields(&self, s: &mut RlpStream) -> Result<(), AllocError> {
+        (&self.requests_hash, OptionalGroupOf(&self.since_amsterdam)).append_fields(s)
+    }
+}
+
+impl DecodeFields for Prague {
+    ghost reading = { prague_fields.reading };
+
+    fn accepts(len: usize) -> bool {
+        <(Hash, OptionalGroup<Amsterdam>) as DecodeFields>::accepts(len)
+    }
+
+    fn decode_fields(alloc: Global, fields: &mut Fields<'_>) -> Result<Prague, DecoderError> {
+        rlp::decode_fields!(
+            fields alloc,
+            fields,
+            Prague {
+                requests_hash,
+                since_amsterdam: (..)?
+            }
+        )
+    }
+
+    ghost possible = { prague_fields.laws.possible };
+}
+
+impl DecodeFieldsPlaced for Prague {
+    fn put_path(
+        alloc: Global,
+        fields: &mut CountedFields<'_>,
+        path: &mut Vec<usize>,
+    ) -> Result<bool, AllocError> {
+        <(Hash, OptionalGroup<Amsterdam>) as DecodeFieldsPlaced>::put_path(alloc, fields, path)
+    }
+}
+
+/// What a header has since Amsterdam: one field, and maybe a second.
+///
+/// The fields are those of the drafts of EIP-7928 and EIP-7843, and may change. A header that follows
+/// the first draft alone has no slot.
+#[derive(Debug, Clone, Copy, PartialEq, Eq)]
+pub struct Amsterdam {
+    /// The hash of the encoding of the block's access list. EIP-7928.
+    pub block_access_list_hash: Hash,
+    /// The slot of the beacon chain that the block is for, if there is one. EIP-7843.
+    pub slot_number: Option<u64>,
+}
+
+impl AppendFields for Amsterdam {
+    ghost items = { amsterdam_fields.items };
+
+    ghost fit = { amsterdam_fields.Fits };
+
+    fn field_count(&self) -> Option<usize> {
+        (&self.block_access_list_hash, Optional(&self.slot_number)).field_count()
+    }
+
+    fn append_fields(&self, s: &mut RlpStream) -> Result<(), AllocError> {
+        (&self.block_access_list_hash, Optional(&self.slot_number)).append_fields(s)
+    }
+}
+
+impl DecodeFields for Amsterdam {
+    ghost reading = { amsterdam_fields.reading };
+
+    fn accepts(len: usize) -> bool {
+        <(Hash, OptionalField<u64>) as DecodeFields>::accepts(len)
+    }
+
+    fn decode_fields(alloc: Global, fields: &mut Fields<'_>) -> Result<Amsterdam, DecoderError> {
+        rlp::decode_fields!(
+            fields alloc,
+            fields,
+            Amsterdam {
+                block_access_list_hash,
+                slot_number: ?
+            }
+        )
+    }
+
+    ghost possible = { amsterdam_fields.laws.possible };
+}
+
+impl DecodeFieldsPlaced for Amsterdam {
+    fn put_path(
+        alloc: Global,
+        fields: &mut CountedFields<'_>,
+        path: &mut Vec<usize>,
+    ) -> Result<bool, AllocError> {
+        <(Hash, OptionalField<u64>) as DecodeFieldsPlaced>::put_path(alloc, fields, path)
     }
 }

@@ -3,7 +3,7 @@
 use super::Row;
 
 /// Messages.
-pub(super) const MESSAGES: [Row; 22] = [
+pub(super) const MESSAGES: [Row; 23] = [
     // The greeting of EIP-8, and other messages.
     (
         "hello",
@@ -161,6 +161,12 @@ pub(super) const MESSAGES: [Row; 22] = [
         "{'requestId':'0x8','content':[[{'type':'0x0','status':'0x1',
          'cumulativeGasUsed':'0x5208','logsBloom':'0x<00*256>','logs':[]},{'type':'0x2',
          'status':'0x0','cumulativeGasUsed':'0xa410','logsBloom':'0x<00*256>','logs':[]}]]}",
+    ),
+    (
+        "receipts68",
+        "c703c5c40682077f",
+        "{'requestId':'0x3','content':[[{'type':'0x6','payload':'0x'},{'type':'0x7',
+         'payload':'0x7f'}]]}",
     ),
     (
         "receipts69",

@@ -104,7 +104,7 @@ pub(super) const BLOCK: Row = (
 );
 
 /// Records.
-pub(super) const RECORDS: [Row; 24] = [
+pub(super) const RECORDS: [Row; 25] = [
     // Receipts: without a type and before EIP-658, and of types 0 to 4.
     (
         "receipt",
@@ -149,7 +149,7 @@ pub(super) const RECORDS: [Row; 24] = [
         "{'type':'0x4','status':'0x1','cumulativeGasUsed':'0x80','logsBloom':'0x<00*256>',
          'logs':[]}",
     ),
-    // Headers since London, Shanghai, Cancun and Prague.
+    // Headers since London, Shanghai, Cancun, Prague and Amsterdam.
     (
         "header",
         "f901f6a0<31*32>a0<32*32>94<33*20>a0<34*32>a0<35*32>a0<36*32>b901<00*8>72<00*248>80821000
@@ -200,6 +200,21 @@ pub(super) const RECORDS: [Row; 24] = [
          'baseFeePerGas':'0x342770c0','withdrawalsRoot':'0x<88*32>','blobGasUsed':'0x40000',
          'excessBlobGas':'0x60000','parentBeaconBlockRoot':'0x<89*32>','requestsHash':'0x<8a*32>'
          }",
+    ),
+    (
+        "header",
+        "f90292a0<21*32>a0<22*32>94<23*20>a0<24*32>a0<25*32>a0<26*32>b901<00*78>40<00*178>8084
+         0200000184039387008401c9c381846a11223384616d7374a0<27*32>88<00*8>09a0<28*32>8306000083
+         1e0000a0<29*32>a0<2a*32>a0<2b*32>83d00001",
+        "{'hash':'0x8f7e54fc3ca6ecbcb47145f5312ee8177b765117c8b1e477f87e19465af5acbb',
+         'parentHash':'0x<21*32>','sha3Uncles':'0x<22*32>','miner':'0x<23*20>',
+         'stateRoot':'0x<24*32>','transactionsRoot':'0x<25*32>','receiptsRoot':'0x<26*32>',
+         'logsBloom':'0x<00*77>40<00*178>','difficulty':'0x0','number':'0x2000001',
+         'gasLimit':'0x3938700','gasUsed':'0x1c9c381','timestamp':'0x6a112233',
+         'extraData':'0x616d7374','mixHash':'0x<27*32>','nonce':'0x<00*8>','baseFeePerGas':'0x9',
+         'withdrawalsRoot':'0x<28*32>','blobGasUsed':'0x60000','excessBlobGas':'0x1e0000',
+         'parentBeaconBlockRoot':'0x<29*32>','requestsHash':'0x<2a*32>',
+         'blockAccessListHash':'0x<2b*32>','slotNumber':'0xd00001'}",
     ),
     BLOCK,
     // A body without withdrawals.

@@ -1,16 +1,16 @@
 //! Signatures of transactions of every type.
 
-ghost use Rattle.std.specs.Prelude.{◌≡◌, Bool, IfNone, IfOk, IfSome};
+ghost use Rattle.std.specs.Prelude.{◌≡◌, ◌↔◌, Bool, IfNone, IfOk, IfSome, IsTrue};
 ghost use Rattle.rlp_transactions.specs.declared.unsigned_transaction.UnsignedTransaction.{UnsignedTransaction};
 ghost use Rattle.rlp_records.specs.Alone.{bytes_alone};
+ghost use Rattle.rlp_transactions.specs.Secp256k1.{IsLow};
 ghost use Rattle.rlp_transactions.specs.Signatures.{HasNoV, IsChainOf, Signs, r_of, s_of};
 ghost use Rattle.rlp_transactions.specs.UnsignedTransaction.{unsigned_transaction};
 
 use crate::signed::Tagged;
 use crate::unsigned_legacy_transaction::unsigned_bytes;
-use crate::{Transaction, UnsignedLegacyTransaction, UnsignedTransaction};
+use crate::{NonZeroScalar, Transaction, UnsignedLegacyTransaction, UnsignedTransaction};
 use bytes::BytesMut;
-use rlp::Uint;
 use std::alloc::{AllocError, Global};
 
 impl Transaction {
@@ -29,7 +29,7 @@ impl Transaction {
     }
 
     /// Returns the first number of the signature.
-    pub fn r(&self) -> &Uint<32>
+    pub fn r(&self) -> &NonZeroScalar
         ensures { result.now ≡ r_of self.now }
     {
         match self {
@@ -42,7 +42,7 @@ impl Transaction {
     }
 
     /// Returns the second number of the signature.
-    pub fn s(&self) -> &Uint<32>
+    pub fn s(&self) -> &NonZeroScalar
         ensures { result.now ≡ s_of self.now }
     {
         match self {
@@ -52,6 +52,13 @@ impl Transaction {
             Transaction::Blob(tx) => &tx.s,
             Transaction::SetCode(tx) => &tx.s,
         }
+    }
+
+    /// Whether the second number of the signature is low, as EIP-2 demands.
+    pub fn has_low_s(&self) -> bool
+        ensures { IsTrue result ↔ IsLow (s_of self.now).number }
+    {
+        self.s().is_low()
     }
 
     /// Returns the transaction without its signature, and the parity of the y value of the

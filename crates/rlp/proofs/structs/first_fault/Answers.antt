@@ -19,16 +19,8 @@ returns-then-accepts-clause-place g c =
 
 pub returns-clause-fault : goal.returns-clause-fault
 returns-clause-fault g c =
-    let r = g.F.DecodeFields.reading in
-    let v = c.args.rlp.now in
-    let count = sym c.in-Ok.ensures in
-    ⊎_elim (λ f. inl ((count_refused r v _ _ _ count f (sym c.if-accepts.ensures)).fault ∙ ap Err (sym c.of_wrong_number.ensures.fault)))
-    (λ m. inr (c.of_wrong_number.ensures.memory m.0, m.1)) (c.requires.found (listed r v _ count))
+    inl (count_refused g.F.DecodeFields.reading c.args.rlp.now _ (sym c.in-Ok.ensures) (sym c.if-accepts.ensures)).fault
 
 pub returns-clause-place : goal.returns-clause-place
 returns-clause-place g c =
-    let r = g.F.DecodeFields.reading in
-    let v = c.args.rlp.now in
-    let count = sym c.in-Ok.ensures in
-    ⊎_elim (λ f. inl (count_refused r v _ _ _ count f (sym c.if-accepts.ensures)).place)
-    (λ m. inr (c.of_wrong_number.ensures.memory m.0, m.1)) (c.requires.found (listed r v _ count))
+    inl (count_refused g.F.DecodeFields.reading c.args.rlp.now _ (sym c.in-Ok.ensures) (sym c.if-accepts.ensures)).place

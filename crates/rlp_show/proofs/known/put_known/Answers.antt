@@ -1,6 +1,6 @@
 use Rattle.std.proofs.Common.{refl}
 use Rattle.rlp_print.specs.Display.{an_object}
-use Rattle.rlp_print.specs.Records.{account_display, typed_receipt_display, withdrawal_display}
+use Rattle.rlp_print.specs.Records.{account_display, any_receipt_display, withdrawal_display}
 use Rattle.rlp_print.specs.Transactions.{access_list_display, signed_authorization_display}
 use Rattle.rlp_print.specs.Blocks.{block_display, body_fields_display, header_display}
 use Rattle.rlp_print.specs.Items.{node_display}
@@ -35,4 +35,4 @@ returns-in-Withdrawal c = rw c.in-Withdrawal.is (c.put_record-in-Withdrawal.ensu
 pub returns-in-Receipt : goal.returns-in-Receipt
 returns-in-Receipt c =
     rw c.in-Receipt.is (given_at _ _ _ _ _ _ _ _ _ _ c.put_alone.ensures.short (receipt_given c.args.given.now.bytes.now)
-    (c.put_alone.ensures.text typed_receipt_display.shown (λ x. refl)))
+    (c.put_alone.ensures.text any_receipt_display.shown (λ x. refl)))

@@ -1,6 +1,6 @@
 use Rattle.std.proofs.Common.{refl}
 use Rattle.rlp_print.specs.Display.{a_list, a_string, an_object, end}
-use Rattle.rlp_print.specs.Records.{typed_receipt_display}
+use Rattle.rlp_print.specs.Records.{any_receipt_display}
 use Rattle.rlp_print.specs.Transactions.{any_transaction_display, pooled_transaction_display}
 use Rattle.rlp_print.specs.Blocks.{body_fields_display, header_display}
 use Rattle.rlp_print.specs.Messages.{disconnect_display, get_block_headers_display, hello_display, new_block_display, new_block_hash_display, new_pooled_transaction_hashes_display}
@@ -53,7 +53,7 @@ pub returns-in-PooledTransactions : goal.returns-in-PooledTransactions
 returns-in-PooledTransactions c = rw c.in-PooledTransactions.is (c.put_numbered-in-PooledTransactions.ensures (a_list pooled_transaction_display).shown (λ x. refl))
 
 pub returns-in-Receipts68 : goal.returns-in-Receipts68
-returns-in-Receipts68 c = rw c.in-Receipts68.is (c.put_numbered-in-Receipts68.ensures (a_list (a_list typed_receipt_display)).shown (λ x. refl))
+returns-in-Receipts68 c = rw c.in-Receipts68.is (c.put_numbered-in-Receipts68.ensures (a_list (a_list any_receipt_display)).shown (λ x. refl))
 
 pub returns-in-Receipts69 : goal.returns-in-Receipts69
 returns-in-Receipts69 c = rw c.in-Receipts69.is (c.put_numbered-in-Receipts69.ensures (a_list (a_list receipt69_display)).shown (λ x. refl))

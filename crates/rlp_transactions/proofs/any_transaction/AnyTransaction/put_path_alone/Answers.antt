@@ -1,7 +1,7 @@
 use Rattle.std.specs.Prelude.{Ok}
-use Rattle.rlp_transactions.specs.OtherTransaction.{is_other}
+use Rattle.rlp_records.specs.OtherEnvelope.{is_other}
 use Rattle.rlp_transactions.specs.Transaction.{transaction_alone}
-use Rattle.rlp_transactions.proofs.Placed.{string_placed}
+use Rattle.rlp_records.proofs.Placed.{string_placed}
 use Rattle.rlp_transactions.proofs.any_transaction.AnyTransaction.put_path_alone.Goals as goal
 
 pub returns : goal.returns

@@ -1,7 +1,7 @@
 use Rattle.rlp_codec.specs.Form.{string_of}
-use Rattle.rlp_transactions.specs.OtherTransaction.{is_other}
+use Rattle.rlp_records.specs.OtherEnvelope.{is_other}
 use Rattle.rlp_transactions.specs.Transaction.{transaction}
-use Rattle.rlp_transactions.proofs.Placed.{string_placed}
+use Rattle.rlp_records.proofs.Placed.{string_placed}
 use Rattle.rlp_transactions.proofs.any_transaction.AnyTransactionDecodePlaced.put_path.Goals as goal
 
 pub returns : goal.returns

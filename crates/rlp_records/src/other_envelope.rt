@@ -1,29 +1,31 @@
-//! Transactions of types that this crate doesn't know.
+//! Envelopes of types that these crates don't know.
 
 ghost use Rattle.std.specs.Prelude.{◌≡◌, ◌⊎◌, drop, nat_eq, IfErr, IfOk};
 ghost use Rattle.std.specs.Cmp.{partial_equiv_from_equiv};
 ghost use Rattle.std.specs.Cmp.Lexicographic.{nat_list_eq_equiv, pointwise};
 ghost use Rattle.rlp.specs.DecoderError.TheVariants.{OutOfMemory};
 ghost use Rattle.rlp_codec.specs.Form.{custom, fault_of};
-ghost use Rattle.rlp_transactions.specs.OtherTransaction.{IsOther, is_other, is_other_type, not_other, other_type};
+ghost use Rattle.rlp_records.specs.OtherEnvelope.{IsOther, is_other, is_other_type, not_other, other_type};
 
+use crate::AUTHORIZATION_MAGIC;
 use rlp::DecoderError;
-use rlp_records::{ACCESS_LIST_TYPE, SET_CODE_TYPE};
 use std::alloc::Global;
 use std::marker::Model;
 
-/// A transaction of a type of EIP-2718 that [`Transaction`](crate::Transaction) doesn't have, such
-/// as a [`DepositTransaction`](crate::DepositTransaction), kept as its bytes.
+/// A transaction or a receipt of a type of EIP-2718 that isn't known, such as a deposit of the OP
+/// stack, kept as its bytes.
 ///
-/// Contracts see it as these bytes: the byte of the type, which is below 0x80, and the payload.
+/// Contracts see it as these bytes: the byte of the type, and the payload. The type is 6 to 0x7f: 1 to
+/// 4 are known, what is of a legacy transaction has no type, and 5 is [`AUTHORIZATION_MAGIC`] of
+/// EIP-7702, which no transaction begins with.
 #[derive(Debug, Clone, Drop)]
-pub struct OtherTransaction {
+pub struct OtherEnvelope {
     bytes: Vec<u8>,
 }
 
-impl Model for OtherTransaction {
+impl Model for OtherEnvelope {
     ghost use Rattle.std.specs.Prelude.{List, ℕ};
-    ghost use Rattle.rlp_transactions.specs.OtherTransaction.{IsOther};
+    ghost use Rattle.rlp_records.specs.OtherEnvelope.{IsOther};
 
     ghost Value = { List ℕ };
 
@@ -32,27 +34,36 @@ impl Model for OtherTransaction {
     ghost invariant = { λ t. IsOther t.bytes.items };
 }
 
-impl OtherTransaction {
-    /// The transaction with these bytes, which it copies.
+impl OtherEnvelope {
+    /// The transaction or receipt with these bytes, which it copies.
     ///
-    /// Fails with `Custom("not a transaction of another type")` if the bytes are empty, or begin
-    /// with a type of [`Transaction`](crate::Transaction) or a byte that is no type. Fails with
-    /// `OutOfMemory` if memory is refused.
-    pub fn from_bytes(alloc: Global, bytes: &[u8]) -> Result<OtherTransaction, DecoderError>
+    /// Fails with `Custom("not an envelope of another type")` if the bytes aren't
+    /// [of another type](OtherEnvelope::is_other), and with `OutOfMemory` if memory is refused.
+    pub fn from_bytes(alloc: Global, bytes: &[u8]) -> Result<OtherEnvelope, DecoderError>
         ensures value { IfOk result (λ t. (t ≡ bytes.now) × IsOther bytes.now) }
         ensures fault { IfErr result (λ e. ((¬ IsOther bytes.now) × (fault_of e ≡ custom not_other))
             ⊎ ((e ≡ OutOfMemory) × IsOther bytes.now)) }
     {
-        if !is_other(bytes) {
-            return Err(DecoderError::Custom("not a transaction of another type"));
+        if !OtherEnvelope::is_other(bytes) {
+            return Err(DecoderError::Custom("not an envelope of another type"));
         }
         match Vec::from_slice(alloc, bytes) {
-            Ok(bytes) => Ok(OtherTransaction { bytes }),
+            Ok(bytes) => Ok(OtherEnvelope { bytes }),
             Err(_) => Err(DecoderError::OutOfMemory),
         }
     }
 
-    /// The bytes: the byte of the type, and the payload. They are what is hashed.
+    /// Whether the bytes begin with the byte of another type, which is 6 to 0x7f.
+    pub fn is_other(bytes: &[u8]) -> bool
+        ensures { result ≡ is_other bytes.now }
+    {
+        match bytes {
+            [kind, ..] => is_other_type(*kind),
+            [] => false,
+        }
+    }
+
+    /// The bytes: the byte of the type, and the payload. They are what is hashed of a transaction.
     pub fn as_bytes(&self) -> &[u8]
         ensures bytes { result.now ≡ self.now }
         ensures other { IsOther self.now }
@@ -81,8 +92,8 @@ impl OtherTransaction {
     }
 }
 
-/// Two transactions are equal if their bytes are.
-impl PartialEq for OtherTransaction {
+/// Two are equal if their bytes are.
+impl PartialEq for OtherEnvelope {
     ghost eq = { pointwise nat_eq };
 
     ghost laws = { partial_equiv_from_equiv nat_list_eq_equiv };
@@ -92,23 +103,13 @@ impl PartialEq for OtherTransaction {
     }
 }
 
-impl Eq for OtherTransaction {
+impl Eq for OtherEnvelope {
     ghost laws = { nat_list_eq_equiv };
-}
-
-/// Whether the bytes are a transaction of another type.
-pub(crate) fn is_other(bytes: &[u8]) -> bool
-    ensures { result ≡ is_other bytes.now }
-{
-    match bytes {
-        [kind, ..] => is_other_type(*kind),
-        [] => false,
-    }
 }
 
 /// Whether the byte is the number of another type.
 fn is_other_type(kind: u8) -> bool
     ensures { result ≡ is_other_type kind }
 {
-    kind < 0x80 && !(ACCESS_LIST_TYPE <= kind && kind <= SET_CODE_TYPE)
+    kind < 0x80 && AUTHORIZATION_MAGIC < kind
 }

@@ -1,15 +1,33 @@
--- Transactions of every type by themselves, also of the types that aren't known: the bytes of a transaction are read back, and no other bytes are read.
-use Rattle.std.proofs.Common.{◌≡◌, ℕ, ◌^◌, ◌<◌, ◌⊎◌, inl, inr, Bool, true, false, IsTrue, List, length, refl, sym, ap, ◌∙◌, subst}
-use Rattle.std.proofs.Common.{Result, Ok, Err}
+-- Values of every type by themselves, also of the types that aren't known: the bytes of a value are read back, and no other bytes are read.
+use Rattle.std.proofs.Common.{◌≡◌, ℕ, ◌^◌, ◌<◌, ◌≤◌, ◌⊎◌, inl, inr, Bool, true, false, IsTrue, List, [], ◌∷◌, length, refl, sym, ap, ◌∙◌, subst}
+use Rattle.std.proofs.Common.{Result, Ok, Err, arith, le-ltb, leb-true, ltb}
 use Rattle.std.proofs.lemmas.Bool.{cond-true, cond-false}
-use Rattle.rlp.specs.Format.Encoding.{AreBytes, Item, string}
+use Rattle.rlp.specs.Format.Encoding.{AreBytes, Item, is_list, string}
+use Rattle.rlp.specs.Format.Framing.{begins_as_list}
 use Rattle.rlp.specs.Values.Sums.{OnSum, sum_item}
 use Rattle.rlp_codec.specs.Form.{Answer, Fault, map_value}
-use Rattle.rlp_codec.specs.Sums.{sum_map}
+use Rattle.rlp_codec.specs.Sums.{CasesForm, envelope, sum_map}
 use Rattle.rlp_codec.proofs.StringLaws.{ReadsStrings}
 use Rattle.rlp_codec.proofs.SumLaws.{sums_fit}
+use Rattle.rlp_records.proofs.Alone.{list_alone_begins}
 use Rattle.rlp_records.specs.Alone.{bytes_alone}
-use Rattle.rlp_transactions.specs.OtherStrings.{string_or}
+use Rattle.rlp_records.specs.OtherEnvelope.{is_other, is_other_type}
+use Rattle.rlp_records.specs.OtherStrings.{string_or}
+
+-- a list isn't the bytes of another type
+pub list_known : (d : List ℕ) → begins_as_list d ≡ true → is_other d ≡ false
+list_known [] kind = refl
+list_known (first ∷ rest) kind =
+    let above : 0xc0 ≤ first = leb-true 0xc0 first kind in
+    let large : ltb first 0x80 ≡ false = le-ltb first 0x80 (omega (arith, above)) in
+    cc
+
+-- the bytes of a value of a type that is known aren't the bytes of another type
+pub known_bytes : {A B : Type 0} (item : A → Item) (cases : CasesForm B) → ((x : A) → is_list (item x) ≡ true) → ((y : B) → is_other_type (cases.tag y) ≡ false)
+    → (s : A ⊎ B) → length (bytes_alone (sum_item item (λ y. string (envelope cases y)) s)) < 2 ^ 64
+    → is_other (bytes_alone (sum_item item (λ y. string (envelope cases y)) s)) ≡ false
+known_bytes item cases lists known (inl x) short = list_known (bytes_alone (item x)) (list_alone_begins (item x) (lists x) short)
+known_bytes item cases lists known (inr y) short = known y
 
 module _ {A M : Type 0} (is : List ℕ → Bool) (Fits : A → Type 0) (item : A → Item) (seen : A → M) (written : M → Item) (read : List ℕ → Answer M Fault)
     (law : ReadsStrings Fits (λ x. bytes_alone (item x)) seen (λ m. bytes_alone (written m)) (λ d. (read d).result))

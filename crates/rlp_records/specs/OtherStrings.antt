@@ -2,6 +2,7 @@
 use Rattle.std.proofs.Common.{◌≡◌, ℕ, ◌^◌, ◌<◌, ◌⊎◌, inl, inr, Bool, true, false, IsTrue, if◌then◌else◌, List, [], ◌∷◌, length, refl, sym, ap, ◌∙◌, subst}
 use Rattle.std.proofs.Common.{leb-true, Result, Ok, Err}
 use Rattle.std.proofs.lemmas.Bool.{cond-true, cond-false}
+use Rattle.rlp.specs.Codec.{Codec, lawful, plain}
 use Rattle.rlp.specs.DecoderError.{DecoderError}
 use Rattle.rlp.specs.DecoderError.TheVariants.{RlpExpectedToBeData}
 use Rattle.rlp.specs.Format.Encoding.{Item, is_list, list, string, encoding, AreBytes}
@@ -14,8 +15,9 @@ use Rattle.rlp_reading.proofs.Lemmas.StringsHeld.{ReadsHeld, held_begins, held_f
 use Rattle.rlp_reading.proofs.Lemmas.Sums.{list_first}
 use Rattle.rlp_codec.specs.Form.{Answer, Fault, Form, here, map_answer, map_value, seen_fault, string_of}
 use Rattle.rlp_codec.specs.Laws.{GivesOnly, IsLawful, viewed}
-use Rattle.rlp_codec.specs.Sums.{sum_map}
+use Rattle.rlp_codec.specs.Sums.{CasesForm, envelope, sum_map}
 use Rattle.rlp_codec.proofs.SumLaws.{sums_fit, sums_written}
+use Rattle.rlp_records.specs.OtherEnvelope.{IsOther, is_other, is_other_type}
 
 -- What a view gives whose string is r: the string if it is one that `is` tells, and else what the type gives.
 abbrev pub string_or : {M : Type 0} → (List ℕ → Bool) → Answer M Fault → Result (List ℕ) Fault → Answer (M ⊎ List ℕ) Fault
@@ -45,7 +47,7 @@ no_string v x fits holds kind =
     by [] kind = absurd (let no : ⊥ = cc in no)
     by (first ∷ rest) kind = string_list first rest (leb-true 0xc0 first kind)
 
-pub same_string : (d e : List ℕ) → string d ≡ string e → d ≡ e
+same_string : (d e : List ℕ) → string d ≡ string e → d ≡ e
 same_string d e same = cc
 
 module _ {A : Type 0} (c : Form A) (is : List ℕ → Bool) (apart : (x : A) (d : List ℕ) → IsTrue (is d) → ¬ (c.item x ≡ string d)) where
@@ -108,3 +110,20 @@ module _ {A : Type 0} (c : Form A) (is : List ℕ → Bool) (apart : (x : A) (d 
       only = λ b s bytes fits given. or_only law.exact b s (view_string (strict_view_of b)) bytes fits (held_reads (strict_view_of b) bytes fits) given;
     };
   }
+
+-- ---- envelopes of types that aren't known
+
+-- No value of a type that is known is written as the string of another type: it is a list, or the string of the envelope of a type that isn't another.
+pub known_apart : {A B : Type 0} (item : A → Item) (cases : CasesForm B) → ((x : A) → is_list (item x) ≡ true) → ((y : B) → is_other_type (cases.tag y) ≡ false)
+    → (s : A ⊎ B) (d : List ℕ) → IsOther d → ¬ (sum_item item (λ y. string (envelope cases y)) s ≡ string d)
+known_apart item cases lists known (inl x) d other same = let kinds : true ≡ false = sym (lists x) ∙ ap is_list same in cc
+known_apart item cases lists known (inr y) d other same =
+    let kinds : true ≡ false = sym other ∙ ap is_other (sym (same_string (envelope cases y) d same)) ∙ known y in cc
+
+-- a value of a type, or the string "TransactionType || TransactionPayload" of another type
+abbrev pub kept : {A : Type 0} (c : Codec A) → ((x : A) (d : List ℕ) → IsOther d → ¬ (c.item x ≡ string d)) → Codec (A ⊎ List ℕ)
+kept c apart = lawful (or_string (plain c) is_other) (or_lawful (plain c) is_other apart c.reads_strictly)
+
+-- what bytes give by themselves: those of another type are kept as they are, and others give what `read` gives
+abbrev pub kept_alone : {M : Type 0} → (List ℕ → Answer M Fault) → List ℕ → Answer (M ⊎ List ℕ) Fault
+kept_alone read d = string_or is_other (read d) (Ok d)

@@ -1,0 +1,4 @@
+-- Lemmas. The results of a function are in a folder with its name.
+
+-- what a key signs for one purpose is not signed for another
+mod Contents

@@ -1,0 +1,28 @@
+-- How receipts of deposits of the OP stack are written and read.
+use Rattle.std.specs.Prelude.{refl}
+use Rattle.std.specs.Vec.{vec_items}
+use Rattle.rlp.specs.Codec.{Codec, Fields, field, list_type, number, optional, optional_group, struct_of}
+use Rattle.rlp_headers.specs.declared.deposit_receipt.DepositReceipt.{DepositReceipt}
+use Rattle.rlp_headers.specs.declared.deposit_receipt.Regolith.{Regolith}
+use Rattle.rlp_headers.specs.Bloom.{bloom}
+use Rattle.rlp_headers.specs.Log.{log}
+use Rattle.rlp_headers.specs.ReceiptStatus.{receipt_status}
+
+-- the fields since Regolith: depositNonce, and since Canyon depositReceiptVersion
+abbrev pub regolith_fields : Fields Regolith
+regolith_fields =
+    field (λ (x : Regolith). x.deposit_nonce) (number 8) (
+    optional (λ (x : Regolith). x.deposit_receipt_version) (number 8))
+
+-- the specification of deposits: rlp([postStateOrStatus, cumulativeGasUsed, bloom, logs, depositNonce, depositReceiptVersion]), of which the last two are optional
+abbrev pub deposit_receipt_fields : Fields DepositReceipt
+deposit_receipt_fields =
+    field (λ (r : DepositReceipt). r.status_or_state_root) receipt_status (
+    field (λ (r : DepositReceipt). r.cumulative_gas_used) (number 8) (
+    field (λ (r : DepositReceipt). r.logs_bloom) bloom (
+    field (λ (r : DepositReceipt). r.logs) (list_type vec_items log) (
+    optional_group (λ (r : DepositReceipt). r.since_regolith) regolith_fields refl))))
+
+-- the list of the fields
+abbrev pub deposit_receipt : Codec DepositReceipt
+deposit_receipt = struct_of deposit_receipt_fields
