@@ -17,21 +17,16 @@ use std::fmt::Write;
 
 /// Rows of transactions.
 pub(crate) const ROWS: &str = "
-    The first transaction of Ethereum's main network, and the example of EIP-155 before it is signed
-    and signed: the recipient, the price of gas, the value, the signature, the nonce, the limit of gas
-    and the length of the data.
+    The first transaction of Ethereum's main network, and the example of EIP-155: the recipient, the
+    price of gas, the value, the signature, the nonce, the limit of gas and the length of the data.
+    The example before it is signed is no signed transaction.
     LegacyTransaction | FIRST
     fields of LegacyTransaction | FIRST | 5df9b87991262f6ba471f09758cde1c0fc1de734 0000000000000000\
      0000000000000000000000000000000000002d79883d2000 000000000000000000000000000000000000000000000\
      0000000000000007a69 000000000000000000000000000000000000000000000000000000000000001c 88ff6cf0f\
      efd94db46111149ae4bfc179e9b94721fffd821d38d16464b3f71d0 45e0aff800961cfce805daef7016b9b675c137\
      a6a41a548f7b60a3484c06a33a 0 21000 0
-    LegacyTransaction | EXAMPLE
-    fields of LegacyTransaction | EXAMPLE | 3535353535353535353535353535353535353535 00000000000000\
-     000000000000000000000000000000000000000004a817c800 0000000000000000000000000000000000000000000\
-     000000de0b6b3a7640000 0000000000000000000000000000000000000000000000000000000000000001 0000000\
-     000000000000000000000000000000000000000000000000000000000 000000000000000000000000000000000000\
-     0000000000000000000000000000 9 21000 0
+    LegacyTransaction | EXAMPLE | Custom(\"not a scalar of a signature\")
     LegacyTransaction | SIGNED
     fields of LegacyTransaction | SIGNED | 3535353535353535353535353535353535353535 000000000000000\
      00000000000000000000000000000000000000004a817c800 00000000000000000000000000000000000000000000\

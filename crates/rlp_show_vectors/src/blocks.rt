@@ -93,8 +93,8 @@ const TRANSACTIONS: [Row; 4] = [
          y_parity: 1\n\
          r: 0x1\n\
          s: 0xfffffffffffffffffffffffffffffffebaaedce6af48a03bbfd25e8cd0364140\n\
-         signing_hash: 0xf23f439b02651373562d8eef7810820d6c2581021f4fdb89d6d63205aa\
-         7a7aaf\n\
+         signing_hash: 0x436d7f28cc31b9f296961b6e9d0511f406c9a1069faf58896677999452\
+         0adff1\n\
          \n",
     ),
 ];

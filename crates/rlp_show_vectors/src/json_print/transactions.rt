@@ -54,11 +54,11 @@ pub(super) const TRANSACTIONS: [Row; 15] = [
     (
         "transaction",
         "f8d188fffffffffffffffe82010088<ff*8>94<23*20>a0<ff*32>b838<24*56>89020000000000000022a0
-         <ff*31>fea001<00*31>",
-        "{'hash':'0x0987c735e063bbeaaa9e680a61250a86e6b86fd2f67ddbe0d231d4db55069b57',
+         <ff*15>febaaedce6af48a03bbfd25e8cd0364140a001<00*31>",
+        "{'hash':'0xb8d2581b146cf80a2c30fe1cc87f1b11a795c50095e5820336b3592ee68d4a39',
          'type':'0x0','nonce':'0xfffffffffffffffe','gasPrice':'0x100','gas':'0x<ff*8>',
          'to':'0x<23*20>','value':'0x<ff*32>','input':'0x<24*56>','v':'0x20000000000000022',
-         'chainId':'0x<ff*8>','yParity':'0x1','r':'0x<ff*31>fe',
+         'chainId':'0x<ff*8>','yParity':'0x1','r':'0x<ff*15>febaaedce6af48a03bbfd25e8cd0364140',
          's':'0x100000000000000000000000000000000000000000000000000000000000000',
          'signingHash':'0x93223f9abecd13be4cbebd42e0cd558a925d15ee345b2f6dc85a6953a55a5538'}",
     ),
