@@ -5,7 +5,7 @@ from dataclasses import dataclass, field
 
 from functions import IMPL, block_of
 
-FUNCTION = re.compile(r"^ *(?P<public>pub )?(?:const )?(?:extern \S+ )?fn (?P<name>\w+)", re.MULTILINE)
+FUNCTION = re.compile(r"^ *(?P<public>pub )?(?:final )?(?:const )?(?:extern \S+ )?fn (?P<name>\w+)", re.MULTILINE)
 CLAUSE = re.compile(r"\s*\b(?P<sort>requires|ensures\*?)\s*(?P<name>\w*)\s*\{")
 GHOST = re.compile(r"^    ghost (?P<name>\w+): \{(?P<type>.*?)\}(?: = \{(?P<default>.*?)\})?;", re.MULTILINE | re.DOTALL)
 TYPE = re.compile(r"^pub (?P<sort>struct|enum|trait|const|type) (?P<name>\w+)", re.MULTILINE)

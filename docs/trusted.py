@@ -8,8 +8,6 @@ from crates import crates_of
 DEFINITION = re.compile(r"^ *(?:(?:abbrev|unfoldable) )*(?:pub (?:data|record)|(?:abbrev|unfoldable) pub|(?:abbrev|unfoldable) mutual)\b", re.MULTILINE)
 # The crates whose definitions are the format itself, and those that stand on them for its calls.
 OWN = "rlp"
-# The crates whose definitions must be Ethereum's, with all that they stand on.
-ETHEREUM = ("rlp_ethereum", "rlp_messages")
 
 
 def below(root, names):
@@ -34,11 +32,6 @@ def files_of(root, names, without=()):
         if files and name not in left_out:
             found[name] = files
     return found
-
-
-def count(root):
-    """The number of files of definitions that must be Ethereum's."""
-    return sum(len(files) for files in files_of(root, ETHEREUM).values())
 
 
 def table_of_files(root, order):

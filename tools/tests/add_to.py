@@ -75,7 +75,7 @@ class AddTo(Scratch):
     def test_another_crate_of_the_name(self):
         self.passes(SCRIPT, ".")
         self.write("crates/rlp/src/lib.rt", "// mine\n")
-        self.assertIn("another rlp;", self.refuses(".", "rlp_ethereum"))
+        self.assertIn("another rlp;", self.refuses(".", "rlp_blocks"))
 
     def test_unknown_crate(self):
         self.assertIn("usage: tools/add-to", self.refuses(".", "rlpx"))
@@ -86,7 +86,7 @@ class AddTo(Scratch):
         self.assertIn("crates.txt: my_crate: rlp bytes\n", said)
         self.write("crates.txt", f"{text_of(self.folder / 'crates.txt')}app: hex rlp # mine\n")
         self.write("crates/app/src/main.rt")
-        self.assertIn("crates.txt: app: hex rlp rlp_ethereum bytes\n", self.passes(SCRIPT, ".", "rlp_ethereum"))
+        self.assertIn("crates.txt: app: hex rlp rlp_blocks bytes\n", self.passes(SCRIPT, ".", "rlp_blocks"))
         self.assertIn("app: hex rlp # mine", self.lines())
 
     def test_cost_that_is_told(self):
@@ -98,7 +98,7 @@ class AddTo(Scratch):
         self.assertIn("run `rt all check` in .", said)
 
     def test_page(self):
-        self.passes(SCRIPT, ".", "rlp_ethereum")
+        self.passes(SCRIPT, ".", "rlp_blocks")
         pages = [file for file in self.folder.rglob("CALLING.md")]
         self.assertIn(self.crate("rlp") / "CALLING.md", pages)
         for page in pages:

@@ -2,8 +2,11 @@
 //! again and compared.
 
 use rlp::{StrictRead, decode_list_whole, decode_whole, encode, encode_list};
-use rlp_ethereum::{Block, Hash, TrieNode, TypedReceipt};
+use rlp_blocks::Block;
+use rlp_headers::TypedReceipt;
 use rlp_lines::read_bytes;
+use rlp_records::Hash;
+use rlp_trie::TrieNode;
 use std::alloc::Global;
 use std::io::{BufRead, BufReader, Read};
 

@@ -23,9 +23,9 @@ use Rattle.rlp_transactions.specs.FeeMarketTransaction.{fee_market_transaction_f
 use Rattle.rlp_transactions.specs.LegacyTransaction.{signed_legacy_transaction_fields}
 use Rattle.rlp_transactions.specs.SetCodeTransaction.{set_code_transaction_fields, signed_set_code_transaction}
 use Rattle.rlp_transactions.specs.Signed.{signed_fields}
-use Rattle.rlp_transactions.specs.Transaction.{transaction, transaction_alone, typed_transactions}
-use Rattle.rlp_transactions.proofs.Strings.{transaction_strings}
-use Rattle.rlp_transactions.specs.TransactionParts.{type_of}
+use Rattle.rlp_records.proofs.TypedSums.{typed_strings}
+use Rattle.rlp_records.specs.Eip2718.{type_of, typed_alone}
+use Rattle.rlp_transactions.specs.Transaction.{transaction, transaction_types}
 use Rattle.rlp_headers.specs.declared.header.Header.{Header as BlockHeader}
 use Rattle.rlp_headers.specs.Header.{header, header_fields}
 use Rattle.rlp_c.specs.declared.item.RlpItem.{RlpItem}
@@ -71,7 +71,7 @@ last_type false v = refl
 typed_is : (k : ℕ) (p : List ℕ) → begins_as_list (k ∷ p) ≡ false → transaction_result (k ∷ p) ≡ of_type (record_of_type k) (strict_view_of p)
 typed_is k p low =
     let v = strict_view_of p in
-    ap numbered (cond-false (begins_as_list (k ∷ p)) _ _ low) ∙ mapped inr (typed_transactions.cases.read k v)
+    ap numbered (cond-false (begins_as_list (k ∷ p)) _ _ low) ∙ mapped inr (transaction_types.numbered.cases.read k v)
     ∙ first_type (k == 1) AccessListPayload _ v (signed_access_list_transaction.reading.read v) _ refl
     (first_type (k == 2) FeeMarketPayload _ v (signed_fee_market_transaction.reading.read v) _ refl
     (first_type (k == 3) BlobPayload _ v (signed_blob_transaction.reading.read v) _ refl (last_type (k == 4) v)))
@@ -140,7 +140,7 @@ module _ (old new : List RlpItem) (count status : ℕ) where
     typed_read k xs low short read = grind (arith, nat_tests, fields_are xs short)
 
     written_by : (t : Transaction) → length (bytes_alone (transaction.item t)) < 2 ^ 64 → Reads (bytes_alone (transaction.item t)) (Ok tt)
-        → (type ≡ type_of t) × Placed (place_of t) (fields_of t)
+        → (type ≡ type_of transaction_types t) × Placed (place_of t) (fields_of t)
     written_by (of_legacy t) short read = list_read (signed_legacy_transaction_fields.items t) short read
     written_by (of_access_list t) short read = typed_read 1 ((signed_fields access_list_transaction_fields refl truth_value).items t) (omega arith) (omega (arith, short)) read
     written_by (of_fee_market t) short read = typed_read 2 ((signed_fields fee_market_transaction_fields refl truth_value).items t) (omega arith) (omega (arith, short)) read
@@ -148,8 +148,8 @@ module _ (old new : List RlpItem) (count status : ℕ) where
     written_by (of_set_code t) short read = typed_read 4 ((signed_fields set_code_transaction_fields refl truth_value).items t) (omega arith) (omega (arith, short)) read
 
     pub transaction_written : (t : Transaction) (b : List ℕ) → length b < 2 ^ 64 → transaction.Fits t → b ≡ bytes_alone (transaction.item t)
-        → Reads b (transaction_result b) → (type ≡ type_of t) × Placed (place_of t) (fields_of t)
+        → Reads b (transaction_result b) → (type ≡ type_of transaction_types t) × Placed (place_of t) (fields_of t)
     transaction_written t b short fit is read =
         let few : length (bytes_alone (transaction.item t)) < 2 ^ 64 = subst (λ d. length d < 2 ^ 64) is short in
-        let fine = numbered_value (transaction_alone b) (transaction.reading.seen t) (ap (λ d. (transaction_alone d).result) is ∙ transaction_strings.back t fit few) in
+        let fine = numbered_value (typed_alone transaction_types b) (transaction.reading.seen t) (ap (λ d. (typed_alone transaction_types d).result) is ∙ (typed_strings transaction_types).back t fit few) in
         written_by t few (subst (λ d. Reads d (Ok tt)) is (subst (Reads b) fine read))

@@ -1,4 +1,4 @@
--- Where the fields of a transaction and of a header are, by the codecs of `rlp_ethereum`.
+-- Where the fields of a transaction and of a header are, by the codecs of `rlp_transactions` and `rlp_headers`.
 use Rattle.std.specs.Prelude.{ℕ, ◌≡◌, ◌⊎◌, List, [], map}
 use Rattle.rlp_format.specs.Format.Encoding.{Item, list, listed, string, encoding}
 use Rattle.rlp_transactions.specs.declared.transaction.Transaction.{Transaction}

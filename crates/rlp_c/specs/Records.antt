@@ -3,7 +3,8 @@ use Rattle.std.specs.Prelude.{ℕ, ◌≡◌, ◌+◌, ◌&&◌, ◌==◌, if◌
 use Rattle.rlp_reading.specs.Format.Framing.{begins_as_list, items}
 use Rattle.rlp_codec.specs.Form.{Fault, custom, is_too_short}
 use Rattle.rlp_records.specs.Alone.{unknown_type}
-use Rattle.rlp_transactions.specs.Transaction.{transaction_alone}
+use Rattle.rlp_records.specs.Eip2718.{typed_alone}
+use Rattle.rlp_transactions.specs.Transaction.{transaction_types}
 use Rattle.rlp_c.specs.declared.item.RlpItem.{RlpItem}
 use Rattle.rlp_c.specs.declared.records.fields.Record.{Record}
 use Rattle.rlp_c.specs.declared.records.fields.Record.TheVariants.{Legacy, AccessListPayload, FeeMarketPayload, BlobPayload, SetCodePayload, Header}
@@ -43,7 +44,7 @@ record_of_type k =
 
 -- what bytes give as a transaction by itself, as in EIP-2718
 abbrev pub transaction_result : List ℕ → Result ⊤ (ℕ × Fault)
-transaction_result b = numbered (transaction_alone b)
+transaction_result b = numbered (typed_alone transaction_types b)
 
 -- The answer for a transaction by itself, by what its codec gives for it: a legacy list, with the type 0, or the byte of a type and a list. A type that isn't known
 -- has a status of its own.

@@ -3,55 +3,27 @@
 use crate::reading::Bare;
 use bytes::BytesMut;
 use rlp::DecoderError;
-use rlp_ethereum::{
-    AnyReceipt, AnyTransaction, FeeMarketTransaction, Signed, Tagged, Transaction, TypedReceipt,
-    UnsignedTransaction,
-};
+use rlp_records::{Eip2718, KnownOrOther};
+use rlp_transactions::{FeeMarketTransaction, Signed, Tagged};
 use std::alloc::{AllocError, Global};
 
-impl Bare for Transaction {
-    fn from(alloc: Global, bytes: &[u8]) -> Result<Transaction, DecoderError> {
-        Transaction::from_bytes(alloc, bytes)
+/// A value of one of the types of EIP-2718.
+#[derive(Drop)]
+pub(crate) struct OfTypes<T>(T);
+
+impl<T: Eip2718> Bare for OfTypes<T> {
+    fn from(alloc: Global, bytes: &[u8]) -> Result<OfTypes<T>, DecoderError> {
+        Ok(OfTypes(T::from_bytes(alloc, bytes)?))
     }
 
     fn to(&self, alloc: Global) -> Result<BytesMut, AllocError> {
-        self.to_bytes(alloc)
+        self.0.to_bytes(alloc)
     }
 }
 
-impl Bare for AnyTransaction {
-    fn from(alloc: Global, bytes: &[u8]) -> Result<AnyTransaction, DecoderError> {
-        AnyTransaction::from_bytes(alloc, bytes)
-    }
-
-    fn to(&self, alloc: Global) -> Result<BytesMut, AllocError> {
-        self.to_bytes(alloc)
-    }
-}
-
-impl Bare for TypedReceipt {
-    fn from(alloc: Global, bytes: &[u8]) -> Result<TypedReceipt, DecoderError> {
-        TypedReceipt::from_bytes(alloc, bytes)
-    }
-
-    fn to(&self, alloc: Global) -> Result<BytesMut, AllocError> {
-        self.to_bytes(alloc)
-    }
-}
-
-impl Bare for AnyReceipt {
-    fn from(alloc: Global, bytes: &[u8]) -> Result<AnyReceipt, DecoderError> {
-        AnyReceipt::from_bytes(alloc, bytes)
-    }
-
-    fn to(&self, alloc: Global) -> Result<BytesMut, AllocError> {
-        self.to_bytes(alloc)
-    }
-}
-
-impl Bare for UnsignedTransaction {
-    fn from(alloc: Global, bytes: &[u8]) -> Result<UnsignedTransaction, DecoderError> {
-        UnsignedTransaction::from_bytes(alloc, bytes)
+impl<T: Eip2718> Bare for KnownOrOther<T> {
+    fn from(alloc: Global, bytes: &[u8]) -> Result<KnownOrOther<T>, DecoderError> {
+        KnownOrOther::from_bytes(alloc, bytes)
     }
 
     fn to(&self, alloc: Global) -> Result<BytesMut, AllocError> {

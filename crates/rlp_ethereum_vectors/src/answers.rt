@@ -1,18 +1,23 @@
 //! The calls that the rows of tables name.
 
-use crate::alone::Payload;
+use crate::alone::{OfTypes, Payload};
 use crate::fields::{fields, forks, london};
 use crate::reading::{Alone, Item, ways};
 use crate::{
-    bounded, by_name, hashes, node_records, nodes, places, pooled, records, signing, unsigned,
+    addresses, bounded, by_name, hashes, node_records, nodes, places, pooled, records, signing,
+    unsigned,
 };
-use rlp_ethereum::{
-    AccessListTransaction, AnyReceipt, AnyTransaction, Authorization, BlobTransaction, Block,
-    BlockAccessList, Body, Branch, BranchChild, Child, Extension, FeeMarketTransaction, Hash,
-    Header, Leaf, Log, NodeRecord, SetCodeTransaction, Signed, SignedLegacyTransaction,
-    Transaction, TrieNode, TypedReceipt, UnsignedLegacyTransaction, UnsignedTransaction,
-};
+use rlp_blocks::{Block, Body};
+use rlp_headers::{AnyReceipt, BlockAccessList, Header, Log, TypedReceipt};
+use rlp_node_record::NodeRecord;
+use rlp_records::Hash;
 use rlp_rows::Line;
+use rlp_transactions::{
+    AccessListTransaction, AnyTransaction, Authorization, BlobTransaction, FeeMarketTransaction,
+    SetCodeTransaction, Signed, SignedLegacyTransaction, Transaction, UnsignedLegacyTransaction,
+    UnsignedTransaction,
+};
+use rlp_trie::{Branch, BranchChild, Child, Extension, Leaf, TrieNode};
 use std::alloc::Global;
 use std::fmt;
 use std::fmt::Write;
@@ -53,9 +58,11 @@ fn tell_alone_or_fields(alloc: Global, call: &str, bytes: &[u8], out: &mut Line)
     match call {
         "AnyReceipt alone" => ways::<Alone<AnyReceipt>>(alloc, bytes, out),
         "AnyTransaction alone" => ways::<Alone<AnyTransaction>>(alloc, bytes, out),
-        "Transaction alone" => ways::<Alone<Transaction>>(alloc, bytes, out),
-        "TypedReceipt alone" => ways::<Alone<TypedReceipt>>(alloc, bytes, out),
-        "UnsignedTransaction alone" => ways::<Alone<UnsignedTransaction>>(alloc, bytes, out),
+        "Transaction alone" => ways::<Alone<OfTypes<Transaction>>>(alloc, bytes, out),
+        "TypedReceipt alone" => ways::<Alone<OfTypes<TypedReceipt>>>(alloc, bytes, out),
+        "UnsignedTransaction alone" => ways::<Alone<OfTypes<UnsignedTransaction>>>(
+            alloc, bytes, out,
+        ),
         "FeeMarketTransaction alone" => ways::<Alone<Signed<FeeMarketTransaction>>>(
             alloc, bytes, out,
         ),
@@ -87,6 +94,7 @@ fn tell_named(alloc: Global, call: &str, bytes: &[u8], out: &mut Line) -> fmt::R
         "signed" => unsigned::tell(alloc, name, bytes, out),
         "pooled" => pooled::tell(alloc, name, bytes, out),
         "hash" => hashes::tell(alloc, name, bytes, out),
+        "address" => addresses::tell(alloc, name, bytes, out),
         "at most" => bounded::tell(alloc, name, bytes, out),
         "node" => nodes::tell(alloc, name, bytes, out),
         "node record" => node_records::tell(alloc, name, bytes, out),

@@ -1,8 +1,11 @@
 //! Reading with a bound on the number of items.
 
 use rlp::{DecoderError, StrictRead};
-use rlp_ethereum::{AnyTransaction, Body, Transaction, Withdrawal, decode_at_most};
+use rlp_blocks::Body;
+use rlp_headers::Withdrawal;
+use rlp_records::decode_at_most;
 use rlp_rows::{Line, bytes_in, cut, number};
+use rlp_transactions::{AnyTransaction, Transaction};
 use std::alloc::Global;
 use std::fmt;
 use std::fmt::Write;

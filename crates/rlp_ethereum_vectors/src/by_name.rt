@@ -4,12 +4,13 @@
 
 use crate::reading::{made, made_of};
 use rlp::Uint;
-use rlp_ethereum::{
-    AccessList, Account, Address, BlobTransaction, BlobTransactionWithCellProofs,
-    BlobTransactionWithProofs, DepositTransaction, Hash, NonZeroScalar, Recipient, Signed,
-    Withdrawal, WrapperVersion,
-};
+use rlp_headers::{Account, Withdrawal};
+use rlp_records::{Address, Hash};
 use rlp_rows::Line;
+use rlp_transactions::{
+    AccessList, BlobTransaction, BlobTransactionWithCellProofs, BlobTransactionWithProofs,
+    DepositTransaction, NonZeroScalar, Recipient, Signed, WrapperVersion,
+};
 use std::alloc::{AllocError, Global};
 use std::fmt;
 

@@ -2,12 +2,14 @@
 
 use crate::reading::fault;
 use rlp::{Decodable, Rlp};
-use rlp_ethereum::{
-    Amsterdam, AnyReceipt, AnyTransaction, BlobTransaction, Block, Body, Hash, Header, London,
-    Recipient, SetCodeTransaction, Signed, SignedAuthorization, SignedLegacyTransaction,
-    Transaction, TypedReceipt,
-};
+use rlp_blocks::{Block, Body};
+use rlp_headers::{Amsterdam, AnyReceipt, Header, London, TypedReceipt};
+use rlp_records::{Eip2718, Hash};
 use rlp_rows::{Hex, Line};
+use rlp_transactions::{
+    AnyTransaction, BlobTransaction, Recipient, SetCodeTransaction, Signed, SignedAuthorization,
+    SignedLegacyTransaction, Transaction,
+};
 use std::alloc::Global;
 use std::fmt;
 use std::fmt::Write;

@@ -2,23 +2,27 @@
 
 use crate::reading::fault;
 use rlp::DecoderError;
-use rlp_ethereum::{
-    AccessListTransaction, AnyTransaction, BlockAccessList, FeeMarketTransaction, Hash, Header,
-    Signed, TypedTransaction, UnsignedLegacyTransaction, UnsignedTransaction, encoding_hash,
-    signing_hash,
-};
+use rlp_headers::{BlockAccessList, Header};
+use rlp_records::{Eip2718, Hash, encoding_hash};
 use rlp_rows::{Hex, Line};
+use rlp_transactions::{
+    AccessListTransaction, AnyTransaction, Authorization, BlobTransaction, FeeMarketTransaction,
+    SetCodeTransaction, Signed, Tagged, TypedTransaction, UnsignedLegacyTransaction,
+    UnsignedTransaction, signing_hash,
+};
 use std::alloc::Global;
 use std::fmt;
 use std::fmt::Write;
 
 /// What is hashed, its bytes as text, and the digits of its hash: the headers of the first two blocks
 /// of the main network, of block 0 of the network Holesky, of block 1 of a test of EIP-1559 and of
-/// block 0 of the network Görli; the first transaction of the main network, the example of EIP-155, a
-/// transaction of type 2 and two transactions with chain 1 of the tests of `go-ethereum`; access lists
-/// of blocks, where that of the empty list is named in EIP-7928, and the other was computed by
-/// `fuzz/keccak.py`; what is signed of a transaction of these tests, of the one of type 2, of the
-/// example, and of two transactions without a chain of these tests.
+/// block 0 of the networks Görli and Rinkeby, whose extra data has 157 bytes; the first transaction of
+/// the main network, the example of EIP-155, a transaction of type 2 and two transactions with chain 1
+/// of the tests of `go-ethereum`; what is signed of transactions of types 1 and 2, and of chosen ones of
+/// types 3 and 4 and the second authorization of the latter, whose hashes `fuzz/records.py` computed;
+/// access lists of blocks, where that of the empty list is named in EIP-7928, and the other was
+/// computed by `fuzz/keccak.py`; what is signed of the example of EIP-155, and of two transactions
+/// without a chain of the tests of `go-ethereum`.
 pub(crate) const ROWS: &str = "
     hash: header | GENESIS | d4e56740f876aef8c010b86a40d5f56745a118d0906a34e69aec8c0db1cb8fa3
     hash: header | BLOCK_1 | 88e96d4537bea4d9c05d12549907b32561d3bf31f45aae734cdc119f13406cb6
@@ -40,6 +44,13 @@ pub(crate) const ROWS: &str = "
      2061207468696e6722202d204166726900000000000000e0a2bd4258d2768837baa26a28fe71dc079f84c7+00*\
      65+a0+00*32+880000000000000000 | bf7e331f7f7c1dd2e05159666b3bf8bc7a8a3a9eb1d518969eab529dd\
      9b88c1a
+    hash: header | f90292a0+00*32+a01dcc4de8dec75d7aab85b567b6ccd41ad312451b948a7413f0a142fd40d4934\
+     794+00*20+a053580584816f617295ea26c0e17641e0120cab2f0a8ffb53a866fd53aa8e8c2da056e81f171bcc55a6\
+     ff8345e692c0f86e5b48e01b996cadc001622fb5e363b421a056e81f171bcc55a6ff8345e692c0f86e5b48e01b996c\
+     adc001622fb5e363b421b90100+00*256+01808347b760808458ee40bab89d52657370656374206d7920617574686f\
+     7269746168207e452e436172746d616e42eb768f2244c8811c63729a21a3569731535f067ffc57839b00206d1ad20c\
+     69a1981b489f772031b279182d99e65703f0076e4812653aab85fca0f0+00*65+a0+00*32+88000000000000000\
+     0 | 6341fd3daf94b748c72ced5a5b26028f2474f5f00d824504e4fa37a75767e177
     hash: transaction | FIRST | 5c504ed432cb51138bcf09aa5e8a410dd4a1e204ef84bfed1be16dfba1b22060
     hash: transaction | SIGNED | 33469b22e9f636356c4160a87eb19df52b7412e8eac32a4a55ffe88ea8350788
     hash: transaction | 02f8b00142843b9aca008504a817c80082ad62946069a6c32cf691f5982febae4faf8a6f3ab2f0\
@@ -62,6 +73,12 @@ pub(crate) const ROWS: &str = "
      00000000000000000000000000000000000000000000000000000000000c080a0840cfc572845f5786e702984c2\
      a582528cad4b49b2a10b9db1be7fca90058565a025e7109ceb98168d95b09b18bbf6b685130e0562f233877d492\
      b94eee0c5b6d1 | 0d5688ac3897124635b6cf1bc0e29d6dfebceebdc10a54d74f2ef8b56535b682
+    hash: payload of type 3 | BLOB | 0c147b56b6df49b55f148ad27792e8e6a2939b7e461b7aee38e2522606330f\
+     c9
+    hash: payload of type 4 | SET_CODE | 8e28b8ac2305739a7c76e032a253e07decac1f2e1cf30f074a67fa2acc\
+     63264e
+    hash: authorization | 05d90194888888888888888888888888888888888888888882012c | 2f29119f66fbfd57\
+     055c2e51617bd84c251fe7446601b1cd55fe857bb9269bfb
     hash: block access list | c0 | 1dcc4de8dec75d7aab85b567b6ccd41ad312451b948a7413f0a142fd40d49347
     hash: block access list | f889f86c94+11*20+f2c981ffc6c20102c20380e7820100e3e205a080+00*31+c407\
      820101cec28009ca02880de0b6b3a7640000c3c2010bcbc402826001c58301000080da94+12*20+c0c0c0c0c0 | 8\
@@ -114,6 +131,12 @@ fn payload<T: TypedTransaction>(alloc: Global, bytes: &[u8]) -> Result<Hash, Dec
     signing_hash(alloc, &signed.payload).or(Err(DecoderError::OutOfMemory))
 }
 
+/// Returns the hash of what is signed of an authorization, by the bytes that are signed.
+fn authorization(alloc: Global, bytes: &[u8]) -> Result<Hash, DecoderError> {
+    let unsigned = Authorization::from_signing_payload(alloc, bytes)?;
+    signing_hash(alloc, &unsigned).or(Err(DecoderError::OutOfMemory))
+}
+
 /// Returns the hash of the record that these bytes encode.
 fn hash(alloc: Global, kind: &str, bytes: &[u8]) -> Result<Hash, DecoderError> {
     match kind {
@@ -122,7 +145,10 @@ fn hash(alloc: Global, kind: &str, bytes: &[u8]) -> Result<Hash, DecoderError> {
         "unsigned legacy transaction" => legacy(alloc, bytes),
         "transaction" => transaction(alloc, bytes),
         "unsigned transaction" => unsigned(alloc, bytes),
+        "authorization" => authorization(alloc, bytes),
         "payload of type 1" => payload::<AccessListTransaction>(alloc, bytes),
+        "payload of type 3" => payload::<BlobTransaction>(alloc, bytes),
+        "payload of type 4" => payload::<SetCodeTransaction>(alloc, bytes),
         _ => payload::<FeeMarketTransaction>(alloc, bytes),
     }
 }

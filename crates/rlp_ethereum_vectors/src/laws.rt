@@ -1,19 +1,24 @@
-//! The laws of `rlp_ethereum`, called for several of its types. What a law says is proved.
+//! The laws of records, called for several types. What a law says is proved.
 
 use crate::node_records::TEXTS;
 use crate::text::bytes_of;
 use rlp::StrictRead;
-use rlp_ethereum::laws::{
-    bytes_tell_pooled_transactions, bytes_tell_receipts, bytes_tell_transactions,
-    encodings_tell_records, no_bytes_are_signed_for_two_meanings,
-    no_content_is_signed_for_two_meanings, node_text_round_trips,
+use rlp_blocks::laws::no_content_is_signed_for_two_meanings;
+use rlp_headers::laws::bytes_tell_receipts;
+use rlp_headers::{Account, AnyReceipt, Withdrawal};
+use rlp_node_record::NodeRecord;
+use rlp_node_record::laws::node_text_round_trips;
+use rlp_records::Eip2718;
+use rlp_records::laws::{
+    encodings_tell_records, reading_without_memory_is_total, record_is_read, record_is_written,
+    record_round_trips,
+};
+use rlp_transactions::laws::{
+    bytes_tell_pooled_transactions, bytes_tell_transactions, no_bytes_are_signed_for_two_meanings,
     pooled_transaction_keeps_its_hash, pooled_transactions_stand_in_blocks,
-    reading_without_memory_is_total, record_is_read, record_is_written, record_round_trips,
     signed_transactions_are_no_signing_payloads,
 };
-use rlp_ethereum::{
-    Account, AnyReceipt, AnyTransaction, NodeRecord, PooledTransaction, Withdrawal,
-};
+use rlp_transactions::{AnyTransaction, PooledTransaction};
 use rlp_trie::laws::paths_have_one_value;
 use std::alloc::Global;
 use std::test::Fail;

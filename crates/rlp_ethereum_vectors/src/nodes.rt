@@ -112,6 +112,24 @@ pub(crate) const ROWS: &str = "
     TrieNode | c3358105 | RlpInvalidIndirection
     TrieNode | d105+80*16 | RlpIsTooShort
 
+    Nodes that a trie can have: the empty trie, a leaf with a value, extensions to a hash and to a
+    branch that is kept, and branches with two children, and with one or two of them and a value.
+    node: possible | 80 | true
+    node: possible | c782201283636174 | true
+    node: possible | e216a0bd3ee507e6c67cfefca98f84be47c1bbc009315fabc4405db4ba32190374572a | true
+    node: possible | de17dc808080808080c63584636f696e808080808080808080857075707079 | true
+    node: possible | f85180a0+11*32+80*13+a0+ff*32+80 | true
+    node: possible | f180a0+11*32+80*14+76 | true
+    node: possible | f85580a0+11*32+80*13+a0+ff*32+8476657262 | true
+    Nodes that no trie has: a leaf with no value, an extension to a leaf, and branches with nothing,
+    with a value, with the first child, and with the last.
+    node: possible | c22080 | false
+    node: possible | c911c782201283636174 | false
+    node: possible | d1+80*17 | false
+    node: possible | d1+80*16+76 | false
+    node: possible | f1a0+11*32+80*16 | false
+    node: possible | f1+80*15+a0+11*32+80 | false
+
     The examples of hex-prefix encoding in Ethereum's documentation, without the terminators that it
     writes after the nibbles of a leaf.
     node: nibbles | 112345 | extension 0102030405 112345
@@ -251,7 +269,16 @@ pub(crate) fn tell(alloc: Global, name: &str, bytes: &[u8], out: &mut Line) -> f
         "of nibbles" => tell_path::<2>(alloc, bytes, out),
         "of nibbles of an extension" => tell_path::<0>(alloc, bytes, out),
         "changed" => out.debug(first_unnoticed(alloc, bytes)?),
+        "possible" => tell_possible(alloc, bytes, out),
         _ => tell_short(alloc, name, bytes, out),
+    }
+}
+
+/// Tells whether a trie can have the node that is read, or the fault.
+fn tell_possible(alloc: Global, bytes: &[u8], out: &mut Line) -> fmt::Result {
+    match rlp::decode_strict::<TrieNode>(alloc, bytes) {
+        Ok(node) => out.debug(node.is_possible()),
+        Err(found) => fault(&found, out),
     }
 }
 

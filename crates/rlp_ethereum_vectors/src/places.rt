@@ -3,8 +3,12 @@
 //! ones were worked out by hand.
 
 use rlp::{DecodePlaced, DecoderError, Rlp};
-use rlp_ethereum::{Account, AnyReceipt, AnyTransaction, Block, NodeRecord, TrieNode, Withdrawal};
+use rlp_blocks::Block;
+use rlp_headers::{Account, AnyReceipt, Withdrawal};
+use rlp_node_record::NodeRecord;
 use rlp_rows::Line;
+use rlp_transactions::AnyTransaction;
+use rlp_trie::TrieNode;
 use std::alloc::Global;
 use std::fmt;
 use std::fmt::Write;

@@ -1,12 +1,12 @@
 //! Transactions as they are sent: a transaction of type 3 has its blobs.
 
+use crate::alone::OfTypes;
 use crate::places::tell_placed;
-use crate::reading::{Alone, Bare, Item, digits, fault, ways};
-use bytes::BytesMut;
-use rlp::DecoderError;
-use rlp_ethereum::PooledTransaction;
+use crate::reading::{Alone, Item, digits, fault, ways};
+use rlp_records::Eip2718;
 use rlp_rows::{Hex, Line};
-use std::alloc::{AllocError, Global};
+use rlp_transactions::PooledTransaction;
+use std::alloc::Global;
 use std::fmt;
 use std::fmt::Write;
 
@@ -95,20 +95,10 @@ pub(crate) const ROWS: &str = "
     pooled: check | SIGNED | no blobs
 ";
 
-impl Bare for PooledTransaction {
-    fn from(alloc: Global, bytes: &[u8]) -> Result<PooledTransaction, DecoderError> {
-        PooledTransaction::from_bytes(alloc, bytes)
-    }
-
-    fn to(&self, alloc: Global) -> Result<BytesMut, AllocError> {
-        self.to_bytes(alloc)
-    }
-}
-
 /// Tells what a call about a transaction as it is sent answers.
 pub(crate) fn tell(alloc: Global, name: &str, bytes: &[u8], out: &mut Line) -> fmt::Result {
     match name {
-        "alone" => ways::<Alone<PooledTransaction>>(alloc, bytes, out),
+        "alone" => ways::<Alone<OfTypes<PooledTransaction>>>(alloc, bytes, out),
         "item" => ways::<Item<PooledTransaction>>(alloc, bytes, out),
         "place" => tell_place(alloc, bytes, out),
         _ => match PooledTransaction::from_bytes(alloc, bytes) {

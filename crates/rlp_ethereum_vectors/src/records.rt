@@ -2,11 +2,13 @@
 
 use crate::reading::{digits, made, made_of};
 use rlp::Uint;
-use rlp_ethereum::{
-    AccessList, AccessListItem, AccessListTransaction, Address, Bloom, FeeMarketTransaction, Hash,
-    Log, NonZeroScalar, Receipt, ReceiptStatus, Recipient, Signed,
-};
+use rlp_headers::{Bloom, Log, Receipt, ReceiptStatus};
+use rlp_records::{Address, Hash};
 use rlp_rows::Line;
+use rlp_transactions::{
+    AccessList, AccessListItem, AccessListTransaction, FeeMarketTransaction, NonZeroScalar,
+    Recipient, Signed,
+};
 use std::alloc::{AllocError, Global};
 use std::fmt;
 

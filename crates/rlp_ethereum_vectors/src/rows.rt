@@ -3,20 +3,22 @@
 use crate::answers::tell;
 use crate::text::bytes_of;
 use crate::{
-    bounded, by_name, hashes, node_records, nodes, places, pooled, records, signing, unsigned,
+    addresses, bounded, by_name, hashes, node_records, nodes, places, pooled, records, signing,
+    unsigned,
 };
 use rlp_rows::Line;
 use std::alloc::{AllocError, Global};
 use std::test::Fail;
 
 /// The tables.
-const TABLES: [&str; 11] = [
+const TABLES: [&str; 12] = [
     records::ROWS,
     by_name::ROWS,
     signing::ROWS,
     pooled::ROWS,
     unsigned::ROWS,
     hashes::ROWS,
+    addresses::ROWS,
     bounded::ROWS,
     bounded::WITHOUT_MEMORY,
     nodes::ROWS,

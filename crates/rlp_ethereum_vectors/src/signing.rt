@@ -2,12 +2,14 @@
 
 use crate::reading::{Alone, Bare, digits, ways};
 use bytes::BytesMut;
+use keccak::keccak256;
 use rlp::DecoderError;
-use rlp_ethereum::{
-    BlobTransactionWithCellProofs, BlobTransactionWithProofs, DepositReceipt, DepositTransaction,
-    Enveloped, Transaction,
-};
+use rlp_headers::DepositReceipt;
+use rlp_records::{Eip2718, Enveloped, Hash};
 use rlp_rows::{Hex, Line};
+use rlp_transactions::{
+    BlobTransactionWithCellProofs, BlobTransactionWithProofs, DepositTransaction, Transaction,
+};
 use std::alloc::{AllocError, Global};
 use std::fmt;
 use std::fmt::Write;
@@ -154,15 +156,11 @@ pub(crate) const ROWS: &str = "
      ffff+00*131071+c0c0 | RlpIsTooShort
     sent: with proofs | 03f84b+f843018002030494+35*20+0780c008e1a001+00*31+800102+c0c3820000c0 | R\
      lpIsTooShort
-    A deposit of the OP stack: the attributes of a block below.
-    sent: deposit | 7ef9015aa044bae9d41b8380d781187b426c6fe43df5fb2fb57bd4466ef6a701e1f01e015694de\
-     addeaddeaddeaddeaddeaddeaddeaddead000194420000000000000000000000000000000000001580808408f0d18\
-     001b90104015d8eb90000000000000000000000000000000000000000000000000000000000805765000000000000\
-     0000000000000000000000000000000000000000000063d96d1000000000000000000000000000000000000000000\
-     0000000000000000009f35273d89754a1e0387b89520d989d3be9c37c1f32495a88faf1ea05c61121ab0d19000000\
-     00000000000000000000000000000000000000000000000000000000010000000000000000000000002d679b567db\
-     6187c0c8323fa982cfb88b74dbcc70000000000000000000000000000000000000000000000000000000000000834\
-     00000000000000000000000000000000000000000000000000000000000f4240
+    A deposit of the OP stack: the attributes of a block. Its first field is the hash by the rule
+    for such deposits: of 1 and of the hash of what its data names, a block and a number.
+    sent: deposit | DEPOSIT
+    sent: source of deposit | DEPOSIT | 44bae9d41b8380d781187b426c6fe43df5fb2fb57bd4466ef6a701e1f01\
+     e0156 true
     sent: deposit | 7ec0 | RlpIncorrectListLen
     sent: deposit | 02c0 | Custom(\"another type\")
     Receipts of deposits: those of the tests of reth's OP stack, since Regolith with the nonce 4012991,
@@ -212,8 +210,27 @@ pub(crate) fn tell_sent(alloc: Global, name: &str, bytes: &[u8], out: &mut Line)
         }
         "deposit receipt" => ways::<Alone<Sent<DepositReceipt>>>(alloc, bytes, out),
         "since Regolith" => tell_regolith(alloc, bytes, out),
+        "source of deposit" => tell_source(alloc, bytes, out),
         _ => ways::<Alone<Sent<DepositTransaction>>>(alloc, bytes, out),
     }
+}
+
+/// Tells the hash that the data of the attributes of a block give for the first field, and whether it
+/// is that field. Both numbers are hashed as 32 bytes.
+fn tell_source(alloc: Global, bytes: &[u8], out: &mut Line) -> fmt::Result {
+    let Ok(deposit) = DepositTransaction::from_bytes(alloc, bytes) else {
+        return out.write_str("not read");
+    };
+    let Some(named) = deposit.data.as_slice().get(100..164) else {
+        return out.write_str("other data");
+    };
+    let mut one = [0; 32];
+    one[31] = 1;
+    let mut hashed = Vec::from_slice(alloc, &one)?;
+    hashed.extend_from_slice(&keccak256(named))?;
+    let hash = Hash(keccak256(hashed.as_slice()));
+    out.debug(Hex(hash.0.as_slice()))?;
+    out.then(hash == deposit.source_hash)
 }
 
 /// Tells the gas of the receipt of a deposit, and what it has since Regolith and Canyon.

@@ -2,15 +2,17 @@
 //! Python, made the expected bytes from the values of the fields. Those of the example of EIP-155
 //! are in the EIP.
 
+use crate::alone::OfTypes;
 use crate::fields::{second, tell_parts, tell_second, tell_typed};
 use crate::reading::{Alone, digits, fault, made, ways};
 use crate::signing::{tell_again, tell_fees, tell_low, tell_parity, tell_payload};
 use rlp::Uint;
-use rlp_ethereum::{
-    Address, Authorization, LegacyTransaction, Recipient, Tagged, Transaction,
-    UnsignedLegacyTransaction, UnsignedTransaction,
-};
+use rlp_records::{Address, Eip2718};
 use rlp_rows::{Hex, Line};
+use rlp_transactions::{
+    Authorization, LegacyTransaction, Recipient, Tagged, Transaction, UnsignedLegacyTransaction,
+    UnsignedTransaction,
+};
 use std::alloc::Global;
 use std::fmt;
 use std::fmt::Write;
@@ -370,7 +372,7 @@ fn tell_unsigned(alloc: Global, unsigned: UnsignedTransaction, out: &mut Line) -
 /// Tells whether what is signed of a transaction goes both ways, and the number of its bytes.
 fn tell_ways(alloc: Global, unsigned: UnsignedTransaction, out: &mut Line) -> fmt::Result {
     let payload = unsigned.to_bytes(alloc)?;
-    ways::<Alone<UnsignedTransaction>>(alloc, payload.as_slice(), out)?;
+    ways::<Alone<OfTypes<UnsignedTransaction>>>(alloc, payload.as_slice(), out)?;
     out.write_str(",")?;
     out.then(payload.len())
 }

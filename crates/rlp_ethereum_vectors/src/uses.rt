@@ -3,8 +3,9 @@
 use crate::text::bytes_of;
 use keccak::keccak256;
 use rlp::DecoderError;
-use rlp_ethereum::{AnyTransaction, Hash};
+use rlp_records::Hash;
 use rlp_rows::{Hex, Line};
+use rlp_transactions::AnyTransaction;
 use rlp_trie::{ProofFault, verify_proof};
 use std::alloc::Global;
 use std::fmt;

@@ -1,6 +1,5 @@
 pub mod AccessOrder
 pub mod Account
-pub mod AnyReceipt
 pub mod Bloom
 pub mod Changes
 pub mod DepositReceipt

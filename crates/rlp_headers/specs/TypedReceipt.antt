@@ -1,19 +1,16 @@
 -- How receipts of transactions of every type are written and read.
-use Rattle.std.specs.Prelude.{ℕ, List, ◌⊎◌, refl}
+use Rattle.std.specs.Prelude.{◌⊎◌, refl}
 use Rattle.std.proofs.Common.{inl, inr}
-use Rattle.rlp.specs.Form.{Answer, Fault}
-use Rattle.rlp.specs.Codec.{Cases, Codec, and_case, enveloped, last_case, list_or_string, newtype}
+use Rattle.rlp.specs.Codec.{Codec}
 use Rattle.rlp_headers.specs.declared.receipt.Receipt.{Receipt}
 use Rattle.rlp_headers.specs.declared.typed_receipt.TypedReceipt.{TypedReceipt}
 use Rattle.rlp_headers.specs.declared.typed_receipt.TypedReceipt.TheVariants.{AccessList, Blob, FeeMarket, Legacy, SetCode}
 use Rattle.rlp_headers.specs.Receipt.{receipt}
-use Rattle.rlp_records.specs.Alone.{read_alone, unknown_type}
+use Rattle.rlp_records.specs.Eip2718.{TypedSum, typed, typed_by}
+use Rattle.rlp_records.specs.KnownOrOther.{with_others}
+use Rattle.rlp_records.specs.declared.known_or_other.KnownOrOther.{KnownOrOther}
 
--- the types of EIP-2718, each with its number; all have one payload
-abbrev pub typed_receipts : Cases (Receipt ⊎ (Receipt ⊎ (Receipt ⊎ Receipt)))
-typed_receipts = and_case 1 receipt (and_case 2 receipt (and_case 3 receipt (last_case unknown_type 4 receipt)))
-
--- the receipt of a transaction of one of these types
+-- the receipt of a transaction of one of the types
 abbrev pub receipt_as_sum : TypedReceipt → Receipt ⊎ (Receipt ⊎ (Receipt ⊎ (Receipt ⊎ Receipt)))
 receipt_as_sum (Legacy r) = inl r
 receipt_as_sum (AccessList r) = inr (inl r)
@@ -21,18 +18,14 @@ receipt_as_sum (FeeMarket r) = inr (inr (inl r))
 receipt_as_sum (Blob r) = inr (inr (inr (inl r)))
 receipt_as_sum (SetCode r) = inr (inr (inr (inr r)))
 
--- the receipt of a legacy transaction is a list, and that of a typed one the string of the type and the receipt
+-- the receipt of a legacy transaction is a list, and the receipt of a typed one an envelope; all types have one payload
+abbrev pub receipt_types : TypedSum TypedReceipt
+receipt_types = typed_by receipt_as_sum receipt (λ r. refl) receipt receipt receipt receipt
+
+-- how receipts are written and read
 abbrev pub typed_receipt : Codec TypedReceipt
-typed_receipt = newtype receipt_as_sum (list_or_string receipt (enveloped typed_receipts) (λ r. refl) (λ r. refl))
+typed_receipt = typed receipt_types
 
--- what the bytes of a receipt give by themselves
-abbrev pub receipt_alone : List ℕ → Answer typed_receipt.reading.M Fault
-receipt_alone d = read_alone receipt.reading.read typed_receipts.cases.read d
-
--- the number of the transaction's type, and 0 without one
-abbrev pub receipt_type : TypedReceipt → ℕ
-receipt_type (Legacy r) = 0
-receipt_type (AccessList r) = 1
-receipt_type (FeeMarket r) = 2
-receipt_type (Blob r) = 3
-receipt_type (SetCode r) = 4
+-- a receipt of one of the types, or the bytes of a receipt of another type
+abbrev pub any_receipt : Codec (KnownOrOther TypedReceipt)
+any_receipt = with_others receipt_types

@@ -78,6 +78,17 @@ impl BlockAccessList {
     }
 }
 
+/// A clone has the same accounts, as contracts see them.
+impl Clone for BlockAccessList {
+    ghost is_clone = { λ b copy. block_access_list.reading.seen copy ≡ block_access_list.reading.seen b };
+
+    #[tactic(auto, using(crate::proofs::Clones::clones))]
+    fn clone(&self) -> Result<BlockAccessList, AllocError> {
+        let accounts = self.accounts.clone()?;
+        Ok(BlockAccessList { accounts })
+    }
+}
+
 /// A value that stands in a list that is in order.
 trait Ordered {
     /// The type of what contracts see of a value.

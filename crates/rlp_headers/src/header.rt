@@ -24,6 +24,9 @@ use std::alloc::{AllocError, Global};
 /// [`Shanghai`], [`Cancun`], [`Prague`] or [`Amsterdam`]; with the slot's number, since Amsterdam it
 /// has 23. A list with any other number of items fails with `RlpIncorrectListLen`. A header that has
 /// the fields of a fork also has the fields of every earlier fork.
+///
+/// It is the header of Ethereum and of chains with its forks. The header of a chain that leaves out
+/// fields of a fork isn't read, such as a list of 18 or 19 items.
 #[derive(Debug, Clone, PartialEq, Eq, Drop)]
 pub struct Header {
     /// The hash of the parent's header.

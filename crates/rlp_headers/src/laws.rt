@@ -2,7 +2,7 @@
 
 ghost use Rattle.std.specs.Prelude.{◌≡◌, ◌<◌, ◌^◌, length};
 ghost use Rattle.rlp_records.specs.Alone.{bytes_alone};
-ghost use Rattle.rlp_headers.specs.AnyReceipt.{any_receipt};
+ghost use Rattle.rlp_headers.specs.TypedReceipt.{any_receipt};
 
 use crate::AnyReceipt;
 

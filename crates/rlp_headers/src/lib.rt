@@ -2,7 +2,6 @@
 #![tactic(auto)]
 
 mod account;
-mod any_receipt;
 mod block_access_list;
 mod bloom;
 mod deposit_receipt;
@@ -15,7 +14,6 @@ mod typed_receipt;
 mod withdrawal;
 
 pub use account::Account;
-pub use any_receipt::AnyReceipt;
 pub use block_access_list::{AccountChanges, BlockAccessList, SlotChanges, StateChange};
 pub use bloom::Bloom;
 pub use deposit_receipt::{DepositReceipt, Regolith};
@@ -23,5 +21,5 @@ pub use header::{Amsterdam, Cancun, Header, London, Prague, Shanghai};
 pub use log::Log;
 pub use receipt::Receipt;
 pub use receipt_status::ReceiptStatus;
-pub use typed_receipt::TypedReceipt;
+pub use typed_receipt::{AnyReceipt, TypedReceipt};
 pub use withdrawal::{Withdrawal, Withdrawals};

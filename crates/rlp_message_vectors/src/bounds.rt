@@ -2,7 +2,7 @@
 
 use crate::text::bytes_of;
 use rlp::DecoderError;
-use rlp_messages::{Eth68Message, Eth69Message, MessageBounds, Numbered, P2pMessage};
+use rlp_messages::{Eth68Message, Eth69Message, Message, MessageBounds, Numbered, P2pMessage};
 use std::alloc::{AllocError, Global};
 use std::test::Fail;
 

@@ -2,12 +2,14 @@
 
 use crate::reading::fault;
 use rlp::Decodable;
-use rlp_ethereum::{AnyReceipt, AnyTransaction, PooledTransaction};
+use rlp_headers::AnyReceipt;
 use rlp_messages::{
     BlockBodies, BlockHeaders, Disconnect, Hello, NewBlock, PooledTransactions, Receipts,
     Receipts69, Transactions, WithRequestId,
 };
+use rlp_records::Eip2718;
 use rlp_rows::{Hex, Line};
+use rlp_transactions::{AnyTransaction, PooledTransaction};
 use std::alloc::Global;
 use std::fmt;
 use std::fmt::Write;

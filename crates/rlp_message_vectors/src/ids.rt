@@ -4,11 +4,12 @@
 use crate::reading::{Reading, fault, ways};
 use bytes::BytesMut;
 use rlp::DecoderError;
-use rlp_messages::{Eth68Message, Eth69Message, P2pMessage};
+use rlp_messages::{Eth68Message, Eth69Message, Message, P2pMessage};
 use rlp_rows::Line;
 use std::alloc::{AllocError, Global};
 use std::fmt;
 use std::fmt::Write;
+use std::marker::PhantomData;
 
 /// Rows of messages of `p2p` after 0, and after 253, where the ids have a header or two bytes.
 pub(crate) const P2P_ROWS: &str = "
@@ -90,37 +91,13 @@ pub(crate) const ETH_ROWS: &str = "
     id: eth/69 | 20f90172820457f9016cf90169f901668001b90100+00*256+LOGS | refused
 ";
 
-/// Reads a message of `p2p` after this id.
-struct P2p<const FIRST: u8>;
+/// Reads a message after this id.
+struct Sent<M, const FIRST: u8>(PhantomData<M>);
 
-impl<const FIRST: u8> Reading for P2p<FIRST> {
+impl<M: Message, const FIRST: u8> Reading for Sent<M, FIRST> {
     fn again(alloc: Global, bytes: &[u8]) -> Result<BytesMut, DecoderError> {
-        match P2pMessage::from_message(alloc, FIRST, bytes) {
+        match M::from_message(alloc, FIRST, bytes) {
             Ok(message) => written(message.to_message(alloc, FIRST)),
-            Err(found) => Err(found),
-        }
-    }
-}
-
-/// Reads a message of `eth/68` after 16.
-struct Eth68;
-
-impl Reading for Eth68 {
-    fn again(alloc: Global, bytes: &[u8]) -> Result<BytesMut, DecoderError> {
-        match Eth68Message::from_message(alloc, 0x10, bytes) {
-            Ok(message) => written(message.to_message(alloc, 0x10)),
-            Err(found) => Err(found),
-        }
-    }
-}
-
-/// Reads a message of `eth/69` after 16.
-struct Eth69;
-
-impl Reading for Eth69 {
-    fn again(alloc: Global, bytes: &[u8]) -> Result<BytesMut, DecoderError> {
-        match Eth69Message::from_message(alloc, 0x10, bytes) {
-            Ok(message) => written(message.to_message(alloc, 0x10)),
             Err(found) => Err(found),
         }
     }
@@ -154,10 +131,10 @@ fn tell_text(alloc: Global, bytes: &[u8], out: &mut Line) -> fmt::Result {
 /// Tells what a call about a message with its id answers.
 pub(crate) fn tell(alloc: Global, name: &str, bytes: &[u8], out: &mut Line) -> fmt::Result {
     match name {
-        "p2p" => ways::<P2p<0>>(alloc, bytes, out),
-        "p2p after 253" => ways::<P2p<253>>(alloc, bytes, out),
-        "eth/68" => ways::<Eth68>(alloc, bytes, out),
-        "eth/69" => ways::<Eth69>(alloc, bytes, out),
+        "p2p" => ways::<Sent<P2pMessage, 0>>(alloc, bytes, out),
+        "p2p after 253" => ways::<Sent<P2pMessage, 253>>(alloc, bytes, out),
+        "eth/68" => ways::<Sent<Eth68Message, 0x10>>(alloc, bytes, out),
+        "eth/69" => ways::<Sent<Eth69Message, 0x10>>(alloc, bytes, out),
         "text of p2p" => tell_text(alloc, bytes, out),
         _ => match number(alloc, name, bytes) {
             Ok(number) => out.display(number),

@@ -3,12 +3,12 @@
 
 use crate::reading::{made, made_of};
 use rlp::Uint;
-use rlp_ethereum::Hash;
 use rlp_messages::{
     BlockRangeUpdate, Capability, Disconnect, DisconnectReason, ForkHash, ForkId, Hello,
     NewBlockHash, NewBlockHashes, NewPooledTransactionHashes, NodeId, Ping, Pong, Status68,
     Status69,
 };
+use rlp_records::Hash;
 use rlp_rows::Line;
 use std::alloc::{AllocError, Global};
 use std::fmt;

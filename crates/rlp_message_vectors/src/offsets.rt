@@ -1,7 +1,6 @@
 //! The offsets of capabilities. The cases are those of RLPx's text, and those that go-ethereum tests
 //! its choice of protocols with.
 
-use rlp_messages::laws::both_ends_agree;
 use rlp_messages::{Capability, ETH_68, ETH_69, Hello, NodeId, Protocol};
 use std::alloc::{AllocError, Global};
 use std::test::Fail;
@@ -51,7 +50,6 @@ fn clients_of_eth_and_snap(rt: HostRuntime) -> Result<(), Fail> {
     assert_eq!(rt; ETH_68.offset(&ours, &new), None);
     assert!(rt; ETH_69.is_shared(&ours, &new) && !ETH_68.is_shared(&ours, &new));
     assert_eq!(rt; SNAP.offset(&[ETH_68], &new), None);
-    both_ends_agree();
     Ok(())
 }
 

@@ -2,11 +2,11 @@
 //! unless a comment says otherwise.
 
 use crate::reading::made;
-use rlp_ethereum::Hash;
 use rlp_messages::{
     BlockHeaders, GetBlockBodies, GetBlockHeaders, GetPooledTransactions, GetReceipts,
     HashOrNumber, WithRequestId,
 };
+use rlp_records::Hash;
 use rlp_rows::Line;
 use std::alloc::{AllocError, Global};
 use std::fmt;

@@ -3,9 +3,10 @@ use Rattle.std.proofs.Common.{◌≡◌, ◌∙◌, List, ℕ, [], ◌∷◌, Bo
 use Rattle.keccak.specs.Keccak.{keccak256}
 use Rattle.rlp.specs.Format.Encoding.{encoding}
 use Rattle.rlp_records.specs.Alone.{bytes_alone}
-use Rattle.rlp_transactions.specs.declared.{any_transaction.AnyTransaction.AnyTransaction, blob_transaction.BlobTransaction.BlobTransaction}
+use Rattle.rlp_transactions.specs.declared.{blob_transaction.BlobTransaction.BlobTransaction, transaction.Transaction.Transaction}
+use Rattle.rlp_records.specs.declared.known_or_other.KnownOrOther.{KnownOrOther}
 use Rattle.rlp_transactions.specs.declared.{signed.Signed.Signed, unsigned_transaction.UnsignedTransaction.UnsignedTransaction}
-use Rattle.rlp_transactions.specs.{AnyTransaction.any_transaction, BlobTransaction.signed_blob_transaction, UnsignedTransaction.unsigned_transaction}
+use Rattle.rlp_transactions.specs.{BlobTransaction.signed_blob_transaction, Transaction.any_transaction, UnsignedTransaction.unsigned_transaction}
 use Rattle.rlp_transactions.specs.{PooledTransaction.consensus_form, PooledTransaction.pooled_transaction, Transaction.transaction}
 use Rattle.rlp_transactions.specs.declared.pooled_transaction.PooledTransaction.{PooledTransaction}
 use Rattle.rlp_transactions.proofs.Pooled.{consensus_written}
@@ -13,7 +14,7 @@ use Rattle.rlp_headers.specs.{Header.header, declared.header.Header.Header}
 use Rattle.rlp_print.specs.Blocks.{header_hash, seen_hash}
 use Rattle.rlp_print.specs.Transactions.{blob_hash, payload_hash, pooled_hash, transaction_hash}
 
-pub transaction_written : (t : AnyTransaction) (d : List ℕ) → d ≡ keccak256 (bytes_alone (any_transaction.item t)) → d ≡ transaction_hash (any_transaction.reading.seen t)
+pub transaction_written : (t : KnownOrOther Transaction) (d : List ℕ) → d ≡ keccak256 (bytes_alone (any_transaction.item t)) → d ≡ transaction_hash (any_transaction.reading.seen t)
 unfolding transaction_hash
 transaction_written t d is = is ∙ ap (λ x. keccak256 (bytes_alone x)) (sym (any_transaction.reads_strictly.told.written t))
 

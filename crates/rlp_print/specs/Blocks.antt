@@ -3,7 +3,7 @@ use Rattle.std.specs.Prelude.{codes, ℕ, List, length, map}
 use Rattle.keccak.specs.Keccak.{keccak256}
 use Rattle.rlp_headers.specs.{Header.header, declared.header.Header.Header}
 use Rattle.rlp_headers.specs.Forks.{amsterdam_fields, cancun_fields, london_fields, prague_fields, shanghai_fields}
-use Rattle.rlp_ethereum.specs.{Block.block, Body.body}
+use Rattle.rlp_blocks.specs.{Block.block, Body.body}
 use Rattle.rlp_print.specs.Display.{Display, Fields, a_list, a_number, a_string, after_derived, an_object, bytes_as, derived, end, field, if_there, in_forms, in_order, one, one_if, same, through}
 use Rattle.rlp_print.specs.{Records.hash_entries, Records.withdrawal_display, Records.written, Transactions.any_transaction_display}
 use Rattle.rlp_print.specs.declared.sink.BytesKind.TheVariants.{Sparse}

@@ -1,9 +1,9 @@
 -- What is shown of messages of `p2p` and `eth`.
 use Rattle.std.specs.Prelude.{ℕ, List, [], ◌∷◌, codes, Option, Some, None, ◌≡◌}
 use Rattle.std.proofs.Common.{inl, inr}
-use Rattle.rlp_p2p.specs.{Disconnect.disconnect, Hello.capability, Hello.further_fields, Hello.hello}
-use Rattle.rlp_eth.specs.Announcements.{block_range_update, new_block, new_block_hash, new_pooled_transaction_hashes}
-use Rattle.rlp_eth.specs.{HashOrNumber.hash_or_number, Receipts69.receipt69, Requests.get_block_headers, Status.fork_id, Status.status68, Status.status69}
+use Rattle.rlp_messages.specs.P2p.{Disconnect.disconnect, Hello.capability, Hello.further_fields, Hello.hello}
+use Rattle.rlp_messages.specs.Eth.Announcements.{block_range_update, new_block, new_block_hash, new_pooled_transaction_hashes}
+use Rattle.rlp_messages.specs.Eth.{HashOrNumber.hash_or_number, Receipts69.receipt69, Requests.get_block_headers, Status.fork_id, Status.status68, Status.status69}
 use Rattle.rlp_print.specs.Display.{Display, Fields, a_bit, a_content, a_list, a_number, a_string, an_object, bytes_as, end, field, in_order, one, one_if, same, through}
 use Rattle.rlp_print.specs.Value.{Content, bytes, number}
 use Rattle.rlp_print.specs.{Records.log_display, Records.status_fields, Blocks.block_display, Items.raw_item_display}

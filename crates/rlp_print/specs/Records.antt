@@ -3,7 +3,7 @@ use Rattle.std.specs.Prelude.{codes, refl, ℕ, Bool, true, false, List, drop, �
 use Rattle.std.proofs.Common.{inl, inr, sym, ap, ◌∙◌}
 use Rattle.rlp.specs.{Form.Reading, Format.Encoding.encoding}
 use Rattle.rlp_records.specs.OtherEnvelope.{other_type}
-use Rattle.rlp_headers.specs.{Account.account, AnyReceipt.any_receipt, Log.log, Receipt.receipt_fields, ReceiptStatus.receipt_status, TypedReceipt.typed_receipt, Withdrawal.withdrawal}
+use Rattle.rlp_headers.specs.{Account.account, Log.log, Receipt.receipt_fields, ReceiptStatus.receipt_status, TypedReceipt.any_receipt, TypedReceipt.typed_receipt, Withdrawal.withdrawal}
 use Rattle.rlp_print.specs.Display.{Display, Fields, a_bit, a_list, a_number, a_string, a_text, a_type, after_derived, an_object, and_type, bytes_as, either, end, field, field_if, in_order, last_type, no_type_entries, number_as, of_type, one, same, through}
 use Rattle.rlp_print.specs.Value.{Entries, both, bytes, content, entry, by_form}
 use Rattle.rlp_print.specs.declared.{sink.NumberKind.TheVariants.Place, sink.BytesKind.TheVariants.Any, sink.BytesKind.TheVariants.Payload, sink.BytesKind.TheVariants.Sparse}

@@ -6,9 +6,9 @@ use Rattle.rlp.specs.{Format.Encoding.encoding, Format.Encoding.list_of, Form.Fi
 use Rattle.rlp_records.specs.Alone.{bytes_alone}
 use Rattle.rlp_transactions.specs.{declared.eip155.Eip155.Eip155, Eip155.said_by, NonZeroScalar.scalar_value, UnsignedTransaction.unsigned_transaction}
 use Rattle.rlp_transactions.specs.declared.signed.Signed.{Signed}
-use Rattle.rlp_transactions.specs.{Access.access_list, Access.access_list_item, AccessListTransaction.access_list_transaction_fields, AnyTransaction.any_transaction, Authorization.authorization_fields}
+use Rattle.rlp_transactions.specs.{Access.access_list, Access.access_list_item, AccessListTransaction.access_list_transaction_fields, Authorization.authorization_fields}
 use Rattle.rlp_transactions.specs.{Authorization.signed_authorization, BlobTransaction.blob_transaction_fields, BlobTransaction.signed_blob_transaction, Recipient.recipient}
-use Rattle.rlp_transactions.specs.{BlobWrapper.with_cell_proofs, BlobWrapper.with_proofs, FeeMarketTransaction.fee_market_transaction_fields, Transaction.transaction}
+use Rattle.rlp_transactions.specs.{BlobWrapper.with_cell_proofs, BlobWrapper.with_proofs, FeeMarketTransaction.fee_market_transaction_fields, Transaction.any_transaction, Transaction.transaction}
 use Rattle.rlp_transactions.specs.{LegacyTransaction.legacy_transaction_fields, LegacyTransaction.signed_legacy_transaction}
 use Rattle.rlp_transactions.specs.{PooledBlobTransaction.pooled_blob_transaction, PooledTransaction.pooled_transaction, PooledTransaction.seen_consensus}
 use Rattle.rlp_transactions.specs.{SetCodeTransaction.set_code_transaction_fields, UnsignedLegacyTransaction.chain_fields, UnsignedLegacyTransaction.unsigned_legacy_transaction}

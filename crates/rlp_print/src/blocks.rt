@@ -3,14 +3,14 @@
 ghost use Rattle.std.specs.Prelude.{◌≡◌, IfOk, map};
 ghost use Rattle.rlp_headers.specs.Forks.{amsterdam_fields, cancun_fields, london_fields, prague_fields, shanghai_fields};
 ghost use Rattle.rlp_headers.specs.Header.{header};
-ghost use Rattle.rlp_ethereum.specs.{Block.block, Body.body};
+ghost use Rattle.rlp_blocks.specs.{Block.block, Body.body};
 ghost use Rattle.rlp_print.specs.Blocks.{amsterdam_display, block_display, block_size, body_fields_display, cancun_display, hashed_header_display, header_display, london_display, more_of_block, prague_display, seen_hash, shanghai_display};
 ghost use Rattle.rlp_print.specs.Display.{an_object, seen_as};
 
 use crate::records::{hash_of, written};
 use crate::show::{ByForm, Items, Object, Show, ShowFields, fields, give_fields, show_fields};
 use crate::sink::{BytesKind, Shown, Sink};
-use rlp_ethereum::{Block, Body};
+use rlp_blocks::{Block, Body};
 use rlp_headers::{Amsterdam, Cancun, Header, London, Prague, Shanghai};
 use std::alloc::{AllocError, Global};
 

@@ -1,21 +1,20 @@
 //! Messages between clients: bodies of messages of `eth`, and messages of `p2p`.
 
 ghost use Rattle.std.specs.{Prelude.map, Vec.vec_items};
-ghost use Rattle.rlp_p2p.specs.{Disconnect.disconnect, Hello.capability, Hello.further_fields, Hello.hello};
-ghost use Rattle.rlp_eth.specs.Announcements.{block_range_update, new_block, new_block_hash, new_pooled_transaction_hashes};
-ghost use Rattle.rlp_eth.specs.{HashOrNumber.hash_or_number, Receipts.block_receipts, Receipts69.block_receipts69, Receipts69.receipt69, Requests.get_block_headers, Status.fork_id, Status.status68, Status.status69};
+ghost use Rattle.rlp_messages.specs.P2p.{Disconnect.disconnect, Hello.capability, Hello.further_fields, Hello.hello};
+ghost use Rattle.rlp_messages.specs.Eth.Announcements.{block_range_update, new_block, new_block_hash, new_pooled_transaction_hashes};
+ghost use Rattle.rlp_messages.specs.Eth.{HashOrNumber.hash_or_number, Receipts.block_receipts, Receipts69.block_receipts69, Receipts69.receipt69, Requests.get_block_headers, Status.fork_id, Status.status68, Status.status69};
 ghost use Rattle.rlp_print.specs.Display.{a_list, an_object, end, seen_as};
 ghost use Rattle.rlp_print.specs.Records.{any_receipt_display};
 ghost use Rattle.rlp_print.specs.Messages as shown;
 
 use crate::show::{Items, Object, Show, ShowFields, give_fields, show_fields};
 use crate::sink::{BytesKind, Shown, Sink, bytes, number};
-use rlp_eth::{
-    BlockRangeUpdate, BlockReceipts, BlockReceipts69, ForkId, GetBlockHeaders, HashOrNumber,
-    NewBlock, NewBlockHash, NewPooledTransactionHashes, Receipt69, Status68, Status69,
-    WithRequestId,
+use rlp_messages::{
+    BlockRangeUpdate, BlockReceipts, BlockReceipts69, Capability, Disconnect, ForkId, FurtherItem,
+    GetBlockHeaders, HashOrNumber, Hello, NewBlock, NewBlockHash, NewPooledTransactionHashes, Ping,
+    Pong, Receipt69, Status68, Status69, WithRequestId,
 };
-use rlp_p2p::{Capability, Disconnect, FurtherItem, Hello, Ping, Pong};
 use std::alloc::{AllocError, Global};
 
 impl Show for ForkId {

@@ -3,7 +3,7 @@
 ghost use Rattle.std.specs.{Prelude.◌≡◌, Prelude.IfOk, Vec.vec_items};
 ghost use Rattle.keccak.specs.Keccak.{keccak256};
 ghost use Rattle.rlp.specs.Codec.{uint};
-ghost use Rattle.rlp_headers.specs.{Account.account, AnyReceipt.any_receipt, Log.log, Receipt.receipt, ReceiptStatus.receipt_status, TypedReceipt.typed_receipt, Withdrawal.withdrawal, Withdrawal.withdrawals};
+ghost use Rattle.rlp_headers.specs.{Account.account, Log.log, Receipt.receipt, ReceiptStatus.receipt_status, TypedReceipt.any_receipt, TypedReceipt.typed_receipt, Withdrawal.withdrawal, Withdrawal.withdrawals};
 ghost use Rattle.rlp_print.specs.Display.{a_list, a_number, a_string, seen_as};
 ghost use Rattle.rlp_print.specs.Records.{account_display, any_receipt_display, fault_display, log_display, receipt_display, status_fields, typed_receipt_display, withdrawal_display, written};
 

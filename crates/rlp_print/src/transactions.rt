@@ -2,9 +2,9 @@
 //! blobs.
 
 ghost use Rattle.std.specs.Prelude.{◌≡◌, IfOk};
-ghost use Rattle.rlp_transactions.specs.{Access.access_list_item, AccessListTransaction.access_list_transaction_fields, AnyTransaction.any_transaction, Authorization.authorization_fields};
+ghost use Rattle.rlp_transactions.specs.{Access.access_list_item, AccessListTransaction.access_list_transaction_fields, Authorization.authorization_fields};
 ghost use Rattle.rlp_transactions.specs.{Authorization.signed_authorization, Blob.blob, BlobTransaction.blob_transaction_fields, BlobTransaction.signed_blob_transaction, Recipient.recipient};
-ghost use Rattle.rlp_transactions.specs.{BlobWrapper.with_cell_proofs, BlobWrapper.with_proofs, FeeMarketTransaction.fee_market_transaction_fields, Transaction.transaction};
+ghost use Rattle.rlp_transactions.specs.{BlobWrapper.with_cell_proofs, BlobWrapper.with_proofs, FeeMarketTransaction.fee_market_transaction_fields, Transaction.any_transaction, Transaction.transaction};
 ghost use Rattle.rlp_transactions.specs.{LegacyTransaction.legacy_transaction_fields, LegacyTransaction.signed_legacy_transaction, SetCodeTransaction.set_code_transaction_fields};
 ghost use Rattle.rlp_transactions.specs.{PooledBlobTransaction.pooled_blob_transaction, PooledTransaction.pooled_transaction};
 ghost use Rattle.rlp_transactions.specs.{UnsignedLegacyTransaction.unsigned_legacy_transaction, UnsignedTransaction.unsigned_transaction};

@@ -13,7 +13,7 @@ use Rattle.rlp_codec.proofs.SumLaws.{envelope_strings, sums_fit, sums_written}
 use Rattle.rlp_records.specs.Alone.{bytes_alone, read_alone}
 
 -- a list by itself is its encoding
-list_alone : (x : Item) → is_list x ≡ true → bytes_alone x ≡ encoding x
+pub list_alone : (x : Item) → is_list x ≡ true → bytes_alone x ≡ encoding x
 list_alone (string d) kind = cc
 list_alone (list xs) kind = refl
 

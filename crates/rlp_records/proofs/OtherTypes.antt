@@ -12,7 +12,11 @@ use Rattle.rlp_codec.proofs.SumLaws.{sums_fit}
 use Rattle.rlp_records.proofs.Alone.{list_alone_begins}
 use Rattle.rlp_records.specs.Alone.{bytes_alone}
 use Rattle.rlp_records.specs.OtherEnvelope.{is_other, is_other_type}
-use Rattle.rlp_records.specs.OtherStrings.{string_or}
+use Rattle.rlp_records.specs.OtherStrings.{is_known, string_or}
+use Rattle.rlp_records.specs.Eip2718.{TypedSum, typed, typed_alone}
+use Rattle.rlp_records.specs.KnownOrOther.{any_alone, value_or_bytes, with_others}
+use Rattle.rlp_records.proofs.Bytes.{strings_held}
+use Rattle.rlp_records.proofs.TypedSums.{typed_strings}
 
 -- a list isn't the bytes of another type
 pub list_known : (d : List ℕ) → begins_as_list d ≡ true → is_other d ≡ false
@@ -73,3 +77,11 @@ module _ {A M : Type 0} (is : List ℕ → Bool) (Fits : A → Type 0) (item : A
     fits = sums_fit seen (λ d. d) Fits (λ d. IsTrue (is d)) law.fits (λ d e same. subst (λ d. IsTrue (is d)) same);
     same = written_by;
   }
+
+-- values of every type, by themselves
+pub any_strings : {A : Type 0} (t : TypedSum A) → ReadsStrings (with_others t).Fits (λ x. bytes_alone ((with_others t).item x)) (with_others t).reading.seen
+    (λ m. bytes_alone ((with_others t).reading.item m)) (λ d. (any_alone t d).result)
+any_strings t =
+    strings_held value_or_bytes _ _ _ _ _
+    (or_strings is_other (typed t).Fits (typed t).item (typed t).reading.seen (typed t).reading.item (typed_alone t) (typed_strings t)
+    (λ x. known_bytes t.legacy.item t.numbered.cases t.lists (λ y. is_known (t.numbered.cases.tag y) (t.known y)) (t.as_sum x)))

@@ -1,8 +1,10 @@
 pub mod Address
 pub mod Alone
 pub mod Bounded
+pub mod Eip2718
 pub mod Envelope
 pub mod Hash
 pub mod Hashing
+pub mod KnownOrOther
 pub mod OtherEnvelope
 pub mod OtherStrings

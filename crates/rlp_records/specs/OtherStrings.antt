@@ -1,6 +1,6 @@
 -- Values of a type beside strings that are none of the items of the type.
 use Rattle.std.proofs.Common.{◌≡◌, ℕ, ◌^◌, ◌<◌, ◌⊎◌, inl, inr, Bool, true, false, IsTrue, if◌then◌else◌, List, [], ◌∷◌, length, refl, sym, ap, ◌∙◌, subst}
-use Rattle.std.proofs.Common.{leb-true, Result, Ok, Err}
+use Rattle.std.proofs.Common.{arith, le-ltb, leb-true, lt-ltb, ltb, Result, Ok, Err}
 use Rattle.std.proofs.lemmas.Bool.{cond-true, cond-false}
 use Rattle.rlp.specs.Codec.{Codec, lawful, plain}
 use Rattle.rlp.specs.DecoderError.{DecoderError}
@@ -17,7 +17,7 @@ use Rattle.rlp_codec.specs.Form.{Answer, Fault, Form, here, map_answer, map_valu
 use Rattle.rlp_codec.specs.Laws.{GivesOnly, IsLawful, viewed}
 use Rattle.rlp_codec.specs.Sums.{CasesForm, envelope, sum_map}
 use Rattle.rlp_codec.proofs.SumLaws.{sums_fit, sums_written}
-use Rattle.rlp_records.specs.OtherEnvelope.{IsOther, is_other, is_other_type}
+use Rattle.rlp_records.specs.OtherEnvelope.{IsOther, authorization_magic, is_other, is_other_type}
 
 -- What a view gives whose string is r: the string if it is one that `is` tells, and else what the type gives.
 abbrev pub string_or : {M : Type 0} → (List ℕ → Bool) → Answer M Fault → Result (List ℕ) Fault → Answer (M ⊎ List ℕ) Fault
@@ -112,6 +112,13 @@ module _ {A : Type 0} (c : Form A) (is : List ℕ → Bool) (apart : (x : A) (d 
   }
 
 -- ---- envelopes of types that aren't known
+
+-- the number of a type that is known isn't the number of another type
+pub is_known : (kind : ℕ) → kind < authorization_magic → is_other_type kind ≡ false
+is_known kind small =
+    let high : ltb authorization_magic kind ≡ false = le-ltb authorization_magic kind (omega (arith, small)) in
+    let low : ltb kind 0x80 ≡ true = lt-ltb kind 0x80 (omega (arith, small)) in
+    cc
 
 -- No value of a type that is known is written as the string of another type: it is a list, or the string of the envelope of a type that isn't another.
 pub known_apart : {A B : Type 0} (item : A → Item) (cases : CasesForm B) → ((x : A) → is_list (item x) ≡ true) → ((y : B) → is_other_type (cases.tag y) ≡ false)

@@ -3,16 +3,19 @@
 
 mod address;
 mod bounded;
+mod eip2718;
 mod envelope;
 mod envelope_items;
 mod enveloped;
 mod hash;
 mod hashing;
+mod known_or_other;
 pub mod laws;
 mod other_envelope;
 
 pub use address::Address;
 pub use bounded::decode_at_most;
+pub use eip2718::Eip2718;
 pub use envelope::{
     ACCESS_LIST_TYPE, AUTHORIZATION_MAGIC, BLOB_TYPE, DEPOSIT_TYPE, FEE_MARKET_TYPE, SET_CODE_TYPE,
     from_envelope, to_envelope, typed_list,
@@ -20,4 +23,5 @@ pub use envelope::{
 pub use enveloped::Enveloped;
 pub use hash::Hash;
 pub use hashing::encoding_hash;
+pub use known_or_other::KnownOrOther;
 pub use other_envelope::OtherEnvelope;

@@ -16,13 +16,11 @@ use Rattle.rlp_records.specs.Alone.{read_alone}
 use Rattle.rlp_records.specs.OtherEnvelope.{is_other}
 use Rattle.rlp_records.specs.OtherStrings.{kept_alone, string_or}
 use Rattle.rlp_records.proofs.OtherTypes.{list_known}
-use Rattle.rlp_headers.specs.AnyReceipt.{any_receipt, any_receipt_alone}
-use Rattle.rlp_headers.specs.TypedReceipt.{receipt_alone, typed_receipt, typed_receipts}
-use Rattle.rlp_headers.specs.Receipt.{receipt}
-use Rattle.rlp_transactions.specs.AnyTransaction.{any_alone, any_transaction}
-use Rattle.rlp_transactions.specs.LegacyTransaction.{signed_legacy_transaction}
-use Rattle.rlp_transactions.specs.Transaction.{transaction, transaction_alone, typed_transactions}
-use Rattle.rlp_transactions.specs.UnsignedTransaction.{unsigned_alone}
+use Rattle.rlp_records.specs.Eip2718.{TypedSum, typed, typed_alone}
+use Rattle.rlp_records.specs.KnownOrOther.{any_alone, with_others}
+use Rattle.rlp_headers.specs.TypedReceipt.{any_receipt, receipt_types}
+use Rattle.rlp_transactions.specs.Transaction.{any_transaction, transaction_types}
+use Rattle.rlp_transactions.specs.UnsignedTransaction.{unsigned_types}
 use Rattle.rlp_print.specs.Records.{any_receipt_display}
 use Rattle.rlp_print.specs.Transactions.{any_transaction_display}
 use Rattle.rlp_show.specs.Shown.{item_alone, receipt_shown, transaction_shown, unsigned_or, signed_shown}
@@ -81,27 +79,23 @@ module _ {M : Type 0} (read : View → Answer M Fault) (alone : List ℕ → Ans
       → string_or is_other (read (strict_view_of (item_alone b))) (string_of (strict_view_of (item_alone b))) ≡ kept_alone alone b
   kept_read b short = ap (λ a. string_or is_other a (string_of (strict_view_of (item_alone b)))) (same b short) ∙ kept_by b (begins_as_list b) refl short
 
-pub receipt_read : (b : List ℕ) → length (item_alone b) < 2 ^ 64 → any_receipt.reading.read (strict_view_of (item_alone b)) ≡ any_receipt_alone b
-receipt_read =
-    kept_read typed_receipt.reading.read receipt_alone
-    (λ b short. sym (either_alone receipt.reading.read typed_receipts.cases.read b (begins_as_list b) refl short))
+pub any_read : {A : Type 0} (t : TypedSum A) (b : List ℕ) → length (item_alone b) < 2 ^ 64
+    → (with_others t).reading.read (strict_view_of (item_alone b)) ≡ any_alone t b
+any_read t =
+    kept_read (typed t).reading.read (typed_alone t)
+    (λ b short. sym (either_alone t.legacy.reading.read t.numbered.cases.read b (begins_as_list b) refl short))
 
-pub any_read : (b : List ℕ) → length (item_alone b) < 2 ^ 64 → any_transaction.reading.read (strict_view_of (item_alone b)) ≡ any_alone b
-any_read =
-    kept_read transaction.reading.read transaction_alone
-    (λ b short. sym (either_alone signed_legacy_transaction.reading.read typed_transactions.cases.read b (begins_as_list b) refl short))
-
-pub unsigned_faulty : (b : List ℕ) (e : Fault) → (unsigned_alone b).result ≡ Err e → transaction_shown b ≡ signed_shown b
+pub unsigned_faulty : (b : List ℕ) (e : Fault) → (typed_alone unsigned_types b).result ≡ Err e → transaction_shown b ≡ signed_shown b
 unsigned_faulty b e is = ap (unsigned_or (signed_shown b)) is
 
 -- bytes that no transaction has that isn't signed, as the function that reads them says
-pub signed_given : (b : List ℕ) (e : DecoderError) (P : Type 0) → ((unsigned_alone b).result ≡ Err (fault_of e)) ⊎ ((e ≡ OutOfMemory) × P) → e ≢ OutOfMemory
+pub signed_given : (b : List ℕ) (e : DecoderError) (P : Type 0) → ((typed_alone unsigned_types b).result ≡ Err (fault_of e)) ⊎ ((e ≡ OutOfMemory) × P) → e ≢ OutOfMemory
     → length (item_alone b) < 2 ^ 64
     → map_answer any_transaction_display.shown (any_transaction.reading.read (strict_view_of (item_alone b))) ≡ transaction_shown b
 signed_given b e P (inl is) other short =
-    ap (map_answer any_transaction_display.shown) (any_read b short) ∙ sym (unsigned_faulty b (fault_of e) is)
+    ap (map_answer any_transaction_display.shown) (any_read transaction_types b short) ∙ sym (unsigned_faulty b (fault_of e) is)
 signed_given b e P (inr full) other short = absurd (other full.0)
 
 pub receipt_given : (b : List ℕ) → length (item_alone b) < 2 ^ 64
     → map_answer any_receipt_display.shown (any_receipt.reading.read (strict_view_of (item_alone b))) ≡ receipt_shown b
-receipt_given b short = ap (map_answer any_receipt_display.shown) (receipt_read b short)
+receipt_given b short = ap (map_answer any_receipt_display.shown) (any_read receipt_types b short)

@@ -4,16 +4,17 @@ use Rattle.rlp.specs.Codec.{Codec}
 use Rattle.rlp.specs.Format.{Encoding.encoding, Encoding.string, Framing.begins_as_list}
 use Rattle.rlp.specs.Views.View.{View, strict_view_of}
 use Rattle.rlp_codec.specs.Form.{Answer, Fault, Reading, here, map_answer}
-use Rattle.rlp_headers.specs.{Account.account, AnyReceipt.any_receipt_alone, Header.header, Withdrawal.withdrawal}
-use Rattle.rlp_transactions.specs.{Access.access_list, AnyTransaction.any_alone, Authorization.signed_authorization, UnsignedTransaction.unsigned_alone}
-use Rattle.rlp_transactions.specs.UnsignedTransaction.{unsigned_transaction}
+use Rattle.rlp_headers.specs.{Account.account, Header.header, TypedReceipt.receipt_types, Withdrawal.withdrawal}
+use Rattle.rlp_transactions.specs.{Access.access_list, Authorization.signed_authorization, Transaction.transaction_types}
+use Rattle.rlp_transactions.specs.UnsignedTransaction.{unsigned_transaction, unsigned_types}
+use Rattle.rlp_records.specs.{Eip2718.typed_alone, KnownOrOther.any_alone}
 use Rattle.rlp_trie.specs.TrieNodeLaws.{trie_node}
 use Rattle.rlp_node_record.specs.NodeLaws.{node_record}
-use Rattle.rlp_ethereum.specs.{Block.block, Body.body}
-use Rattle.rlp_p2p.specs.{Disconnect.disconnect, Hello.hello, Session.ping, Session.pong}
-use Rattle.rlp_eth.specs.Announcements.{block_range_update, new_block, new_block_hashes, new_pooled_transaction_hashes, transactions}
-use Rattle.rlp_eth.specs.Requests.{block_bodies, block_headers, get_block_bodies, get_block_headers, get_pooled_transactions, get_receipts, pooled_transactions}
-use Rattle.rlp_eth.specs.{Receipts.receipts, Receipts69.receipts69, Status.status68, Status.status69, WithRequestId.with_request_id_reading}
+use Rattle.rlp_blocks.specs.{Block.block, Body.body}
+use Rattle.rlp_messages.specs.P2p.{Disconnect.disconnect, Hello.hello, Session.ping, Session.pong}
+use Rattle.rlp_messages.specs.Eth.Announcements.{block_range_update, new_block, new_block_hashes, new_pooled_transaction_hashes, transactions}
+use Rattle.rlp_messages.specs.Eth.Requests.{block_bodies, block_headers, get_block_bodies, get_block_headers, get_pooled_transactions, get_receipts, pooled_transactions}
+use Rattle.rlp_messages.specs.Eth.{Receipts.receipts, Receipts69.receipts69, Status.status68, Status.status69, WithRequestId.with_request_id_reading}
 use Rattle.rlp_print.specs.Value.{Value, both, entry, object}
 use Rattle.rlp_print.specs.Display.{Display, a_list, a_number, a_string, an_object, end}
 use Rattle.rlp_print.specs.Records.{account_display, any_receipt_display, withdrawal_display}
@@ -62,13 +63,13 @@ unsigned_or other (Err e) = other
 
 -- what bytes give that are no transaction that isn't signed
 abbrev pub signed_shown : List ℕ → Shown
-signed_shown b = map_answer any_transaction_display.shown (any_alone b)
+signed_shown b = map_answer any_transaction_display.shown (any_alone transaction_types b)
 
 abbrev pub transaction_shown : List ℕ → Shown
-transaction_shown b = unsigned_or (signed_shown b) (unsigned_alone b).result
+transaction_shown b = unsigned_or (signed_shown b) (typed_alone unsigned_types b).result
 
 abbrev pub receipt_shown : List ℕ → Shown
-receipt_shown b = map_answer any_receipt_display.shown (any_receipt_alone b)
+receipt_shown b = map_answer any_receipt_display.shown (any_alone receipt_types b)
 
 -- what the bytes of a message give
 abbrev pub message_shown : MessageKind → List ℕ → Shown

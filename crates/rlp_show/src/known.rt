@@ -15,16 +15,19 @@ use crate::kind::Kind;
 use crate::listed::ListOf;
 use crate::messages::MessageKind;
 use rlp::{DecodePlaced, DecoderError, Rlp, decode_placed};
-use rlp_eth::{
-    BlockRangeUpdate, BlockReceipts, BlockReceipts69, GetBlockHeaders, NewBlock, NewBlockHash,
-    NewPooledTransactionHashes, Status68, Status69, WithRequestId,
+use rlp_blocks::{Block, Body};
+use rlp_headers::{Account, AnyReceipt, Header, Withdrawal};
+use rlp_messages::{
+    BlockRangeUpdate, BlockReceipts, BlockReceipts69, Disconnect, GetBlockHeaders, Hello, NewBlock,
+    NewBlockHash, NewPooledTransactionHashes, Ping, Pong, Status68, Status69, WithRequestId,
 };
-use rlp_ethereum::{
-    AccessListItem, Account, AnyReceipt, AnyTransaction, Block, Body, Hash, Header, NodeRecord,
-    PooledTransaction, SignedAuthorization, TrieNode, UnsignedTransaction, Withdrawal,
-};
-use rlp_p2p::{Disconnect, Hello, Ping, Pong};
+use rlp_node_record::NodeRecord;
 use rlp_print::Show;
+use rlp_records::{Eip2718, Hash};
+use rlp_transactions::{
+    AccessListItem, AnyTransaction, PooledTransaction, SignedAuthorization, UnsignedTransaction,
+};
+use rlp_trie::TrieNode;
 use std::alloc::{AllocError, Global};
 
 /// Appends the answer to bytes, by the `T` that these bytes are read as.

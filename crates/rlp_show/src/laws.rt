@@ -6,12 +6,14 @@ ghost use Rattle.std.specs.Str.Lines.{strip_carriage_return};
 ghost use Rattle.rlp.specs.Format.Encoding.{IsSized, encoding};
 ghost use Rattle.rlp_codec.specs.Form.{Fault};
 ghost use Rattle.rlp_lines.specs.Digits.{bytes_in};
-ghost use Rattle.rlp_headers.specs.AnyReceipt.{any_receipt};
-ghost use Rattle.rlp_headers.specs.declared.any_receipt.AnyReceipt.{AnyReceipt};
+ghost use Rattle.rlp_headers.specs.TypedReceipt.{any_receipt};
+ghost use Rattle.rlp_headers.specs.declared.typed_receipt.TypedReceipt.{TypedReceipt};
 ghost use Rattle.rlp_records.specs.Alone.{bytes_alone};
-ghost use Rattle.rlp_transactions.specs.AnyTransaction.{any_transaction};
-ghost use Rattle.rlp_transactions.specs.UnsignedTransaction.{unsigned_alone, unsigned_transaction};
-ghost use Rattle.rlp_transactions.specs.declared.any_transaction.AnyTransaction.{AnyTransaction};
+ghost use Rattle.rlp_records.specs.Eip2718.{typed_alone};
+ghost use Rattle.rlp_records.specs.declared.known_or_other.KnownOrOther.{KnownOrOther};
+ghost use Rattle.rlp_transactions.specs.Transaction.{any_transaction};
+ghost use Rattle.rlp_transactions.specs.UnsignedTransaction.{unsigned_transaction, unsigned_types};
+ghost use Rattle.rlp_transactions.specs.declared.transaction.Transaction.{Transaction};
 ghost use Rattle.rlp_transactions.specs.declared.unsigned_transaction.UnsignedTransaction.{UnsignedTransaction};
 ghost use Rattle.rlp_trie.specs.TrieNode.{IsTrieNode, node_item, seen_node};
 ghost use Rattle.rlp_trie.specs.TrieNodeLaws.{trie_node};
@@ -63,20 +65,20 @@ pub fn only_encodings_are_shown<T: StrictRead>(line: &[u8])
         × IsAnswered kind line.now bytes v }
 {}
 
-/// If the digits of a line are the bytes of a transaction by itself, as `AnyTransaction::to_bytes` of
-/// `rlp_ethereum` returns them, and no transaction that isn't signed has these bytes, the answer is
+/// If the digits of a line are the bytes of a transaction by itself, as `to_bytes` of `AnyTransaction` of
+/// `rlp_transactions` returns them, and no transaction that isn't signed has these bytes, the answer is
 /// what is shown of the transaction.
 pub fn transactions_are_shown(line: &[u8])
-    ensures { (t : AnyTransaction) (e : Fault) → any_transaction.Fits t
+    ensures { (t : KnownOrOther Transaction) (e : Fault) → any_transaction.Fits t
         → length (bytes_alone (any_transaction.item t)) < 2 ^ 64
-        → (unsigned_alone (bytes_alone (any_transaction.item t))).result ≡ Err e
+        → (typed_alone unsigned_types (bytes_alone (any_transaction.item t))).result ≡ Err e
         → bytes_in (strip_carriage_return line.now) ≡ Some (bytes_alone (any_transaction.item t))
         → IsAnswered kind.Transaction line.now (bytes_alone (any_transaction.item t))
         (any_transaction_display.shown (any_transaction.reading.seen t)) }
 {}
 
 /// If the digits of a line are the bytes of a transaction before it is signed, as
-/// `UnsignedTransaction::to_bytes` of `rlp_ethereum` returns them, the answer is what is shown of the
+/// `UnsignedTransaction::to_bytes` of `rlp_transactions` returns them, the answer is what is shown of the
 /// transaction.
 pub fn unsigned_transactions_are_shown(line: &[u8])
     ensures { (t : UnsignedTransaction) → unsigned_transaction.Fits t
@@ -101,10 +103,10 @@ pub fn only_transactions_are_shown(line: &[u8])
         × IsAnswered kind.Transaction line.now bytes v }
 {}
 
-/// If the digits of a line are the bytes of a receipt by itself, as `AnyReceipt::to_bytes` of
-/// `rlp_ethereum` returns them, the answer is what is shown of the receipt.
+/// If the digits of a line are the bytes of a receipt by itself, as `to_bytes` of `AnyReceipt` of
+/// `rlp_headers` returns them, the answer is what is shown of the receipt.
 pub fn receipts_are_shown(line: &[u8])
-    ensures { (r : AnyReceipt) → any_receipt.Fits r
+    ensures { (r : KnownOrOther TypedReceipt) → any_receipt.Fits r
         → length (bytes_alone (any_receipt.item r)) < 2 ^ 64
         → bytes_in (strip_carriage_return line.now) ≡ Some (bytes_alone (any_receipt.item r))
         → IsAnswered kind.Receipt line.now (bytes_alone (any_receipt.item r))
@@ -123,7 +125,7 @@ pub fn only_receipts_are_shown(line: &[u8])
         × IsAnswered kind.Receipt line.now bytes v }
 {}
 
-/// If the digits of a line are the encoding of a node of the trie, as `TrieNode` of `rlp_ethereum`
+/// If the digits of a line are the encoding of a node of the trie, as `TrieNode` of `rlp_trie`
 /// is written, the answer is its hash and what is shown of its parts. What is shown of a node that is
 /// kept in it needn't be that of a node, since such an item needn't be one.
 pub fn nodes_are_shown(line: &[u8])

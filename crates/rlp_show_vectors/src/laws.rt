@@ -1,11 +1,14 @@
 //! The laws of `rlp_show`, each called once.
 
-use rlp_ethereum::{AccessList, Block, Header, NodeRecord};
+use rlp_blocks::Block;
+use rlp_headers::Header;
+use rlp_node_record::NodeRecord;
 use rlp_show::laws::{
     encodings_are_shown, encodings_are_shown_in_json, nodes_are_shown, only_encodings_are_shown,
     only_nodes_are_shown, only_receipts_are_shown, only_transactions_are_shown, receipts_are_shown,
     transactions_are_shown, unsigned_transactions_are_shown,
 };
+use rlp_transactions::AccessList;
 use std::test::Fail;
 
 #[test]

@@ -1,4 +1,3 @@
 pub mod Parities
 pub mod Pooled
 pub mod Signing
-pub mod Strings

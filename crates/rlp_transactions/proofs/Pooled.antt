@@ -1,9 +1,9 @@
 -- Transactions as they are sent, and as they stand in blocks.
 use Rattle.std.proofs.Common.{◌≡◌, ◌≢◌, refl, sym, ap, ◌∙◌}
 use Rattle.rlp_records.specs.Alone.{bytes_alone}
+use Rattle.rlp_records.specs.Eip2718.{type_of}
 use Rattle.rlp_transactions.specs.PooledTransaction.{consensus_form, pooled_transaction, seen_consensus}
-use Rattle.rlp_transactions.specs.Transaction.{transaction}
-use Rattle.rlp_transactions.specs.TransactionParts.{type_of}
+use Rattle.rlp_transactions.specs.Transaction.{transaction, transaction_types}
 use Rattle.rlp_transactions.specs.declared.pooled_blob_transaction.PooledBlobTransaction.TheVariants.{CellProofs, Proofs}
 use Rattle.rlp_transactions.specs.declared.pooled_transaction.PooledTransaction.{PooledTransaction}
 use Rattle.rlp_transactions.specs.declared.pooled_transaction.PooledTransaction.TheVariants.{AccessList, Blob, FeeMarket, Legacy, SetCode}
@@ -18,7 +18,7 @@ consensus_fits (Blob (CellProofs t)) fit = fit.0
 consensus_fits (SetCode t) fit = fit
 
 -- a transaction of another type than 3 is sent as it stands in a block
-pub consensus_item : (p : PooledTransaction) → type_of (consensus_form p) ≢ 3 → pooled_transaction.item p ≡ transaction.item (consensus_form p)
+pub consensus_item : (p : PooledTransaction) → type_of transaction_types (consensus_form p) ≢ 3 → pooled_transaction.item p ≡ transaction.item (consensus_form p)
 consensus_item (Legacy t) other = refl
 consensus_item (AccessList t) other = refl
 consensus_item (FeeMarket t) other = refl

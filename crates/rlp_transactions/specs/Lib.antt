@@ -1,6 +1,5 @@
 pub mod Access
 pub mod AccessListTransaction
-pub mod AnyTransaction
 pub mod Authorization
 pub mod Blob
 pub mod BlobCheck

@@ -1,10 +1,9 @@
 -- How transactions are written and read as they are sent: transactions of type 3 have their blobs.
-use Rattle.std.specs.Prelude.{Bool, ℕ, List, ◌⊎◌, refl}
+use Rattle.std.specs.Prelude.{Bool, ◌⊎◌, refl}
 use Rattle.std.proofs.Common.{inl, inr}
 use Rattle.rlp.specs.Uint.{Uint}
-use Rattle.rlp.specs.Codec.{Cases, Codec, and_case, enveloped, last_case, list_or_string, newtype}
-use Rattle.rlp_codec.specs.Form.{Answer, Fault}
-use Rattle.rlp_records.specs.Alone.{read_alone, unknown_type}
+use Rattle.rlp.specs.Codec.{Codec}
+use Rattle.rlp_records.specs.Eip2718.{TypedSum, typed, typed_by}
 use Rattle.rlp_transactions.specs.declared.access_list_transaction.AccessListTransaction.{AccessListTransaction}
 use Rattle.rlp_transactions.specs.declared.fee_market_transaction.FeeMarketTransaction.{FeeMarketTransaction}
 use Rattle.rlp_transactions.specs.declared.legacy_transaction.LegacyTransaction.{LegacyTransaction}
@@ -23,15 +22,7 @@ use Rattle.rlp_transactions.specs.PooledBlobTransaction.{pooled_blob_transaction
 use Rattle.rlp_transactions.specs.SetCodeTransaction.{signed_set_code_transaction}
 use Rattle.rlp_transactions.specs.Transaction.{transaction}
 
--- the types of EIP-2718, each with its number; the payload of type 3 is the list with the blobs
-abbrev pub pooled_types : Cases (Signed AccessListTransaction Bool ⊎ (Signed FeeMarketTransaction Bool ⊎ (PooledBlobTransaction ⊎ Signed SetCodeTransaction Bool)))
-pooled_types =
-    and_case 1 signed_access_list_transaction (
-    and_case 2 signed_fee_market_transaction (
-    and_case 3 pooled_blob_transaction (
-    last_case unknown_type 4 signed_set_code_transaction)))
-
--- a transaction of one of these types
+-- a transaction of one of the types
 abbrev pub pooled_sum : PooledTransaction → Signed LegacyTransaction (Uint 32)
     ⊎ (Signed AccessListTransaction Bool ⊎ (Signed FeeMarketTransaction Bool ⊎ (PooledBlobTransaction ⊎ Signed SetCodeTransaction Bool)))
 pooled_sum (Legacy t) = inl t
@@ -40,14 +31,15 @@ pooled_sum (FeeMarket t) = inr (inr (inl t))
 pooled_sum (Blob t) = inr (inr (inr (inl t)))
 pooled_sum (SetCode t) = inr (inr (inr (inr t)))
 
--- a legacy transaction is a list, and a typed one the string of its type and its payload
-abbrev pub pooled_transaction : Codec PooledTransaction
-pooled_transaction = newtype pooled_sum
-    (list_or_string signed_legacy_transaction (enveloped pooled_types) (λ t. refl) (λ t. refl))
+-- a legacy transaction is a list, and a typed one an envelope; the payload of type 3 has the blobs
+abbrev pub pooled_types : TypedSum PooledTransaction
+pooled_types =
+    typed_by pooled_sum signed_legacy_transaction (λ t. refl)
+    signed_access_list_transaction signed_fee_market_transaction pooled_blob_transaction signed_set_code_transaction
 
--- what bytes give by themselves
-abbrev pub pooled_alone : List ℕ → Answer pooled_transaction.reading.M Fault
-pooled_alone d = read_alone signed_legacy_transaction.reading.read pooled_types.cases.read d
+-- how transactions are written and read as they are sent
+abbrev pub pooled_transaction : Codec PooledTransaction
+pooled_transaction = typed pooled_types
 
 -- the transaction as it stands in a block: without blobs
 abbrev pub consensus_form : PooledTransaction → Transaction

@@ -1,10 +1,11 @@
 -- How transactions of every type are written and read.
-use Rattle.std.specs.Prelude.{Bool, ℕ, List, ◌⊎◌, refl}
+use Rattle.std.specs.Prelude.{Bool, ◌⊎◌, refl}
 use Rattle.std.proofs.Common.{inl, inr}
 use Rattle.rlp.specs.Uint.{Uint}
-use Rattle.rlp.specs.Codec.{Cases, Codec, and_case, enveloped, last_case, list_or_string, newtype}
-use Rattle.rlp_codec.specs.Form.{Answer, Fault}
-use Rattle.rlp_records.specs.Alone.{read_alone, unknown_type}
+use Rattle.rlp.specs.Codec.{Codec}
+use Rattle.rlp_records.specs.Eip2718.{TypedSum, typed, typed_by}
+use Rattle.rlp_records.specs.KnownOrOther.{with_others}
+use Rattle.rlp_records.specs.declared.known_or_other.KnownOrOther.{KnownOrOther}
 use Rattle.rlp_transactions.specs.declared.access_list_transaction.AccessListTransaction.{AccessListTransaction}
 use Rattle.rlp_transactions.specs.declared.blob_transaction.BlobTransaction.{BlobTransaction}
 use Rattle.rlp_transactions.specs.declared.fee_market_transaction.FeeMarketTransaction.{FeeMarketTransaction}
@@ -19,15 +20,7 @@ use Rattle.rlp_transactions.specs.FeeMarketTransaction.{signed_fee_market_transa
 use Rattle.rlp_transactions.specs.LegacyTransaction.{signed_legacy_transaction}
 use Rattle.rlp_transactions.specs.SetCodeTransaction.{signed_set_code_transaction}
 
--- the types of EIP-2718, each with its number
-abbrev pub typed_transactions : Cases (Signed AccessListTransaction Bool ⊎ (Signed FeeMarketTransaction Bool ⊎ (Signed BlobTransaction Bool ⊎ Signed SetCodeTransaction Bool)))
-typed_transactions =
-    and_case 1 signed_access_list_transaction (
-    and_case 2 signed_fee_market_transaction (
-    and_case 3 signed_blob_transaction (
-    last_case unknown_type 4 signed_set_code_transaction)))
-
--- a transaction of one of these types
+-- a transaction of one of the types
 abbrev pub as_sum : Transaction → Signed LegacyTransaction (Uint 32)
     ⊎ (Signed AccessListTransaction Bool ⊎ (Signed FeeMarketTransaction Bool ⊎ (Signed BlobTransaction Bool ⊎ Signed SetCodeTransaction Bool)))
 as_sum (Legacy t) = inl t
@@ -36,11 +29,16 @@ as_sum (FeeMarket t) = inr (inr (inl t))
 as_sum (Blob t) = inr (inr (inr (inl t)))
 as_sum (SetCode t) = inr (inr (inr (inr t)))
 
--- a legacy transaction is a list, and a typed one the string of its type and its payload
-abbrev pub transaction : Codec Transaction
-transaction = newtype as_sum
-    (list_or_string signed_legacy_transaction (enveloped typed_transactions) (λ t. refl) (λ t. refl))
+-- a legacy transaction is a list, and a typed one an envelope
+abbrev pub transaction_types : TypedSum Transaction
+transaction_types =
+    typed_by as_sum signed_legacy_transaction (λ t. refl)
+    signed_access_list_transaction signed_fee_market_transaction signed_blob_transaction signed_set_code_transaction
 
--- what bytes give by themselves
-abbrev pub transaction_alone : List ℕ → Answer transaction.reading.M Fault
-transaction_alone d = read_alone signed_legacy_transaction.reading.read typed_transactions.cases.read d
+-- how transactions are written and read
+abbrev pub transaction : Codec Transaction
+transaction = typed transaction_types
+
+-- a transaction of one of the types, or the bytes of a transaction of another type
+abbrev pub any_transaction : Codec (KnownOrOther Transaction)
+any_transaction = with_others transaction_types

@@ -62,14 +62,6 @@ access_list_of (FeeMarket t) = Some t.payload.access_list
 access_list_of (Blob t) = Some t.payload.access_list
 access_list_of (SetCode t) = Some t.payload.access_list
 
--- the number of the type, and 0 without one
-abbrev pub type_of : Transaction → ℕ
-type_of (Legacy t) = 0
-type_of (AccessList t) = 1
-type_of (FeeMarket t) = 2
-type_of (Blob t) = 3
-type_of (SetCode t) = 4
-
 -- the price of gas, if the type has one
 abbrev pub gas_price_of : Transaction → Option (Uint 32)
 gas_price_of (Legacy t) = Some t.payload.gas_price

@@ -1,9 +1,8 @@
 -- How transactions of every type are written and read before they are signed.
-use Rattle.std.specs.Prelude.{ℕ, List, ◌⊎◌, refl}
+use Rattle.std.specs.Prelude.{◌⊎◌, refl}
 use Rattle.std.proofs.Common.{inl, inr}
-use Rattle.rlp.specs.Codec.{Cases, Codec, and_case, enveloped, last_case, list_or_string, newtype, struct_of}
-use Rattle.rlp_codec.specs.Form.{Answer, Fault}
-use Rattle.rlp_records.specs.Alone.{read_alone, unknown_type}
+use Rattle.rlp.specs.Codec.{Codec, struct_of}
+use Rattle.rlp_records.specs.Eip2718.{TypedSum, typed, typed_by}
 use Rattle.rlp_transactions.specs.declared.access_list_transaction.AccessListTransaction.{AccessListTransaction}
 use Rattle.rlp_transactions.specs.declared.blob_transaction.BlobTransaction.{BlobTransaction}
 use Rattle.rlp_transactions.specs.declared.fee_market_transaction.FeeMarketTransaction.{FeeMarketTransaction}
@@ -17,15 +16,7 @@ use Rattle.rlp_transactions.specs.FeeMarketTransaction.{fee_market_transaction_f
 use Rattle.rlp_transactions.specs.UnsignedLegacyTransaction.{unsigned_legacy_transaction}
 use Rattle.rlp_transactions.specs.SetCodeTransaction.{set_code_transaction_fields}
 
--- the types of EIP-2718, each with its number
-abbrev pub unsigned_types : Cases (AccessListTransaction ⊎ (FeeMarketTransaction ⊎ (BlobTransaction ⊎ SetCodeTransaction)))
-unsigned_types =
-    and_case 1 (struct_of access_list_transaction_fields) (
-    and_case 2 (struct_of fee_market_transaction_fields) (
-    and_case 3 (struct_of blob_transaction_fields) (
-    last_case unknown_type 4 (struct_of set_code_transaction_fields))))
-
--- a transaction of one of these types
+-- a transaction of one of the types
 abbrev pub unsigned_sum : UnsignedTransaction → UnsignedLegacyTransaction
     ⊎ (AccessListTransaction ⊎ (FeeMarketTransaction ⊎ (BlobTransaction ⊎ SetCodeTransaction)))
 unsigned_sum (Legacy t) = inl t
@@ -34,11 +25,13 @@ unsigned_sum (FeeMarket t) = inr (inr (inl t))
 unsigned_sum (Blob t) = inr (inr (inr (inl t)))
 unsigned_sum (SetCode t) = inr (inr (inr (inr t)))
 
--- a legacy transaction is a list, and a typed one the string of its type and its payload
-abbrev pub unsigned_transaction : Codec UnsignedTransaction
-unsigned_transaction = newtype unsigned_sum
-    (list_or_string unsigned_legacy_transaction (enveloped unsigned_types) (λ t. refl) (λ t. refl))
+-- a legacy transaction is a list, and a typed one the number of the type and a list
+abbrev pub unsigned_types : TypedSum UnsignedTransaction
+unsigned_types =
+    typed_by unsigned_sum unsigned_legacy_transaction (λ t. refl)
+    (struct_of access_list_transaction_fields) (struct_of fee_market_transaction_fields)
+    (struct_of blob_transaction_fields) (struct_of set_code_transaction_fields)
 
--- what bytes give by themselves
-abbrev pub unsigned_alone : List ℕ → Answer unsigned_transaction.reading.M Fault
-unsigned_alone d = read_alone unsigned_legacy_transaction.reading.read unsigned_types.cases.read d
+-- how transactions are written and read before they are signed
+abbrev pub unsigned_transaction : Codec UnsignedTransaction
+unsigned_transaction = typed unsigned_types

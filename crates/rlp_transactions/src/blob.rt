@@ -44,6 +44,15 @@ impl Blob {
     }
 }
 
+impl Clone for Blob {
+    ghost is_clone = { λ b copy. copy.bytes.items ≡ b.bytes.items };
+
+    fn clone(&self) -> Result<Blob, AllocError> {
+        let bytes = self.bytes.clone()?;
+        Ok(Blob { bytes })
+    }
+}
+
 /// Written as the string of the bytes.
 impl Encodable for Blob {
     ghost use Rattle.rlp_transactions.specs.Blob.{blob};

@@ -18,7 +18,7 @@ use std::alloc::{AllocError, Global};
 ///
 /// Reading doesn't test that the numbers of blobs, commitments and proofs agree:
 /// [`BlobTransactionWithProofs::check_blobs`] does. The proofs aren't tested.
-#[derive(Debug, PartialEq, Eq, Drop)]
+#[derive(Debug, Clone, PartialEq, Eq, Drop)]
 pub struct BlobTransactionWithProofs {
     /// The transaction.
     pub transaction: Signed<BlobTransaction>,
@@ -35,7 +35,7 @@ pub struct BlobTransactionWithProofs {
 ///
 /// Reading doesn't test that the numbers of blobs, commitments and proofs agree:
 /// [`BlobTransactionWithCellProofs::check_blobs`] does. The proofs aren't tested.
-#[derive(Debug, PartialEq, Eq, Drop)]
+#[derive(Debug, Clone, PartialEq, Eq, Drop)]
 pub struct BlobTransactionWithCellProofs {
     /// The transaction.
     pub transaction: Signed<BlobTransaction>,

@@ -11,7 +11,7 @@ use std::alloc::{AllocError, Global};
 
 /// A deposit of the OP stack, a transaction that comes from the chain below: the list of its eight
 /// fields, after the byte `0x7e`. It has no signature.
-#[derive(Debug, PartialEq, Eq, Drop)]
+#[derive(Debug, Clone, PartialEq, Eq, Drop)]
 pub struct DepositTransaction {
     /// The hash that tells deposits apart.
     pub source_hash: Hash,

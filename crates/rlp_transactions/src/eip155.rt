@@ -18,8 +18,8 @@ pub struct Eip155 {
 
 impl Eip155 {
     /// Returns what `v` says: nothing about a chain for 27 and 28, and the number of the chain for twice
-    /// this number plus 35 or 36. Returns `None` for other numbers and for chains of more than 64
-    /// bits.
+    /// this number plus 35 or 36. Returns `None` for other numbers, which are 0 to 26 and 29 to 34, and
+    /// for chains of more than 64 bits.
     #[tactic(auto, using(crate::proofs::Parities::v_says))]
     pub fn from_v(v: &Uint<32>) -> Option<Eip155>
         ensures says { result ≡ said_by (number_from_digits 256 v.now.bytes) }

@@ -9,7 +9,7 @@ ghost use Rattle.rlp_transactions.specs.UnsignedTransaction.{unsigned_transactio
 
 use crate::{Tagged, Transaction, UnsignedTransaction};
 use keccak::keccak256;
-use rlp_records::Hash;
+use rlp_records::{Eip2718, Hash};
 use std::alloc::{AllocError, Global};
 
 /// Returns the hash that is signed: that of [`Tagged::signing_payload`]. Fails as it does.
@@ -23,7 +23,7 @@ pub fn signing_hash<T: Tagged>(alloc: Global, payload: &T) -> Result<Hash, Alloc
 }
 
 impl Transaction {
-    /// Returns the hash that names the transaction: that of [`Transaction::to_bytes`]. Fails as it
+    /// Returns the hash that names the transaction: that of [`Eip2718::to_bytes`]. Fails as it
     /// does.
     pub fn hash(&self, alloc: Global) -> Result<Hash, AllocError>
         ensures fits { OnOk result (transaction.Fits self.now) }
@@ -35,7 +35,7 @@ impl Transaction {
 }
 
 impl UnsignedTransaction {
-    /// Returns the hash that is signed: that of [`UnsignedTransaction::to_bytes`]. Fails as it does.
+    /// Returns the hash that is signed: that of [`Eip2718::to_bytes`]. Fails as it does.
     pub fn signing_hash(&self, alloc: Global) -> Result<Hash, AllocError>
         ensures fits { OnOk result (unsigned_transaction.Fits self.now) }
         ensures hash { IfOk result

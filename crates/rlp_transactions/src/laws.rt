@@ -2,11 +2,10 @@
 
 ghost use Rattle.std.specs.Prelude.{◌≡◌, ◌≢◌, ◌<◌, ◌^◌, IfOk, length};
 ghost use Rattle.rlp_records.specs.Alone.{bytes_alone};
+ghost use Rattle.rlp_records.specs.Eip2718.{type_of};
 ghost use Rattle.rlp_transactions.specs.Signing.{FitsSigning, HaveOneMeaning, Signable, signed_bytes};
-ghost use Rattle.rlp_transactions.specs.AnyTransaction.{any_transaction};
 ghost use Rattle.rlp_transactions.specs.PooledTransaction.{consensus_form, pooled_transaction};
-ghost use Rattle.rlp_transactions.specs.Transaction.{transaction};
-ghost use Rattle.rlp_transactions.specs.TransactionParts.{type_of};
+ghost use Rattle.rlp_transactions.specs.Transaction.{any_transaction, transaction, transaction_types};
 ghost use Rattle.rlp_transactions.specs.declared.transaction.Transaction.{Transaction};
 
 use crate::{AnyTransaction, PooledTransaction};
@@ -63,7 +62,7 @@ pub fn pooled_transaction_keeps_its_hash(
 /// isn't 3.
 pub fn pooled_transactions_stand_in_blocks(pooled: &PooledTransaction)
     ensures fits { pooled_transaction.Fits pooled.now → transaction.Fits (consensus_form pooled.now) }
-    ensures bytes { type_of (consensus_form pooled.now) ≢ 3
+    ensures bytes { type_of transaction_types (consensus_form pooled.now) ≢ 3
         → pooled_transaction.item pooled.now ≡ transaction.item (consensus_form pooled.now) }
 {}
 

@@ -13,7 +13,8 @@ use rlp::{
 };
 use std::alloc::{AllocError, Global};
 
-/// A transaction without a type, with its signature: the list of nine fields. `v` is any number.
+/// A transaction without a type, with its signature: the list of nine fields. `v` is any number of at
+/// most 256 bits, also one that says no parity, as 0 or 29: [`Eip155::from_v`] tells which numbers do.
 pub type SignedLegacyTransaction = Signed<LegacyTransaction, Uint<32>>;
 
 /// A transaction without a type and without its signature: six fields, as in section 4.2 of the yellow

@@ -3,7 +3,6 @@
 
 mod access;
 mod access_list_transaction;
-mod any_transaction;
 mod authorization;
 mod blob;
 mod blob_check;
@@ -22,13 +21,11 @@ mod scalar;
 mod set_code_transaction;
 mod signed;
 mod transaction;
-mod typed_payload;
 mod unsigned_legacy_transaction;
 mod unsigned_transaction;
 
 pub use access::{AccessList, AccessListItem};
 pub use access_list_transaction::AccessListTransaction;
-pub use any_transaction::AnyTransaction;
 pub use authorization::{Authorization, SignedAuthorization};
 pub use blob::{BLOB_LEN, Blob};
 pub use blob_check::{BlobFault, versioned_hash};
@@ -45,6 +42,6 @@ pub use recipient::Recipient;
 pub use scalar::NonZeroScalar;
 pub use set_code_transaction::SetCodeTransaction;
 pub use signed::{Payload, Signed, Tagged, TypedTransaction};
-pub use transaction::Transaction;
+pub use transaction::{AnyTransaction, Transaction};
 pub use unsigned_legacy_transaction::UnsignedLegacyTransaction;
 pub use unsigned_transaction::UnsignedTransaction;

@@ -17,7 +17,7 @@ const PROOFS_FIELDS: usize = 4;
 
 /// A transaction of type 3 as it is sent: with its blobs. A list of four items is read as the form
 /// of EIP-4844, and any other item as the form of EIP-7594, which has five.
-#[derive(Debug, PartialEq, Eq, Drop)]
+#[derive(Debug, Clone, PartialEq, Eq, Drop)]
 pub enum PooledBlobTransaction {
     /// The form of EIP-4844: with a proof for each blob.
     Proofs(BlobTransactionWithProofs),

@@ -1,18 +1,11 @@
 //! Transactions as they are sent.
 
-ghost use Rattle.std.specs.Prelude.{◌≡◌, ◌⊎◌, Err, IfErr, IfOk, IsTrue, Ok, OnOk};
-ghost use Rattle.std.proofs.Common.{inr};
-ghost use Rattle.rlp.specs.DecoderError.TheVariants.{OutOfMemory};
-ghost use Rattle.rlp.specs.Views.View.{strict_view_of};
-ghost use Rattle.rlp_codec.specs.Form.{IsPlaced, fault_of, map_answer, map_value};
-ghost use Rattle.rlp_codec.specs.Sums.{envelope_of};
+ghost use Rattle.std.specs.Prelude.{◌≡◌, IfOk, OnOk};
 ghost use Rattle.rlp_records.specs.Alone.{bytes_alone};
 ghost use Rattle.rlp_records.specs.Hashing.{IsHashOf};
-ghost use Rattle.rlp_transactions.specs.PooledTransaction.{consensus_form, pooled_alone, pooled_transaction, pooled_types};
+ghost use Rattle.rlp_transactions.specs.PooledTransaction.{consensus_form, pooled_transaction, pooled_types};
 ghost use Rattle.rlp_transactions.specs.Transaction.{transaction};
-ghost use Rattle.rlp_transactions.specs.TransactionParts.{type_of};
 
-use crate::typed_payload::decode_typed;
 use crate::{
     AccessListTransaction, FeeMarketTransaction, PooledBlobTransaction, SetCodeTransaction, Signed,
     SignedLegacyTransaction, Transaction,
@@ -20,10 +13,11 @@ use crate::{
 use bytes::BytesMut;
 use keccak::keccak256;
 use rlp::{
-    Decodable, DecodePlaced, DecoderError, Encodable, Envelope, Rlp, RlpStream, RoundTrip,
-    StrictRead, write_envelope,
+    Decodable, DecodePlaced, DecoderError, Encodable, Rlp, RlpStream, RoundTrip, StrictRead,
 };
-use rlp_records::{ACCESS_LIST_TYPE, BLOB_TYPE, FEE_MARKET_TYPE, Hash, SET_CODE_TYPE, to_envelope};
+use rlp_records::{
+    ACCESS_LIST_TYPE, BLOB_TYPE, Eip2718, FEE_MARKET_TYPE, Hash, SET_CODE_TYPE, to_envelope,
+};
 use std::alloc::{AllocError, Global};
 
 /// A signed transaction as it is sent: in message 0x0a of `eth`, and by `eth_sendRawTransaction`.
@@ -46,60 +40,6 @@ pub enum PooledTransaction {
 }
 
 impl PooledTransaction {
-    /// Returns the bytes that `eth_sendRawTransaction` takes: the encoding of a legacy transaction,
-    /// or the byte of the type and the encoding of the payload, with the blobs if the type is 3.
-    pub fn to_bytes(&self, alloc: Global) -> Result<BytesMut, AllocError>
-        ensures fits { OnOk result (pooled_transaction.Fits self.now) }
-        ensures bytes { IfOk result
-            (λ b. b.items ≡ bytes_alone (pooled_transaction.item self.now)) }
-    {
-        match self {
-            PooledTransaction::Legacy(payload) => rlp::encode(alloc, payload),
-            PooledTransaction::AccessList(payload) => {
-                to_envelope(alloc, ACCESS_LIST_TYPE, payload)
-            }
-            PooledTransaction::FeeMarket(payload) => to_envelope(alloc, FEE_MARKET_TYPE, payload),
-            PooledTransaction::Blob(payload) => to_envelope(alloc, BLOB_TYPE, payload),
-            PooledTransaction::SetCode(payload) => to_envelope(alloc, SET_CODE_TYPE, payload),
-        }
-    }
-
-    /// Reads a transaction strictly from its bytes, as [`PooledTransaction::to_bytes`] returns
-    /// them. For such bytes it fails only if memory runs out.
-    ///
-    /// Fails with `Custom("unknown transaction type")` for a first byte below `0xc0` that is no
-    /// type, with `RlpIsTooShort` if there are no bytes, and else with the strict fault of the
-    /// payload.
-    pub fn from_bytes(alloc: Global, bytes: &[u8]) -> Result<PooledTransaction, DecoderError>
-        ensures whole { IfOk result (λ t. pooled_transaction.Fits t
-            × (bytes.now ≡ bytes_alone (pooled_transaction.item t))) }
-        ensures value { IfOk result
-            (λ t. (pooled_alone bytes.now).result ≡ Ok (pooled_transaction.reading.seen t)) }
-        ensures fault { IfErr result (λ e. ((pooled_alone bytes.now).result ≡ Err (fault_of e))
-            ⊎ ((e ≡ OutOfMemory) × IsTrue pooled_transaction.reading.takes_memory)) }
-        ensures memory { (t : PooledTransaction) → pooled_transaction.Fits t
-            → bytes.now ≡ bytes_alone (pooled_transaction.item t)
-            → IfErr result (λ e. e ≡ OutOfMemory) }
-    {
-        read_alone(alloc, bytes)
-    }
-
-    /// Appends the places that lead to the item at fault, as [`Transaction::put_path_alone`] does,
-    /// for bytes that [`PooledTransaction::from_bytes`] fails on.
-    pub fn put_path_alone(
-        alloc: Global,
-        bytes: &[u8],
-        path: &mut Vec<usize>,
-    ) -> Result<(), AllocError>
-        ensures { OnOk result (IsPlaced (pooled_alone bytes.now) path.old.items path.new.items) }
-    {
-        let view = Rlp::new_strict(bytes);
-        if view.is_list() {
-            return SignedLegacyTransaction::put_path(alloc, &view, path);
-        }
-        put_envelope_path(alloc, bytes, path)
-    }
-
     /// Returns the transaction as it stands in a block: without its blobs, which it drops.
     pub fn into_consensus(self) -> Transaction
         ensures { result ≡ consensus_form self }
@@ -127,19 +67,6 @@ impl PooledTransaction {
         Ok(Hash(keccak256(bytes.as_slice())))
     }
 
-    /// Returns the number of the type, as in EIP-2718, or 0 for a transaction without a type.
-    pub fn transaction_type(&self) -> u8
-        ensures { result ≡ type_of (consensus_form self.now) }
-    {
-        match self {
-            PooledTransaction::Legacy(_) => 0,
-            PooledTransaction::AccessList(_) => ACCESS_LIST_TYPE,
-            PooledTransaction::FeeMarket(_) => FEE_MARKET_TYPE,
-            PooledTransaction::Blob(_) => BLOB_TYPE,
-            PooledTransaction::SetCode(_) => SET_CODE_TYPE,
-        }
-    }
-
     // Returns the bytes of the transaction without its blobs.
     fn consensus_bytes(&self, alloc: Global) -> Result<BytesMut, AllocError>
         ensures fits { OnOk result (transaction.Fits (consensus_form self.now)) }
@@ -160,58 +87,60 @@ impl PooledTransaction {
     }
 }
 
-// Reads a transaction from its bytes. The clauses of `from_bytes` add that reading what `to_bytes`
-// wrote can't fail.
-fn read_alone(alloc: Global, bytes: &[u8]) -> Result<PooledTransaction, DecoderError>
-    ensures value { IfOk result
-        (λ t. (pooled_alone bytes.now).result ≡ Ok (pooled_transaction.reading.seen t)) }
-    ensures fault { IfErr result (λ e. ((pooled_alone bytes.now).result ≡ Err (fault_of e))
-        ⊎ ((e ≡ OutOfMemory) × IsTrue pooled_transaction.reading.takes_memory)) }
-{
-    if Rlp::new(bytes).is_list() {
-        let legacy = rlp::decode_strict(alloc, bytes)?;
-        return Ok(PooledTransaction::Legacy(legacy));
+impl Eip2718 for PooledTransaction {
+    ghost types = { pooled_types };
+
+    fn envelope_type(&self) -> Option<u8> {
+        match self {
+            PooledTransaction::Legacy(_) => None,
+            PooledTransaction::AccessList(_) => Some(ACCESS_LIST_TYPE),
+            PooledTransaction::FeeMarket(_) => Some(FEE_MARKET_TYPE),
+            PooledTransaction::Blob(_) => Some(BLOB_TYPE),
+            PooledTransaction::SetCode(_) => Some(SET_CODE_TYPE),
+        }
     }
-    let envelope = Envelope::split(bytes)?;
-    decode_payload(alloc, &envelope)
-}
 
-// Reads a transaction of one of the types.
-fn decode_payload(alloc: Global, envelope: &Envelope<'_>) -> Result<PooledTransaction, DecoderError>
-    ensures value { IfOk result (λ t. map_value inr (pooled_types.cases.read envelope.now.tag
-        (strict_view_of envelope.now.payload.now)).result
-        ≡ Ok (pooled_transaction.reading.seen t)) }
-    ensures fault { IfErr result (λ e. ((pooled_types.cases.read envelope.now.tag
-        (strict_view_of envelope.now.payload.now)).result ≡ Err (fault_of e))
-        ⊎ ((e ≡ OutOfMemory) × IsTrue pooled_types.cases.takes_memory)) }
-{
-    decode_typed!(
-        alloc,
-        envelope,
-        "unknown transaction type",
-        ACCESS_LIST_TYPE => PooledTransaction::AccessList,
-        FEE_MARKET_TYPE => PooledTransaction::FeeMarket,
-        BLOB_TYPE => PooledTransaction::Blob,
-        SET_CODE_TYPE => PooledTransaction::SetCode
-    )
-}
+    fn append_payload(&self, s: &mut RlpStream) -> Result<(), AllocError> {
+        match self {
+            PooledTransaction::Legacy(tx) => tx.rlp_append(s),
+            PooledTransaction::AccessList(tx) => tx.rlp_append(s),
+            PooledTransaction::FeeMarket(tx) => tx.rlp_append(s),
+            PooledTransaction::Blob(tx) => tx.rlp_append(s),
+            PooledTransaction::SetCode(tx) => tx.rlp_append(s),
+        }
+    }
 
-// Appends the path of the fault of a transaction in an envelope.
-fn put_envelope_path(alloc: Global, bytes: &[u8], path: &mut Vec<usize>) -> Result<(), AllocError>
-    ensures { OnOk result (IsPlaced {M = pooled_transaction.reading.M}
-        (map_answer inr (envelope_of pooled_types.cases.read bytes.now))
-        path.old.items path.new.items) }
-{
-    let Ok(envelope) = Envelope::split(bytes) else {
-        return Ok(());
-    };
-    let payload = Rlp::new_strict(envelope.payload);
-    match envelope.tag {
-        ACCESS_LIST_TYPE => Signed::<AccessListTransaction>::put_path(alloc, &payload, path),
-        FEE_MARKET_TYPE => Signed::<FeeMarketTransaction>::put_path(alloc, &payload, path),
-        BLOB_TYPE => PooledBlobTransaction::put_path(alloc, &payload, path),
-        SET_CODE_TYPE => Signed::<SetCodeTransaction>::put_path(alloc, &payload, path),
-        _ => Ok(()),
+    fn decode_payload(
+        alloc: Global,
+        kind: Option<u8>,
+        payload: &Rlp<'_>,
+    ) -> Result<PooledTransaction, DecoderError> {
+        match kind {
+            None => Ok(PooledTransaction::Legacy(payload.as_val(alloc)?)),
+            Some(ACCESS_LIST_TYPE) => Ok(PooledTransaction::AccessList(payload.as_val(alloc)?)),
+            Some(FEE_MARKET_TYPE) => Ok(PooledTransaction::FeeMarket(payload.as_val(alloc)?)),
+            Some(BLOB_TYPE) => Ok(PooledTransaction::Blob(payload.as_val(alloc)?)),
+            Some(SET_CODE_TYPE) => Ok(PooledTransaction::SetCode(payload.as_val(alloc)?)),
+            Some(_) => Err(DecoderError::Custom("unknown transaction type")),
+        }
+    }
+
+    fn put_payload_path(
+        alloc: Global,
+        kind: Option<u8>,
+        payload: &Rlp<'_>,
+        path: &mut Vec<usize>,
+    ) -> Result<(), AllocError> {
+        match kind {
+            None => SignedLegacyTransaction::put_path(alloc, payload, path),
+            Some(ACCESS_LIST_TYPE) => Signed::<AccessListTransaction>::put_path(
+                alloc, payload, path,
+            ),
+            Some(FEE_MARKET_TYPE) => Signed::<FeeMarketTransaction>::put_path(alloc, payload, path),
+            Some(BLOB_TYPE) => PooledBlobTransaction::put_path(alloc, payload, path),
+            Some(SET_CODE_TYPE) => Signed::<SetCodeTransaction>::put_path(alloc, payload, path),
+            Some(_) => Ok(()),
+        }
     }
 }
 
@@ -221,13 +150,7 @@ impl Encodable for PooledTransaction {
     ghost fits = { pooled_transaction.Fits };
 
     fn rlp_append(&self, s: &mut RlpStream) -> Result<(), AllocError> {
-        match self {
-            PooledTransaction::Legacy(payload) => payload.rlp_append(s),
-            PooledTransaction::AccessList(payload) => write_envelope(s, ACCESS_LIST_TYPE, payload),
-            PooledTransaction::FeeMarket(payload) => write_envelope(s, FEE_MARKET_TYPE, payload),
-            PooledTransaction::Blob(payload) => write_envelope(s, BLOB_TYPE, payload),
-            PooledTransaction::SetCode(payload) => write_envelope(s, SET_CODE_TYPE, payload),
-        }
+        self.append_item(s)
     }
 }
 
@@ -235,24 +158,13 @@ impl Decodable for PooledTransaction {
     ghost reading = { pooled_transaction.reading };
 
     fn decode(alloc: Global, rlp: &Rlp<'_>) -> Result<PooledTransaction, DecoderError> {
-        if rlp.is_list() {
-            let legacy = rlp.as_val(alloc)?;
-            return Ok(PooledTransaction::Legacy(legacy));
-        }
-        let envelope = Envelope::of(rlp)?;
-        decode_payload(alloc, &envelope)
+        PooledTransaction::decode_item(alloc, rlp)
     }
 }
 
 impl DecodePlaced for PooledTransaction {
     fn put_path(alloc: Global, rlp: &Rlp<'_>, path: &mut Vec<usize>) -> Result<(), AllocError> {
-        if rlp.is_list() {
-            return SignedLegacyTransaction::put_path(alloc, rlp, path);
-        }
-        match rlp.decoder().string() {
-            Ok(bytes) => put_envelope_path(alloc, bytes, path),
-            Err(_) => Ok(()),
-        }
+        PooledTransaction::put_item_path(alloc, rlp, path)
     }
 }
 

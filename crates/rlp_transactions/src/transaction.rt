@@ -1,28 +1,20 @@
 //! Transactions of every type.
 
-ghost use Rattle.std.specs.Prelude.{◌≡◌, ◌⊎◌, Err, IfErr, IfOk, IsTrue, Ok, OnOk};
-ghost use Rattle.std.proofs.Common.{inr};
-ghost use Rattle.rlp.specs.DecoderError.TheVariants.{OutOfMemory};
-ghost use Rattle.rlp.specs.Views.View.{strict_view_of};
-ghost use Rattle.rlp_codec.specs.Form.{IsPlaced, fault_of, map_answer, map_value};
-ghost use Rattle.rlp_codec.specs.Sums.{envelope_of};
-ghost use Rattle.rlp_records.specs.Alone.{bytes_alone};
-ghost use Rattle.rlp_transactions.specs.Transaction.{transaction, transaction_alone, typed_transactions};
+ghost use Rattle.rlp_transactions.specs.Transaction.{transaction, transaction_types};
 
 mod parts;
 mod signatures;
 
-use crate::typed_payload::decode_typed;
 use crate::{
     AccessListTransaction, BlobTransaction, FeeMarketTransaction, SetCodeTransaction, Signed,
     SignedLegacyTransaction,
 };
-use bytes::BytesMut;
 use rlp::{
-    Decodable, DecodePlaced, DecoderError, Encodable, Envelope, Rlp, RlpStream, RoundTrip,
-    StrictRead, write_envelope,
+    Decodable, DecodePlaced, DecoderError, Encodable, Rlp, RlpStream, RoundTrip, StrictRead,
 };
-use rlp_records::{ACCESS_LIST_TYPE, BLOB_TYPE, FEE_MARKET_TYPE, SET_CODE_TYPE, to_envelope};
+use rlp_records::{
+    ACCESS_LIST_TYPE, BLOB_TYPE, Eip2718, FEE_MARKET_TYPE, KnownOrOther, SET_CODE_TYPE,
+};
 use std::alloc::{AllocError, Global};
 
 /// A signed transaction, as in the list of a block's transactions: a legacy transaction is a list,
@@ -41,113 +33,64 @@ pub enum Transaction {
     SetCode(Signed<SetCodeTransaction>),
 }
 
-impl Transaction {
-    /// Returns the bytes of the transaction by itself, as it is hashed: the encoding of a legacy
-    /// transaction, or the byte of the type and the encoding of the payload. It is sent so too,
-    /// except a transaction of type 3, which is sent with its blobs, as a
-    /// [`PooledTransaction`](crate::PooledTransaction).
-    pub fn to_bytes(&self, alloc: Global) -> Result<BytesMut, AllocError>
-        ensures fits { OnOk result (transaction.Fits self.now) }
-        ensures bytes { IfOk result (λ b. b.items ≡ bytes_alone (transaction.item self.now)) }
-    {
+/// A transaction in the list of a block's transactions, of any type: one of a type that isn't known, such
+/// as a [`DepositTransaction`](crate::DepositTransaction), is kept, and is written back as it was read.
+pub type AnyTransaction = KnownOrOther<Transaction>;
+
+impl Eip2718 for Transaction {
+    ghost types = { transaction_types };
+
+    fn envelope_type(&self) -> Option<u8> {
         match self {
-            Transaction::Legacy(payload) => rlp::encode(alloc, payload),
-            Transaction::AccessList(payload) => to_envelope(alloc, ACCESS_LIST_TYPE, payload),
-            Transaction::FeeMarket(payload) => to_envelope(alloc, FEE_MARKET_TYPE, payload),
-            Transaction::Blob(payload) => to_envelope(alloc, BLOB_TYPE, payload),
-            Transaction::SetCode(payload) => to_envelope(alloc, SET_CODE_TYPE, payload),
+            Transaction::Legacy(_) => None,
+            Transaction::AccessList(_) => Some(ACCESS_LIST_TYPE),
+            Transaction::FeeMarket(_) => Some(FEE_MARKET_TYPE),
+            Transaction::Blob(_) => Some(BLOB_TYPE),
+            Transaction::SetCode(_) => Some(SET_CODE_TYPE),
         }
     }
 
-    /// Reads a transaction strictly from its bytes, as [`Transaction::to_bytes`] returns them. For
-    /// such bytes it fails only if memory runs out.
-    ///
-    /// Fails with `Custom("unknown transaction type")` for a first byte below `0xc0` that is no
-    /// type, with `RlpIsTooShort` if there are no bytes, and else with the strict fault of the
-    /// payload.
-    pub fn from_bytes(alloc: Global, bytes: &[u8]) -> Result<Transaction, DecoderError>
-        ensures whole { IfOk result (λ t. transaction.Fits t
-            × (bytes.now ≡ bytes_alone (transaction.item t))) }
-        ensures value { IfOk result
-            (λ t. (transaction_alone bytes.now).result ≡ Ok (transaction.reading.seen t)) }
-        ensures fault { IfErr result (λ e. ((transaction_alone bytes.now).result ≡ Err (fault_of e))
-            ⊎ ((e ≡ OutOfMemory) × IsTrue transaction.reading.takes_memory)) }
-        ensures memory { (t : Transaction) → transaction.Fits t
-            → bytes.now ≡ bytes_alone (transaction.item t) → IfErr result (λ e. e ≡ OutOfMemory) }
-    {
-        read_alone(alloc, bytes)
+    fn append_payload(&self, s: &mut RlpStream) -> Result<(), AllocError> {
+        match self {
+            Transaction::Legacy(tx) => tx.rlp_append(s),
+            Transaction::AccessList(tx) => tx.rlp_append(s),
+            Transaction::FeeMarket(tx) => tx.rlp_append(s),
+            Transaction::Blob(tx) => tx.rlp_append(s),
+            Transaction::SetCode(tx) => tx.rlp_append(s),
+        }
     }
 
-    /// Appends the places that lead to the item at fault, as [`DecodePlaced::put_path`] does, for
-    /// bytes that [`Transaction::from_bytes`] fails on. The path of a fault in an envelope is the
-    /// path in its payload.
-    pub fn put_path_alone(
+    fn decode_payload(
         alloc: Global,
-        bytes: &[u8],
-        path: &mut Vec<usize>,
-    ) -> Result<(), AllocError>
-        ensures { OnOk result
-            (IsPlaced (transaction_alone bytes.now) path.old.items path.new.items) }
-    {
-        let view = Rlp::new_strict(bytes);
-        if view.is_list() {
-            return SignedLegacyTransaction::put_path(alloc, &view, path);
+        kind: Option<u8>,
+        payload: &Rlp<'_>,
+    ) -> Result<Transaction, DecoderError> {
+        match kind {
+            None => Ok(Transaction::Legacy(payload.as_val(alloc)?)),
+            Some(ACCESS_LIST_TYPE) => Ok(Transaction::AccessList(payload.as_val(alloc)?)),
+            Some(FEE_MARKET_TYPE) => Ok(Transaction::FeeMarket(payload.as_val(alloc)?)),
+            Some(BLOB_TYPE) => Ok(Transaction::Blob(payload.as_val(alloc)?)),
+            Some(SET_CODE_TYPE) => Ok(Transaction::SetCode(payload.as_val(alloc)?)),
+            Some(_) => Err(DecoderError::Custom("unknown transaction type")),
         }
-        put_envelope_path(alloc, bytes, path)
     }
-}
 
-// Reads a transaction from its bytes. The clauses of `from_bytes` add that reading what `to_bytes`
-// wrote can't fail.
-fn read_alone(alloc: Global, bytes: &[u8]) -> Result<Transaction, DecoderError>
-    ensures value { IfOk result
-        (λ t. (transaction_alone bytes.now).result ≡ Ok (transaction.reading.seen t)) }
-    ensures fault { IfErr result (λ e. ((transaction_alone bytes.now).result ≡ Err (fault_of e))
-        ⊎ ((e ≡ OutOfMemory) × IsTrue transaction.reading.takes_memory)) }
-{
-    if Rlp::new(bytes).is_list() {
-        let legacy = rlp::decode_strict(alloc, bytes)?;
-        return Ok(Transaction::Legacy(legacy));
-    }
-    let envelope = Envelope::split(bytes)?;
-    decode_payload(alloc, &envelope)
-}
-
-// Reads a transaction of one of the types.
-fn decode_payload(alloc: Global, envelope: &Envelope<'_>) -> Result<Transaction, DecoderError>
-    ensures value { IfOk result (λ t. map_value inr (typed_transactions.cases.read envelope.now.tag
-        (strict_view_of envelope.now.payload.now)).result ≡ Ok (transaction.reading.seen t)) }
-    ensures fault { IfErr result (λ e. ((typed_transactions.cases.read envelope.now.tag
-        (strict_view_of envelope.now.payload.now)).result ≡ Err (fault_of e))
-        ⊎ ((e ≡ OutOfMemory) × IsTrue typed_transactions.cases.takes_memory)) }
-{
-    decode_typed!(
-        alloc,
-        envelope,
-        "unknown transaction type",
-        ACCESS_LIST_TYPE => Transaction::AccessList,
-        FEE_MARKET_TYPE => Transaction::FeeMarket,
-        BLOB_TYPE => Transaction::Blob,
-        SET_CODE_TYPE => Transaction::SetCode
-    )
-}
-
-// Appends the path of the fault of a transaction in an envelope.
-fn put_envelope_path(alloc: Global, bytes: &[u8], path: &mut Vec<usize>) -> Result<(), AllocError>
-    ensures { OnOk result (IsPlaced {M = transaction.reading.M}
-        (map_answer inr (envelope_of typed_transactions.cases.read bytes.now))
-        path.old.items path.new.items) }
-{
-    let Ok(envelope) = Envelope::split(bytes) else {
-        return Ok(());
-    };
-    let payload = Rlp::new_strict(envelope.payload);
-    match envelope.tag {
-        ACCESS_LIST_TYPE => Signed::<AccessListTransaction>::put_path(alloc, &payload, path),
-        FEE_MARKET_TYPE => Signed::<FeeMarketTransaction>::put_path(alloc, &payload, path),
-        BLOB_TYPE => Signed::<BlobTransaction>::put_path(alloc, &payload, path),
-        SET_CODE_TYPE => Signed::<SetCodeTransaction>::put_path(alloc, &payload, path),
-        _ => Ok(()),
+    fn put_payload_path(
+        alloc: Global,
+        kind: Option<u8>,
+        payload: &Rlp<'_>,
+        path: &mut Vec<usize>,
+    ) -> Result<(), AllocError> {
+        match kind {
+            None => SignedLegacyTransaction::put_path(alloc, payload, path),
+            Some(ACCESS_LIST_TYPE) => Signed::<AccessListTransaction>::put_path(
+                alloc, payload, path,
+            ),
+            Some(FEE_MARKET_TYPE) => Signed::<FeeMarketTransaction>::put_path(alloc, payload, path),
+            Some(BLOB_TYPE) => Signed::<BlobTransaction>::put_path(alloc, payload, path),
+            Some(SET_CODE_TYPE) => Signed::<SetCodeTransaction>::put_path(alloc, payload, path),
+            Some(_) => Ok(()),
+        }
     }
 }
 
@@ -157,13 +100,7 @@ impl Encodable for Transaction {
     ghost fits = { transaction.Fits };
 
     fn rlp_append(&self, s: &mut RlpStream) -> Result<(), AllocError> {
-        match self {
-            Transaction::Legacy(payload) => payload.rlp_append(s),
-            Transaction::AccessList(payload) => write_envelope(s, ACCESS_LIST_TYPE, payload),
-            Transaction::FeeMarket(payload) => write_envelope(s, FEE_MARKET_TYPE, payload),
-            Transaction::Blob(payload) => write_envelope(s, BLOB_TYPE, payload),
-            Transaction::SetCode(payload) => write_envelope(s, SET_CODE_TYPE, payload),
-        }
+        self.append_item(s)
     }
 }
 
@@ -171,24 +108,13 @@ impl Decodable for Transaction {
     ghost reading = { transaction.reading };
 
     fn decode(alloc: Global, rlp: &Rlp<'_>) -> Result<Transaction, DecoderError> {
-        if rlp.is_list() {
-            let legacy = rlp.as_val(alloc)?;
-            return Ok(Transaction::Legacy(legacy));
-        }
-        let envelope = Envelope::of(rlp)?;
-        decode_payload(alloc, &envelope)
+        Transaction::decode_item(alloc, rlp)
     }
 }
 
 impl DecodePlaced for Transaction {
     fn put_path(alloc: Global, rlp: &Rlp<'_>, path: &mut Vec<usize>) -> Result<(), AllocError> {
-        if rlp.is_list() {
-            return SignedLegacyTransaction::put_path(alloc, rlp, path);
-        }
-        match rlp.decoder().string() {
-            Ok(bytes) => put_envelope_path(alloc, bytes, path),
-            Err(_) => Ok(()),
-        }
+        Transaction::put_item_path(alloc, rlp, path)
     }
 }
 

@@ -7,6 +7,7 @@ pub mod Inline
 pub mod Lookup
 pub mod Next
 pub mod Path
+pub mod Possible
 pub mod ProofWalk
 pub mod Trie
 pub mod TrieNode

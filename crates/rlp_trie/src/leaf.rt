@@ -11,7 +11,7 @@ use std::alloc::{AllocError, Global};
 /// A node of the trie that ends a path: the list of the rest of the path and the value.
 ///
 /// See appendix D of the yellow paper.
-#[derive(Debug, PartialEq, Eq, Drop)]
+#[derive(Debug, Clone, PartialEq, Eq, Drop)]
 pub struct Leaf {
     /// The rest of the path.
     pub path: LeafPath,

@@ -11,6 +11,7 @@ mod inline_node;
 pub mod laws;
 mod leaf;
 mod path;
+mod possible;
 mod proof;
 mod proof_fault;
 mod step;

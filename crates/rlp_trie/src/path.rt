@@ -93,6 +93,15 @@ impl<const FLAG: u8> Path<FLAG> {
     }
 }
 
+impl<const FLAG: u8> Clone for Path<FLAG> {
+    ghost is_clone = { λ p copy. copy.bytes.items ≡ p.bytes.items };
+
+    fn clone(&self) -> Result<Path<FLAG>, AllocError> {
+        let bytes = self.bytes.clone()?;
+        Ok(Path { bytes })
+    }
+}
+
 /// Written as the string of the bytes.
 impl<const FLAG: u8> Encodable for Path<FLAG> {
     ghost use Rattle.rlp_trie.specs.Path.{path};

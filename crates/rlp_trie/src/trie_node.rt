@@ -21,6 +21,10 @@ use std::alloc::{AllocError, Global};
 ///
 /// See appendix D of the yellow paper. A branch is a list of 17 items, and leaves and extensions are
 /// lists of two, which the path tells apart, as [`ends_in_leaf`](crate::ends_in_leaf) explains.
+///
+/// Reading also takes nodes that no trie has: a leaf with an empty value, a branch with fewer than two
+/// of its children and its value, and an extension to a node that isn't a branch.
+/// [`TrieNode::is_possible`] finds most of them.
 #[derive(Debug, PartialEq, Eq, Drop)]
 pub enum TrieNode {
     /// The empty trie, which has no node: the empty string.

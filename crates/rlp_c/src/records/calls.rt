@@ -5,8 +5,8 @@ ghost use Rattle.rlp_format.specs.Format.Encoding.{encoding};
 ghost use Rattle.rlp_reading.specs.Format.Framing.{items};
 ghost use Rattle.rlp_reading.specs.Views.View.{strict_view_of};
 ghost use Rattle.rlp_records.specs.Alone.{bytes_alone};
-ghost use Rattle.rlp_transactions.specs.Transaction.{transaction};
-ghost use Rattle.rlp_transactions.specs.TransactionParts.{type_of};
+ghost use Rattle.rlp_records.specs.Eip2718.{type_of};
+ghost use Rattle.rlp_transactions.specs.Transaction.{transaction, transaction_types};
 ghost use Rattle.rlp_transactions.specs.declared.transaction.Transaction.{Transaction};
 ghost use Rattle.rlp_headers.specs.Header.{header};
 ghost use Rattle.rlp_headers.specs.declared.header.Header.{Header as BlockHeader};
@@ -46,7 +46,7 @@ pub extern "C" fn rlp_transaction(
     ensures exact { IsFound result ↔ IsOk (transaction_result bytes.now) }
     ensures written { (t : Transaction) → transaction.Fits t
         → bytes.now ≡ bytes_alone (transaction.item t)
-        → (transaction_type.new ≡ type_of t)
+        → (transaction_type.new ≡ type_of transaction_types t)
         × ArePlaced (place_of t) (encoding (fields_of t)) (fields_in (fields_of t))
         out.old out.new count.new result }
 {

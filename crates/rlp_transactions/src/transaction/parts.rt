@@ -2,11 +2,11 @@
 
 ghost use Rattle.std.specs.Prelude.{◌≡◌};
 ghost use Rattle.std.specs.Option.{option_copied};
-ghost use Rattle.rlp_transactions.specs.TransactionParts.{access_list_of, account_in, gas_limit_of, gas_price_of, input_of, max_fee_of, max_priority_fee_of, nonce_of, recipient_of, type_of, value_of};
+ghost use Rattle.rlp_transactions.specs.TransactionParts.{access_list_of, account_in, gas_limit_of, gas_price_of, input_of, max_fee_of, max_priority_fee_of, nonce_of, recipient_of, value_of};
 
 use crate::{AccessList, Recipient, Transaction};
 use rlp::Uint;
-use rlp_records::{ACCESS_LIST_TYPE, Address, BLOB_TYPE, FEE_MARKET_TYPE, SET_CODE_TYPE};
+use rlp_records::Address;
 
 /// The value of an expression about the payload of a transaction of any type.
 macro_rules! of_payload {
@@ -37,19 +37,6 @@ macro_rules! of_payload {
 }
 
 impl Transaction {
-    /// Returns the number of the type, as in EIP-2718, or 0 for a transaction without a type.
-    pub fn transaction_type(&self) -> u8
-        ensures { result ≡ type_of self.now }
-    {
-        match self {
-            Transaction::Legacy(_) => 0,
-            Transaction::AccessList(_) => ACCESS_LIST_TYPE,
-            Transaction::FeeMarket(_) => FEE_MARKET_TYPE,
-            Transaction::Blob(_) => BLOB_TYPE,
-            Transaction::SetCode(_) => SET_CODE_TYPE,
-        }
-    }
-
     /// Returns the number of transactions that the sender has sent before.
     pub fn nonce(&self) -> u64
         ensures { result ≡ nonce_of self.now }

@@ -1,8 +1,8 @@
 use Rattle.std.proofs.Common.{◌∙◌, ap}
 use Rattle.rlp_codec.specs.Form.{map_value}
 use Rattle.rlp_records.specs.Alone.{bytes_alone}
-use Rattle.rlp_transactions.proofs.Strings.{any_strings}
-use Rattle.rlp_transactions.specs.AnyTransaction.{any_transaction}
+use Rattle.rlp_records.proofs.OtherTypes.{any_strings}
+use Rattle.rlp_transactions.specs.Transaction.{any_transaction, transaction_types}
 use Rattle.rlp_print.specs.Transactions.{any_transaction_display}
 use Rattle.rlp_show.proofs.Alone.{unsigned_faulty}
 use Rattle.rlp_show.proofs.LineLemmas.{line_answered}
@@ -12,4 +12,4 @@ use Rattle.rlp_show.proofs.laws.transactions_are_shown.Goals as goal
 pub returns : goal.returns
 returns c = λ t e fit short faulty is.
     line_answered kind.Transaction c.args.line.now _ _ is
-    (ap (λ s. s.result) (unsigned_faulty (bytes_alone (any_transaction.item t)) e faulty) ∙ ap (map_value any_transaction_display.shown) (any_strings.back t fit short))
+    (ap (λ s. s.result) (unsigned_faulty (bytes_alone (any_transaction.item t)) e faulty) ∙ ap (map_value any_transaction_display.shown) ((any_strings transaction_types).back t fit short))

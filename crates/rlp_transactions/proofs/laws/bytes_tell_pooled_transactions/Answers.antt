@@ -1,10 +1,11 @@
 use Rattle.rlp_records.proofs.Bytes.{bytes_tell}
+use Rattle.rlp_records.proofs.TypedSums.{typed_strings}
 use Rattle.rlp_transactions.proofs.Pooled.{consensus_same, hashed_same}
-use Rattle.rlp_transactions.proofs.Strings.{pooled_strings}
+use Rattle.rlp_transactions.specs.PooledTransaction.{pooled_types}
 use Rattle.rlp_transactions.proofs.laws.bytes_tell_pooled_transactions.Goals as goal
 
 pub returns-clause-fields : goal.returns-clause-fields
-returns-clause-fields c = bytes_tell _ _ _ _ _ pooled_strings c.args.one.now c.args.other.now
+returns-clause-fields c = bytes_tell _ _ _ _ _ (typed_strings pooled_types) c.args.one.now c.args.other.now
 
 pub returns-clause-consensus : goal.returns-clause-consensus
 returns-clause-consensus c = consensus_same c.args.one.now c.args.other.now

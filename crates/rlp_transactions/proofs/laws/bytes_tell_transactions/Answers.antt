@@ -1,6 +1,7 @@
 use Rattle.rlp_records.proofs.Bytes.{bytes_tell}
-use Rattle.rlp_transactions.proofs.Strings.{any_strings}
+use Rattle.rlp_records.proofs.OtherTypes.{any_strings}
+use Rattle.rlp_transactions.specs.Transaction.{transaction_types}
 use Rattle.rlp_transactions.proofs.laws.bytes_tell_transactions.Goals as goal
 
 pub returns : goal.returns
-returns c = bytes_tell _ _ _ _ _ any_strings c.args.one.now c.args.other.now
+returns c = bytes_tell _ _ _ _ _ (any_strings transaction_types) c.args.one.now c.args.other.now

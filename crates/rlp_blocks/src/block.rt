@@ -1,0 +1,74 @@
+//! Blocks.
+
+ghost use Rattle.rlp_blocks.specs.Block.{block};
+
+use rlp::{
+    Decodable, DecodePlaced, DecoderError, Encodable, ListField, ListOf, Optional, OptionalField,
+    Rlp, RlpStream, RoundTrip, StrictRead,
+};
+use rlp_headers::{Header, Withdrawals};
+use rlp_transactions::AnyTransaction;
+use std::alloc::{AllocError, Global};
+
+/// A block: the list of three fields, and of one more since Shanghai, EIP-4895.
+#[derive(Debug, Clone, PartialEq, Eq, Drop)]
+pub struct Block {
+    /// The header.
+    pub header: Header,
+    /// The transactions, in order.
+    pub transactions: Vec<AnyTransaction>,
+    /// The headers of the ommers. There are none since EIP-3675.
+    pub ommers: Vec<Header>,
+    /// The withdrawals from the beacon chain, in order, or `None` in blocks before Shanghai.
+    pub withdrawals: Option<Withdrawals>,
+}
+
+impl Encodable for Block {
+    ghost item = { block.item };
+
+    ghost fits = { block.Fits };
+
+    fn rlp_append(&self, s: &mut RlpStream) -> Result<(), AllocError> {
+        rlp::append_fields!(
+            s,
+            &self.header,
+            ListOf(&self.transactions),
+            ListOf(&self.ommers),
+            Optional(&self.withdrawals)
+        )
+    }
+}
+
+impl Decodable for Block {
+    ghost reading = { block.reading };
+
+    fn decode(alloc: Global, rlp: &Rlp<'_>) -> Result<Block, DecoderError> {
+        rlp::decode_fields!(
+            alloc,
+            rlp,
+            Block {
+                header,
+                transactions: [..],
+                ommers: [..],
+                withdrawals: ?
+            }
+        )
+    }
+}
+
+impl DecodePlaced for Block {
+    fn put_path(alloc: Global, rlp: &Rlp<'_>, path: &mut Vec<usize>) -> Result<(), AllocError> {
+        rlp::put_struct_path!(
+            alloc, rlp, path, Header, ListField<AnyTransaction>, ListField<Header>;
+            OptionalField<Withdrawals>
+        )
+    }
+}
+
+impl RoundTrip for Block {
+    ghost round_trip = { block.reads_back };
+}
+
+impl StrictRead for Block {
+    ghost strict = { block.reads_strictly };
+}

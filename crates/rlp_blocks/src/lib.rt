@@ -1,0 +1,9 @@
+//! Blocks of Ethereum and their bodies, and what holds of all that a key signs.
+#![tactic(auto)]
+
+mod block;
+mod body;
+pub mod laws;
+
+pub use block::Block;
+pub use body::Body;

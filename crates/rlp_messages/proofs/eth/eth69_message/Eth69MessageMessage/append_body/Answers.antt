@@ -1,0 +1,4 @@
+use Rattle.rlp_messages.proofs.eth.eth69_message.Eth69MessageMessage.append_body.Goals as goal
+
+pub returns-in-NewBlock-clause-ok : goal.returns-in-NewBlock-clause-ok
+returns-in-NewBlock-clause-ok c = rw c.in-NewBlock.is c.rlp_append-in-NewBlock.ensures.ok

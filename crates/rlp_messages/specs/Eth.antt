@@ -1,0 +1,22 @@
+-- How the messages of eth are written and read.
+
+-- what a client knows of the chain
+pub mod Status
+-- new blocks and transactions, and the blocks that a client has
+pub mod Announcements
+-- a block's hash or number
+pub mod HashOrNumber
+-- requests and their answers
+pub mod Requests
+-- answers with receipts
+pub mod Receipts
+-- answers with receipts since eth/69
+pub mod Receipts69
+-- the number of a request
+pub mod WithRequestId
+-- the messages that eth/68 and eth/69 have in common
+pub mod EthMessage
+-- the messages of eth/68 with their numbers
+pub mod Eth68Message
+-- the messages of eth/69 with their numbers
+pub mod Eth69Message

@@ -1,0 +1,47 @@
+-- The messages that eth/68 and eth/69 have in common.
+use Rattle.std.specs.Prelude.{◌⊎◌, refl}
+use Rattle.rlp_messages.specs.declared.eth.announcements.NewBlock.{NewBlock}
+use Rattle.rlp_messages.specs.declared.eth.announcements.NewBlockHashes.{NewBlockHashes}
+use Rattle.rlp_messages.specs.declared.eth.announcements.NewPooledTransactionHashes.{NewPooledTransactionHashes}
+use Rattle.rlp_messages.specs.declared.eth.announcements.Transactions.{Transactions}
+use Rattle.rlp_messages.specs.declared.eth.requests.BlockBodies.{BlockBodies}
+use Rattle.rlp_messages.specs.declared.eth.requests.BlockHeaders.{BlockHeaders}
+use Rattle.rlp_messages.specs.declared.eth.requests.GetBlockBodies.{GetBlockBodies}
+use Rattle.rlp_messages.specs.declared.eth.requests.GetBlockHeaders.{GetBlockHeaders}
+use Rattle.rlp_messages.specs.declared.eth.requests.GetPooledTransactions.{GetPooledTransactions}
+use Rattle.rlp_messages.specs.declared.eth.requests.GetReceipts.{GetReceipts}
+use Rattle.rlp_messages.specs.declared.eth.requests.PooledTransactions.{PooledTransactions}
+use Rattle.rlp_messages.specs.declared.eth.with_request_id.WithRequestId.{WithRequestId}
+use Rattle.rlp_messages.specs.Eth.Announcements.{new_block, new_block_hashes, new_pooled_transaction_hashes, transactions}
+use Rattle.rlp_messages.specs.Eth.Requests.{block_bodies, block_headers, get_block_bodies, get_block_headers, get_pooled_transactions, get_receipts, pooled_transactions}
+use Rattle.rlp_messages.specs.Eth.WithRequestId.{with_request_id}
+use Rattle.rlp_messages.specs.Message.{Bodies, and_message, last_message}
+
+-- the types of their bodies
+abbrev pub EthBody : Type 0
+EthBody =
+    NewBlockHashes ⊎ (
+    Transactions ⊎ (
+    WithRequestId GetBlockHeaders ⊎ (
+    WithRequestId BlockHeaders ⊎ (
+    WithRequestId GetBlockBodies ⊎ (
+    WithRequestId BlockBodies ⊎ (
+    NewBlock ⊎ (
+    NewPooledTransactionHashes ⊎ (
+    WithRequestId GetPooledTransactions ⊎ (
+    WithRequestId PooledTransactions ⊎ WithRequestId GetReceipts)))))))))
+
+-- their bodies with the numbers within the capability: Status (0x00) and Receipts (0x10) aren't here, since each version has its own
+abbrev pub eth_bodies : Bodies EthBody
+eth_bodies =
+    and_message 0x01 refl new_block_hashes (
+    and_message 0x02 refl transactions (
+    and_message 0x03 refl (with_request_id get_block_headers) (
+    and_message 0x04 refl (with_request_id block_headers) (
+    and_message 0x05 refl (with_request_id get_block_bodies) (
+    and_message 0x06 refl (with_request_id block_bodies) (
+    and_message 0x07 refl new_block (
+    and_message 0x08 refl new_pooled_transaction_hashes (
+    and_message 0x09 refl (with_request_id get_pooled_transactions) (
+    and_message 0x0a refl (with_request_id pooled_transactions) (
+    last_message 0x0f refl (with_request_id get_receipts)))))))))))

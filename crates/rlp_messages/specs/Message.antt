@@ -1,0 +1,89 @@
+-- How the messages of a capability are written and read: the id, and then the body. `offset` is the id of the message with the number 0.
+use Rattle.std.specs.Prelude.{ℕ, ◌≡◌, ◌+◌, ◌-◌, ◌<◌, ◌⊎◌, if◌then◌else◌, nat_lt, true, List, [], ◌∷◌, ◌++◌, codes, drop, length, Result, Ok, Err}
+use Rattle.std.proofs.Common.{inl, inr, ltb-true}
+use Rattle.rlp.specs.Codec.{Cases, Codec, and_case, last_case}
+use Rattle.rlp.specs.Format.Encoding.{Item, encoding}
+use Rattle.rlp.specs.Form.{Answer, Fault, and_then, custom, go_on, here, number}
+use Rattle.rlp.specs.Values.Sums.{sum_tag}
+use Rattle.rlp.specs.Values.Value.{number_item}
+use Rattle.rlp.specs.Views.View.{strict_view_of, view_of}
+
+-- the text of the fault of an id that no message has
+abbrev pub unknown_message : List ℕ
+unknown_message = codes "unknown message"
+
+-- What bytes that begin with this id give: the number of the message and the bytes after the id, unless the id is below the offset.
+abbrev pub after_id : ℕ → List ℕ → ℕ → Result (ℕ × List ℕ) Fault
+after_id offset d id = if nat_lt id offset then Err (custom unknown_message) else Ok (id - offset, drop (length (encoding (number_item id))) d)
+
+-- What the bytes of a message give: the number of the message, and the bytes after the id, which is a number of at most 8 bytes.
+abbrev pub numbered_of : ℕ → List ℕ → Result (ℕ × List ℕ) Fault
+numbered_of offset d = and_then ((number 8).reading.read (view_of d)).result (after_id offset d)
+
+-- ---- the messages of a capability
+
+-- the bodies of messages: how each is written and read by its number within the capability, the numbers, and that each is below 2^8
+pub record Bodies (B : Type 0) : Type 1 where
+  pub cases : Cases B
+  pub numbers : List ℕ
+  pub small : (x : B) → cases.cases.tag x < 0x100
+
+-- the number of a body is below 2^8, if it is the first body or one of the others
+pub first_small : {A B : Type 0} (tag : ℕ) (more : B → ℕ) → tag < 0x100 → ((y : B) → more y < 0x100) → (s : A ⊎ B) → sum_tag tag more s < 0x100
+first_small tag more low small (inl x) = low
+first_small tag more low small (inr y) = small y
+
+-- the last body, by its number. That the number is below 2^8 is proved by `refl`.
+abbrev pub last_message : {A : Type 0} (number : ℕ) → nat_lt number 0x100 ≡ true → Codec A → Bodies A
+last_message number low c = record {
+  cases = last_case unknown_message number c;
+  numbers = number ∷ [];
+  small = λ x. ltb-true number 0x100 low;
+}
+
+-- a body before others
+abbrev pub and_message : {A B : Type 0} (number : ℕ) → nat_lt number 0x100 ≡ true → Codec A → Bodies B → Bodies (A ⊎ B)
+and_message number low c more = record {
+  cases = and_case number c more.cases;
+  numbers = number ∷ more.numbers;
+  small = first_small number more.cases.cases.tag (ltb-true number 0x100 low) more.small;
+}
+
+-- the messages of a capability: their bodies, and the body of a message
+pub record Table (M : Type 0) : Type 1 where
+  pub Body : Type 0
+  pub bodies : Bodies Body
+  pub body : M → Body
+
+module _ {M : Type 0} (table : Table M) where
+  -- the number of a message within the capability
+  abbrev pub number_of : M → ℕ
+  number_of m = table.bodies.cases.cases.tag (table.body m)
+
+  -- the item of the body of a message
+  abbrev pub item_of : M → Item
+  item_of m = table.bodies.cases.cases.item (table.body m)
+
+  -- the body of a message fits
+  abbrev pub Fits : M → Type 0
+  Fits m = table.bodies.cases.cases.Fits (table.body m)
+
+  -- frame-data = msg-id || msg-data of RLPx: the encoding of the id of a message, which is the number after the offset, and then that of the body
+  abbrev pub bytes_of : ℕ → M → List ℕ
+  bytes_of offset m = encoding (number_item (offset + number_of m)) ++ encoding (item_of m)
+
+  -- what contracts see of the messages
+  abbrev pub Seen : Type 0
+  Seen = table.bodies.cases.cases.M
+
+  -- what contracts see of a message
+  abbrev pub seen_of : M → Seen
+  seen_of m = table.bodies.cases.cases.seen (table.body m)
+
+  -- what the number of a message and the bytes of its body give, read strictly
+  abbrev pub read_of : ℕ → List ℕ → Answer Seen Fault
+  read_of n b = table.bodies.cases.cases.read n (strict_view_of b)
+
+  -- what the bytes of a message give: the number, and by it the body
+  abbrev pub message_of : ℕ → List ℕ → Answer Seen Fault
+  message_of offset d = go_on (here (numbered_of offset d)) (λ n. read_of n.0 n.1)

@@ -1,0 +1,36 @@
+-- The messages of `p2p`.
+use Rattle.std.specs.Prelude.{◌⊎◌, refl}
+use Rattle.std.proofs.Common.{inl, inr}
+use Rattle.rlp_messages.specs.declared.p2p.disconnect.Disconnect.{Disconnect}
+use Rattle.rlp_messages.specs.declared.p2p.hello.Hello.{Hello}
+use Rattle.rlp_messages.specs.declared.p2p.p2p_message.P2pMessage.{P2pMessage}
+use Rattle.rlp_messages.specs.declared.p2p.p2p_message.P2pMessage.TheVariants as message
+use Rattle.rlp_messages.specs.declared.p2p.session.Ping.{Ping}
+use Rattle.rlp_messages.specs.declared.p2p.session.Pong.{Pong}
+use Rattle.rlp_messages.specs.Message.{Bodies, Table, and_message, last_message}
+use Rattle.rlp_messages.specs.P2p.Disconnect.{disconnect}
+use Rattle.rlp_messages.specs.P2p.Hello.{hello}
+use Rattle.rlp_messages.specs.P2p.Session.{ping, pong}
+
+-- the types of the bodies
+abbrev pub P2pBody : Type 0
+P2pBody = Hello ⊎ (Disconnect ⊎ (Ping ⊎ Pong))
+
+-- the bodies with their numbers: Hello (0x00), Disconnect (0x01), Ping (0x02) and Pong (0x03) of RLPx
+abbrev pub p2p_bodies : Bodies P2pBody
+p2p_bodies =
+    and_message 0x00 refl hello (
+    and_message 0x01 refl disconnect (
+    and_message 0x02 refl ping (
+    last_message 0x03 refl pong)))
+
+-- the body of a message
+abbrev pub p2p_body : P2pMessage → P2pBody
+p2p_body (message.Hello m) = inl m
+p2p_body (message.Disconnect m) = inr (inl m)
+p2p_body (message.Ping m) = inr (inr (inl m))
+p2p_body (message.Pong m) = inr (inr (inr m))
+
+-- the messages of p2p
+abbrev pub p2p : Table P2pMessage
+p2p = record { Body = P2pBody; bodies = p2p_bodies; body = p2p_body }

@@ -1,0 +1,286 @@
+//! Announcements of the protocol `eth`: new blocks and transactions, and the blocks that a client
+//! has.
+
+ghost use Rattle.rlp_messages.specs.Eth.Announcements.{new_block_hash, new_block_hashes, new_pooled_transaction_hashes, block_range_update, new_block, transactions};
+
+use rlp::{
+    Decodable, DecodePlaced, DecoderError, Each, Encodable, ListField, ListOf, Rlp, RlpStream,
+    RoundTrip, StrictRead, Uint, put_list_path,
+};
+use rlp_blocks::Block;
+use rlp_records::Hash;
+use rlp_transactions::AnyTransaction;
+use std::alloc::{AllocError, Global};
+
+/// A block that a client announces: the list of both fields.
+#[derive(Debug, Clone, Copy, PartialEq, Eq)]
+pub struct NewBlockHash {
+    /// The hash of the block.
+    pub hash: Hash,
+    /// The number of the block.
+    pub number: u64,
+}
+
+impl Encodable for NewBlockHash {
+    ghost item = { new_block_hash.item };
+
+    ghost fits = { new_block_hash.Fits };
+
+    fn rlp_append(&self, s: &mut RlpStream) -> Result<(), AllocError> {
+        rlp::append_fields!(s, &self.hash, &self.number)
+    }
+}
+
+impl Decodable for NewBlockHash {
+    ghost reading = { new_block_hash.reading };
+
+    fn decode(alloc: Global, rlp: &Rlp<'_>) -> Result<NewBlockHash, DecoderError> {
+        rlp::decode_fields!(alloc, rlp, NewBlockHash { hash, number })
+    }
+}
+
+impl DecodePlaced for NewBlockHash {
+    fn put_path(alloc: Global, rlp: &Rlp<'_>, path: &mut Vec<usize>) -> Result<(), AllocError> {
+        rlp::put_struct_path!(alloc, rlp, path, Hash, u64)
+    }
+}
+
+impl RoundTrip for NewBlockHash {
+    ghost round_trip = { new_block_hash.reads_back };
+}
+
+impl StrictRead for NewBlockHash {
+    ghost strict = { new_block_hash.reads_strictly };
+}
+
+/// The blocks that a client announces, message 0x01 of `eth`: the list of them.
+#[derive(Debug, Clone, PartialEq, Eq, Drop)]
+pub struct NewBlockHashes(pub Vec<NewBlockHash>);
+
+impl Encodable for NewBlockHashes {
+    ghost item = { new_block_hashes.item };
+
+    ghost fits = { new_block_hashes.Fits };
+
+    fn rlp_append(&self, s: &mut RlpStream) -> Result<(), AllocError> {
+        rlp::append_fields!(s, Each(&self.0))
+    }
+}
+
+impl Decodable for NewBlockHashes {
+    ghost reading = { new_block_hashes.reading };
+
+    fn decode(alloc: Global, rlp: &Rlp<'_>) -> Result<NewBlockHashes, DecoderError> {
+        let blocks = rlp.as_list(alloc)?;
+        Ok(NewBlockHashes(blocks))
+    }
+}
+
+impl DecodePlaced for NewBlockHashes {
+    fn put_path(alloc: Global, rlp: &Rlp<'_>, path: &mut Vec<usize>) -> Result<(), AllocError> {
+        put_list_path::<NewBlockHash>(alloc, rlp, path)
+    }
+}
+
+impl RoundTrip for NewBlockHashes {
+    ghost round_trip = { new_block_hashes.reads_back };
+}
+
+impl StrictRead for NewBlockHashes {
+    ghost strict = { new_block_hashes.reads_strictly };
+}
+
+/// The transactions that a client announces, message 0x08 since `eth/68`: the list of its three
+/// fields. The protocol asks for as many types as sizes and hashes; this type doesn't check that.
+#[derive(Debug, Clone, PartialEq, Eq, Drop)]
+pub struct NewPooledTransactionHashes {
+    /// The types of the transactions, a byte each, and 0 for legacy ones.
+    pub types: Vec<u8>,
+    /// The lengths of their encodings, in bytes.
+    pub sizes: Vec<u64>,
+    /// Their hashes.
+    pub hashes: Vec<Hash>,
+}
+
+impl Encodable for NewPooledTransactionHashes {
+    ghost item = { new_pooled_transaction_hashes.item };
+
+    ghost fits = { new_pooled_transaction_hashes.Fits };
+
+    fn rlp_append(&self, s: &mut RlpStream) -> Result<(), AllocError> {
+        rlp::append_fields!(s, &self.types, ListOf(&self.sizes), ListOf(&self.hashes))
+    }
+}
+
+impl Decodable for NewPooledTransactionHashes {
+    ghost reading = { new_pooled_transaction_hashes.reading };
+
+    fn decode(alloc: Global, rlp: &Rlp<'_>) -> Result<NewPooledTransactionHashes, DecoderError> {
+        rlp::decode_fields!(
+            alloc,
+            rlp,
+            NewPooledTransactionHashes {
+                types,
+                sizes: [..],
+                hashes: [..]
+            }
+        )
+    }
+}
+
+impl DecodePlaced for NewPooledTransactionHashes {
+    fn put_path(alloc: Global, rlp: &Rlp<'_>, path: &mut Vec<usize>) -> Result<(), AllocError> {
+        rlp::put_struct_path!(alloc, rlp, path, Vec<u8>, ListField<u64>, ListField<Hash>)
+    }
+}
+
+impl RoundTrip for NewPooledTransactionHashes {
+    ghost round_trip = { new_pooled_transaction_hashes.reads_back };
+}
+
+impl StrictRead for NewPooledTransactionHashes {
+    ghost strict = { new_pooled_transaction_hashes.reads_strictly };
+}
+
+/// The blocks that a client has, message 0x11 of `eth/69`: the list of its three fields, as in
+/// EIP-7642.
+#[derive(Debug, Clone, Copy, PartialEq, Eq)]
+pub struct BlockRangeUpdate {
+    /// The number of the earliest block that the client has whole.
+    pub earliest_block: u64,
+    /// The number of the latest block.
+    pub latest_block: u64,
+    /// The hash of the latest block.
+    pub latest_block_hash: Hash,
+}
+
+impl Encodable for BlockRangeUpdate {
+    ghost item = { block_range_update.item };
+
+    ghost fits = { block_range_update.Fits };
+
+    fn rlp_append(&self, s: &mut RlpStream) -> Result<(), AllocError> {
+        rlp::append_fields!(
+            s,
+            &self.earliest_block,
+            &self.latest_block,
+            &self.latest_block_hash
+        )
+    }
+}
+
+impl Decodable for BlockRangeUpdate {
+    ghost reading = { block_range_update.reading };
+
+    fn decode(alloc: Global, rlp: &Rlp<'_>) -> Result<BlockRangeUpdate, DecoderError> {
+        rlp::decode_fields!(
+            alloc,
+            rlp,
+            BlockRangeUpdate {
+                earliest_block,
+                latest_block,
+                latest_block_hash
+            }
+        )
+    }
+}
+
+impl DecodePlaced for BlockRangeUpdate {
+    fn put_path(alloc: Global, rlp: &Rlp<'_>, path: &mut Vec<usize>) -> Result<(), AllocError> {
+        rlp::put_struct_path!(alloc, rlp, path, u64, u64, Hash)
+    }
+}
+
+impl RoundTrip for BlockRangeUpdate {
+    ghost round_trip = { block_range_update.reads_back };
+}
+
+impl StrictRead for BlockRangeUpdate {
+    ghost strict = { block_range_update.reads_strictly };
+}
+
+/// A whole block that a client announces, message 0x07 of `eth`: the list of both fields.
+#[derive(Debug, Clone, PartialEq, Eq, Drop)]
+pub struct NewBlock {
+    /// The block.
+    pub block: Block,
+    /// The sum of the difficulties up to this block.
+    pub total_difficulty: Uint<32>,
+}
+
+impl Encodable for NewBlock {
+    ghost item = { new_block.item };
+
+    ghost fits = { new_block.Fits };
+
+    fn rlp_append(&self, s: &mut RlpStream) -> Result<(), AllocError> {
+        rlp::append_fields!(s, &self.block, &self.total_difficulty)
+    }
+}
+
+impl Decodable for NewBlock {
+    ghost reading = { new_block.reading };
+
+    fn decode(alloc: Global, rlp: &Rlp<'_>) -> Result<NewBlock, DecoderError> {
+        rlp::decode_fields!(
+            alloc,
+            rlp,
+            NewBlock {
+                block,
+                total_difficulty
+            }
+        )
+    }
+}
+
+impl DecodePlaced for NewBlock {
+    fn put_path(alloc: Global, rlp: &Rlp<'_>, path: &mut Vec<usize>) -> Result<(), AllocError> {
+        rlp::put_struct_path!(alloc, rlp, path, Block, Uint<32>)
+    }
+}
+
+impl RoundTrip for NewBlock {
+    ghost round_trip = { new_block.reads_back };
+}
+
+impl StrictRead for NewBlock {
+    ghost strict = { new_block.reads_strictly };
+}
+
+/// Transactions that a client sends to others, message 0x02 of `eth`: the list of them, each as in a
+/// block. EIP-4844 forbids to send blob transactions in this message; this type doesn't check that.
+#[derive(Debug, Clone, PartialEq, Eq, Drop)]
+pub struct Transactions(pub Vec<AnyTransaction>);
+
+impl Encodable for Transactions {
+    ghost item = { transactions.item };
+
+    ghost fits = { transactions.Fits };
+
+    fn rlp_append(&self, s: &mut RlpStream) -> Result<(), AllocError> {
+        rlp::append_fields!(s, Each(&self.0))
+    }
+}
+
+impl Decodable for Transactions {
+    ghost reading = { transactions.reading };
+
+    fn decode(alloc: Global, rlp: &Rlp<'_>) -> Result<Transactions, DecoderError> {
+        let transactions = rlp.as_list(alloc)?;
+        Ok(Transactions(transactions))
+    }
+}
+
+impl DecodePlaced for Transactions {
+    fn put_path(alloc: Global, rlp: &Rlp<'_>, path: &mut Vec<usize>) -> Result<(), AllocError> {
+        put_list_path::<AnyTransaction>(alloc, rlp, path)
+    }
+}
+
+impl RoundTrip for Transactions {
+    ghost round_trip = { transactions.reads_back };
+}
+
+impl StrictRead for Transactions {
+    ghost strict = { transactions.reads_strictly };
+}

@@ -1,0 +1,146 @@
+//! Receipts of blocks since `eth/69`, as clients send them to each other.
+
+ghost use Rattle.rlp_messages.specs.Eth.Receipts69.{block_receipts69, receipt69, receipts69};
+
+use rlp::{
+    Decodable, DecodePlaced, DecoderError, Each, Encodable, ListField, ListOf, Rlp, RlpStream,
+    RoundTrip, StrictRead, put_list_path,
+};
+use rlp_headers::{Log, ReceiptStatus};
+use std::alloc::{AllocError, Global};
+
+/// A receipt since `eth/69`: the list of its four fields, as in EIP-7642. It has no filter of logs,
+/// and its type is its first field.
+#[derive(Debug, Clone, PartialEq, Eq, Drop)]
+pub struct Receipt69 {
+    /// The type of the transaction, and 0 for a legacy one. This type allows any number of one byte.
+    pub transaction_type: u8,
+    /// The status or the root of the state, as in a [`Receipt`](rlp_headers::Receipt).
+    pub status_or_state_root: ReceiptStatus,
+    /// The gas that this transaction and those before it in the block used.
+    pub cumulative_gas_used: u64,
+    /// The logs that the transaction emitted, in order.
+    pub logs: Vec<Log>,
+}
+
+impl Encodable for Receipt69 {
+    ghost item = { receipt69.item };
+
+    ghost fits = { receipt69.Fits };
+
+    fn rlp_append(&self, s: &mut RlpStream) -> Result<(), AllocError> {
+        rlp::append_fields!(
+            s,
+            &self.transaction_type,
+            &self.status_or_state_root,
+            &self.cumulative_gas_used,
+            ListOf(&self.logs)
+        )
+    }
+}
+
+impl Decodable for Receipt69 {
+    ghost reading = { receipt69.reading };
+
+    fn decode(alloc: Global, rlp: &Rlp<'_>) -> Result<Receipt69, DecoderError> {
+        rlp::decode_fields!(
+            alloc,
+            rlp,
+            Receipt69 {
+                transaction_type,
+                status_or_state_root,
+                cumulative_gas_used,
+                logs: [..]
+            }
+        )
+    }
+}
+
+impl DecodePlaced for Receipt69 {
+    fn put_path(alloc: Global, rlp: &Rlp<'_>, path: &mut Vec<usize>) -> Result<(), AllocError> {
+        rlp::put_struct_path!(alloc, rlp, path, u8, ReceiptStatus, u64, ListField<Log>)
+    }
+}
+
+impl RoundTrip for Receipt69 {
+    ghost round_trip = { receipt69.reads_back };
+}
+
+impl StrictRead for Receipt69 {
+    ghost strict = { receipt69.reads_strictly };
+}
+
+/// The receipts of the transactions of a block since `eth/69`, in their order: the list of them.
+#[derive(Debug, Clone, PartialEq, Eq, Drop)]
+pub struct BlockReceipts69(pub Vec<Receipt69>);
+
+impl Encodable for BlockReceipts69 {
+    ghost item = { block_receipts69.item };
+
+    ghost fits = { block_receipts69.Fits };
+
+    fn rlp_append(&self, s: &mut RlpStream) -> Result<(), AllocError> {
+        rlp::append_fields!(s, Each(&self.0))
+    }
+}
+
+impl Decodable for BlockReceipts69 {
+    ghost reading = { block_receipts69.reading };
+
+    fn decode(alloc: Global, rlp: &Rlp<'_>) -> Result<BlockReceipts69, DecoderError> {
+        let receipts = rlp.as_list(alloc)?;
+        Ok(BlockReceipts69(receipts))
+    }
+}
+
+impl DecodePlaced for BlockReceipts69 {
+    fn put_path(alloc: Global, rlp: &Rlp<'_>, path: &mut Vec<usize>) -> Result<(), AllocError> {
+        put_list_path::<Receipt69>(alloc, rlp, path)
+    }
+}
+
+impl RoundTrip for BlockReceipts69 {
+    ghost round_trip = { block_receipts69.reads_back };
+}
+
+impl StrictRead for BlockReceipts69 {
+    ghost strict = { block_receipts69.reads_strictly };
+}
+
+/// The answer to [`GetReceipts`](crate::GetReceipts), in message 0x10 of `eth/69`: the list of the
+/// receipts of each block, as in EIP-7642.
+#[derive(Debug, Clone, PartialEq, Eq, Drop)]
+pub struct Receipts69(pub Vec<BlockReceipts69>);
+
+impl Encodable for Receipts69 {
+    ghost item = { receipts69.item };
+
+    ghost fits = { receipts69.Fits };
+
+    fn rlp_append(&self, s: &mut RlpStream) -> Result<(), AllocError> {
+        rlp::append_fields!(s, Each(&self.0))
+    }
+}
+
+impl Decodable for Receipts69 {
+    ghost reading = { receipts69.reading };
+
+    fn decode(alloc: Global, rlp: &Rlp<'_>) -> Result<Receipts69, DecoderError> {
+        let blocks = rlp.as_list(alloc)?;
+        Ok(Receipts69(blocks))
+    }
+}
+
+impl DecodePlaced for Receipts69 {
+    fn put_path(alloc: Global, rlp: &Rlp<'_>, path: &mut Vec<usize>) -> Result<(), AllocError> {
+        put_list_path::<BlockReceipts69>(alloc, rlp, path)
+    }
+}
+
+impl RoundTrip for Receipts69 {
+    ghost round_trip = { receipts69.reads_back };
+}
+
+impl StrictRead for Receipts69 {
+    ghost strict = { receipts69.reads_strictly };
+}

@@ -1,0 +1,135 @@
+//! Messages of a capability, with their ids: the encoding of the id, and then the encoding of the
+//! body.
+
+ghost use Rattle.std.specs.Prelude.{◌≡◌, ◌⊎◌, Err, IfErr, IfOk, None, Ok, OnErr, OnOk, Some};
+ghost use Rattle.rlp.specs.DecoderError.TheVariants.{OutOfMemory};
+ghost use Rattle.rlp.specs.Form.{fault_of};
+ghost use Rattle.rlp.specs.Streams.Growth.{GrowsTo};
+ghost use Rattle.rlp.specs.Streams.Stream.{MovedGrows, put_item};
+ghost use Rattle.rlp_messages.specs.Bounds.{IsWithin, body_fault, message_at_most, message_fault};
+ghost use Rattle.rlp_messages.specs.Message.{Fits, Table, bytes_of, item_of, message_of, number_of, read_of, seen_of};
+
+use crate::{MessageBounds, Numbered};
+use bytes::BytesMut;
+use rlp::{DecoderError, Encodable, RlpStream};
+use std::alloc::{AllocError, Global};
+
+/// A message of any number of a capability, such as [`Eth69Message`](crate::Eth69Message). A message
+/// is written as its id, which is the number after the capability's offset, and its body.
+///
+/// An implementation says by `table` which bodies there are, with their numbers: `and_message` and
+/// `last_message` make it of the codecs of the bodies. Its three functions go by the number or the
+/// body of a message. The functions for whole messages are provided.
+pub trait Message: Sized + Drop {
+    /// The messages of the capability.
+    ghost table: { Table Self };
+
+    /// Returns the number of the message within the capability.
+    fn number(&self) -> u8
+        ensures { result ≡ number_of table self.now };
+
+    /// Writes the body of the message into a stream, as [`Encodable::rlp_append`] writes a value.
+    fn append_body(&self, s: &mut RlpStream) -> Result<(), AllocError>
+        ensures fits { OnOk result (Fits table self.now) }
+        ensures ok { OnOk result (s.new.state ≡ put_item (item_of table self.now) s.old.state) }
+        ensures refused { OnErr result (GrowsTo s.old.state s.new.state) }
+        ensures moved { MovedGrows s.old s.new };
+
+    /// Reads the body of a message by its number, with at most this number of items if there is one.
+    /// Implementations are a call of [`decode_numbered`](crate::decode_numbered).
+    ///
+    /// Fails with `Custom("unknown message")` for a number without a message, and else as
+    /// [`decode_within`](crate::decode_within) does.
+    fn decode_body(
+        alloc: Global,
+        message: &Numbered<'_>,
+        most: Option<usize>,
+    ) -> Result<Self, DecoderError>
+        ensures value { IfOk result (λ m.
+            (read_of table message.now.number message.now.body.now).result ≡ Ok (seen_of table m)) }
+        ensures within { OnOk result
+            (body_fault table most message.now.number message.now.body.now ≡ None) }
+        ensures fault { IfErr result
+            (λ e. (body_fault table most message.now.number message.now.body.now ≡ Some (fault_of e))
+            ⊎ ((body_fault table most message.now.number message.now.body.now ≡ None)
+            × (((read_of table message.now.number message.now.body.now).result ≡ Err (fault_of e))
+            ⊎ (e ≡ OutOfMemory)))) };
+
+    /// Returns the bytes of the message: the encoding of its id, which is the number after the
+    /// offset, and the encoding of its body. RLPx compresses the body, unless it is of a
+    /// [`Hello`](crate::Hello), and sends both in a frame; this crate does neither.
+    final fn to_message(&self, alloc: Global, offset: u8) -> Result<BytesMut, AllocError>
+        ensures fits { OnOk result (Fits table self.now) }
+        ensures bytes { IfOk result (λ b. b.items ≡ bytes_of table offset self.now) }
+    {
+        let id = u64::from(offset) + u64::from(self.number());
+        let mut s = RlpStream::new_with_buffer(alloc, rlp::encode(alloc, &id)?);
+        s.append(&Body(self))?;
+        Ok(s.out())
+    }
+
+    /// Reads a message strictly from its bytes, as [`Message::to_message`] returns them. For such
+    /// bytes it fails only if memory runs out.
+    ///
+    /// Fails as reading a `u64` does if the bytes begin with no id, with `Custom("unknown message")`
+    /// for an id below the offset or without a message, and else with the strict fault of the body.
+    final fn from_message(alloc: Global, offset: u8, bytes: &[u8]) -> Result<Self, DecoderError>
+        ensures whole { IfOk result (λ m. Fits table m × (bytes.now ≡ bytes_of table offset m)) }
+        ensures value { IfOk result
+            (λ m. (message_of table offset bytes.now).result ≡ Ok (seen_of table m)) }
+        ensures fault { IfErr result
+            (λ e. ((message_of table offset bytes.now).result ≡ Err (fault_of e)) ⊎ (e ≡ OutOfMemory)) }
+        ensures memory { (m : Self) → Fits table m → bytes.now ≡ bytes_of table offset m
+            → IfErr result (λ e. e ≡ OutOfMemory) }
+    {
+        match Numbered::of(alloc, offset, bytes) {
+            Ok(message) => Self::decode_body(alloc, &message, None),
+            Err(fault) => Err(fault),
+        }
+    }
+
+    /// Reads a message as [`Message::from_message`] does, if its bytes are within the bounds. It
+    /// doesn't allocate for bytes that this refuses.
+    ///
+    /// Fails with `Custom("too many bytes")` for more bytes than the bound, then by the id as
+    /// [`Message::from_message`] does, then by the body as `decode_at_most` of `rlp_records` does, as
+    /// with `Custom("too many items")`, and else with the strict fault of the body. For the bytes of
+    /// a message within the bounds it fails only if memory runs out.
+    final fn from_message_at_most(
+        alloc: Global,
+        offset: u8,
+        bytes: &[u8],
+        most: MessageBounds,
+    ) -> Result<Self, DecoderError>
+        ensures whole { IfOk result (λ m. Fits table m × (bytes.now ≡ bytes_of table offset m)) }
+        ensures value { IfOk result
+            (λ m. (message_at_most table offset most bytes.now).result ≡ Ok (seen_of table m)) }
+        ensures fault { IfErr result
+            (λ e. ((message_at_most table offset most bytes.now).result ≡ Err (fault_of e))
+            ⊎ ((message_fault table offset most bytes.now ≡ None) × (e ≡ OutOfMemory))) }
+        ensures memory { (m : Self) → Fits table m → bytes.now ≡ bytes_of table offset m
+            → IsWithin most bytes.now (item_of table m) → IfErr result (λ e. e ≡ OutOfMemory) }
+    {
+        if bytes.len() > most.bytes {
+            return Err(DecoderError::Custom("too many bytes"));
+        }
+        match Numbered::of(alloc, offset, bytes) {
+            Ok(message) => Self::decode_body(alloc, &message, Some(most.items)),
+            Err(fault) => Err(fault),
+        }
+    }
+}
+
+// The body of a message, which is written as a value is.
+#[derive(Drop)]
+struct Body<'a, M>(&'a M);
+
+impl<M: Message> Encodable for Body<'_, M> {
+    ghost item = { λ b. item_of M.table b.0.now };
+
+    ghost fits = { λ b. Fits M.table b.0.now };
+
+    fn rlp_append(&self, s: &mut RlpStream) -> Result<(), AllocError> {
+        self.0.append_body(s)
+    }
+}

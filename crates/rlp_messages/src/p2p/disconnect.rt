@@ -1,0 +1,200 @@
+//! The end of a connection of the capability `p2p` of RLPx.
+
+ghost use Rattle.std.specs.Prelude.{◌≡◌};
+ghost use Rattle.rlp_messages.specs.P2p.Disconnect.{NamedIfPossible, disconnect, reason, reason_number, told_reason};
+
+use rlp::{
+    Decodable, DecodePlaced, DecoderError, Encodable, Rlp, RlpStream, RoundTrip, StrictRead,
+};
+use std::alloc::{AllocError, Global};
+
+/// Why a client ends a connection: a number of one byte, by its name in RLPx.
+#[derive(Debug, Clone, Copy, PartialEq, Eq)]
+pub enum DisconnectReason {
+    /// 0x00: the end was requested.
+    Requested,
+    /// 0x01: an error of the connection below, of TCP.
+    TcpError,
+    /// 0x02: the other client broke the protocol, as by a message that can't be read.
+    ProtocolBreach,
+    /// 0x03: the other client is of no use.
+    UselessPeer,
+    /// 0x04: the client has too many peers.
+    TooManyPeers,
+    /// 0x05: the clients are connected already.
+    AlreadyConnected,
+    /// 0x06: the versions of `p2p` don't fit together.
+    IncompatibleVersion,
+    /// 0x07: the other client has no identity.
+    NullIdentity,
+    /// 0x08: the client ends.
+    ClientQuitting,
+    /// 0x09: the identity isn't the one that was expected.
+    UnexpectedIdentity,
+    /// 0x0a: the client is connected to itself.
+    OwnIdentity,
+    /// 0x0b: a [`Ping`](crate::Ping) had no answer in time.
+    PingTimeout,
+    /// 0x10: a reason of another protocol on this connection.
+    SubprotocolError,
+    /// A number that has no name.
+    Other(u8),
+}
+
+impl DisconnectReason {
+    /// Returns the reason with this number. It is `Other` only for a number that has no name.
+    pub fn of(number: u8) -> DisconnectReason
+        ensures number { reason_number result ≡ number }
+        ensures name { NamedIfPossible result }
+    {
+        match number {
+            0x00 => DisconnectReason::Requested,
+            0x01 => DisconnectReason::TcpError,
+            0x02 => DisconnectReason::ProtocolBreach,
+            0x03 => DisconnectReason::UselessPeer,
+            0x04 => DisconnectReason::TooManyPeers,
+            0x05 => DisconnectReason::AlreadyConnected,
+            0x06 => DisconnectReason::IncompatibleVersion,
+            0x07 => DisconnectReason::NullIdentity,
+            0x08 => DisconnectReason::ClientQuitting,
+            0x09 => DisconnectReason::UnexpectedIdentity,
+            0x0a => DisconnectReason::OwnIdentity,
+            0x0b => DisconnectReason::PingTimeout,
+            0x10 => DisconnectReason::SubprotocolError,
+            other => DisconnectReason::Other(other),
+        }
+    }
+
+    /// Returns the number of the reason.
+    pub fn number(self) -> u8
+        ensures { result ≡ reason_number self }
+    {
+        match self {
+            DisconnectReason::Requested => 0x00,
+            DisconnectReason::TcpError => 0x01,
+            DisconnectReason::ProtocolBreach => 0x02,
+            DisconnectReason::UselessPeer => 0x03,
+            DisconnectReason::TooManyPeers => 0x04,
+            DisconnectReason::AlreadyConnected => 0x05,
+            DisconnectReason::IncompatibleVersion => 0x06,
+            DisconnectReason::NullIdentity => 0x07,
+            DisconnectReason::ClientQuitting => 0x08,
+            DisconnectReason::UnexpectedIdentity => 0x09,
+            DisconnectReason::OwnIdentity => 0x0a,
+            DisconnectReason::PingTimeout => 0x0b,
+            DisconnectReason::SubprotocolError => 0x10,
+            DisconnectReason::Other(number) => number,
+        }
+    }
+}
+
+/// Written as its number is.
+impl Encodable for DisconnectReason {
+    ghost item = { reason.item };
+
+    ghost fits = { reason.Fits };
+
+    fn rlp_append(&self, s: &mut RlpStream) -> Result<(), AllocError> {
+        self.number().rlp_append(s)
+    }
+}
+
+/// Read as its number is. It doesn't allocate.
+impl Decodable for DisconnectReason {
+    ghost reading = { reason.reading };
+
+    fn decode(alloc: Global, rlp: &Rlp<'_>) -> Result<DisconnectReason, DecoderError> {
+        let number = rlp.as_val(alloc)?;
+        Ok(DisconnectReason::of(number))
+    }
+}
+
+impl DecodePlaced for DisconnectReason {
+    fn put_path(_alloc: Global, _rlp: &Rlp<'_>, _path: &mut Vec<usize>) -> Result<(), AllocError> {
+        Ok(())
+    }
+}
+
+impl RoundTrip for DisconnectReason {
+    ghost round_trip = { reason.reads_back };
+}
+
+impl StrictRead for DisconnectReason {
+    ghost strict = { reason.reads_strictly };
+}
+
+/// The last message of a connection, 0x01 of `p2p`, in one of two forms.
+///
+/// RLPx says that it is the list of the reason. Some clients send the reason alone.
+///
+/// The reason 0 is the empty string, `80`. Reading fails for the string of the byte 0, `00`, alone or
+/// in a list (`c100`), and for a list with items after the reason, though some clients read these.
+#[derive(Debug, Clone, Copy, PartialEq, Eq)]
+pub enum Disconnect {
+    /// The list of the reason.
+    Listed(DisconnectReason),
+    /// The reason alone.
+    Bare(DisconnectReason),
+}
+
+impl Disconnect {
+    /// Returns the reason, in either form.
+    pub fn reason(self) -> DisconnectReason
+        ensures { result ≡ told_reason self }
+    {
+        match self {
+            Disconnect::Listed(reason) => reason,
+            Disconnect::Bare(reason) => reason,
+        }
+    }
+}
+
+impl Encodable for Disconnect {
+    ghost item = { disconnect.item };
+
+    ghost fits = { disconnect.Fits };
+
+    fn rlp_append(&self, s: &mut RlpStream) -> Result<(), AllocError> {
+        match self {
+            Disconnect::Listed(reason) => rlp::append_fields!(s, reason),
+            Disconnect::Bare(reason) => reason.rlp_append(s),
+        }
+    }
+}
+
+/// Reading a list fails as reading a struct of one field does, and else as reading a number does.
+impl Decodable for Disconnect {
+    ghost reading = { disconnect.reading };
+
+    fn decode(alloc: Global, rlp: &Rlp<'_>) -> Result<Disconnect, DecoderError> {
+        if rlp.is_list() {
+            return match rlp::decode_struct(alloc, rlp) {
+                Ok(fields) => {
+                    let (reason, no_more) = fields;
+                    let () = no_more;
+                    Ok(Disconnect::Listed(reason))
+                }
+                Err(fault) => Err(fault.fault),
+            };
+        }
+        let reason = rlp.as_val(alloc)?;
+        Ok(Disconnect::Bare(reason))
+    }
+}
+
+impl DecodePlaced for Disconnect {
+    fn put_path(alloc: Global, rlp: &Rlp<'_>, path: &mut Vec<usize>) -> Result<(), AllocError> {
+        if rlp.is_list() {
+            return rlp::put_struct_path!(alloc, rlp, path, DisconnectReason);
+        }
+        DisconnectReason::put_path(alloc, rlp, path)
+    }
+}
+
+impl RoundTrip for Disconnect {
+    ghost round_trip = { disconnect.reads_back };
+}
+
+impl StrictRead for Disconnect {
+    ghost strict = { disconnect.reads_strictly };
+}

@@ -1,0 +1,29 @@
+-- How values of the types of EIP-2718 are written and read, also of types that aren't known.
+use Rattle.std.specs.Prelude.{ℕ, ◌≡◌, ◌⊎◌, List}
+use Rattle.std.proofs.Common.{inl, inr}
+use Rattle.rlp.specs.Codec.{Codec, newtype}
+use Rattle.rlp_codec.specs.Form.{Answer, Fault}
+use Rattle.rlp_records.specs.Eip2718.{TypedSum, type_of, typed, typed_alone}
+use Rattle.rlp_records.specs.OtherEnvelope.{other_type}
+use Rattle.rlp_records.specs.OtherStrings.{is_known, kept, kept_alone, known_apart}
+use Rattle.rlp_records.specs.declared.known_or_other.KnownOrOther.{KnownOrOther}
+use Rattle.rlp_records.specs.declared.known_or_other.KnownOrOther.TheVariants.{Known, Other}
+
+-- the value, or the bytes of another type
+abbrev pub value_or_bytes : {A : Type 0} → KnownOrOther A → A ⊎ List ℕ
+value_or_bytes (Known x) = inl x
+value_or_bytes (Other d) = inr d
+
+-- a value of a type that is known, or the string "TransactionType || TransactionPayload" of another type
+abbrev pub with_others : {A : Type 0} → TypedSum A → Codec (KnownOrOther A)
+with_others t = newtype value_or_bytes
+    (kept (typed t) (λ x. known_apart t.legacy.item t.numbered.cases t.lists (λ y. is_known (t.numbered.cases.tag y) (t.known y)) (t.as_sum x)))
+
+-- what bytes give by themselves: the bytes of another type are a value as they are
+abbrev pub any_alone : {A : Type 0} (t : TypedSum A) → List ℕ → Answer (with_others t).reading.M Fault
+any_alone t = kept_alone (typed_alone t)
+
+-- the number of the type, and 0 without one
+abbrev pub any_type : {A : Type 0} → TypedSum A → KnownOrOther A → ℕ
+any_type t (Known x) = type_of t x
+any_type t (Other d) = other_type d
