@@ -19,6 +19,11 @@ def uses_of(lines):
     return {name: [other for other in line.split(":")[1].split() if other in lines] for name, line in lines.items()}
 
 
+def crates():
+    """The crates of this repository, each with those that it uses, in the order of `crates.txt`."""
+    return uses_of(lines_of(ROOT / "crates.txt"))
+
+
 def needed(names, uses):
     """These crates and all that they use, in the order of the lines."""
     found, left = set(), list(names)
@@ -30,6 +35,16 @@ def needed(names, uses):
     return [name for name in uses if name in found]
 
 
+def lowest_first(names, uses):
+    """These crates and all that they use, each behind those that it uses."""
+    return sorted(needed(names, uses), key=lambda name: len(needed([name], uses)))
+
+
+def below(crate, uses):
+    """All that a crate uses."""
+    return [name for name in needed([crate], uses) if name != crate]
+
+
 def product_of(crate):
     """The program or the static library that a crate is built to, or `None` for another library."""
     out = ROOT / "crates" / crate / "out"
@@ -39,13 +54,12 @@ def product_of(crate):
     return out / f"lib{crate}.a" if is_static else None
 
 
-def is_built(crate):
-    """Whether the product of a crate is there, and no source of a crate that it stands on is newer."""
-    product = product_of(crate)
+def is_built(crate, product=None):
+    """Whether the product of a crate is there, or another file of it, and no source of a crate that it stands on is newer."""
+    product = product or product_of(crate)
     if not product or not product.exists():
         return False
-    crates = needed([crate], uses_of(lines_of(ROOT / "crates.txt")))
-    folders = [ROOT / "crates" / name / part for name in crates for part in ("src", "specs")]
+    folders = [ROOT / "crates" / name / part for name in needed([crate], crates()) for part in ("src", "specs")]
     return not any(is_newer(folder, product.stat().st_mtime) for folder in folders)
 
 
@@ -57,19 +71,25 @@ def is_newer(folder, time):
     return False
 
 
+def measured(name):
+    """What `tools/bench/run` wrote to a file: what is told of the run, the heads of the columns, and the rows. A file that isn't there has no rows."""
+    file = ROOT / "tools" / "bench" / f"{name}.tsv"
+    lines = file.read_text(encoding="utf-8").splitlines() if file.exists() else []
+    about = dict(line[2:].split("\t") for line in lines if line.startswith("# "))
+    heads, *rows = [line.split("\t") for line in lines if not line.startswith("# ")] or [[]]
+    return about, heads, rows
+
+
 def costs(names):
-    """The processor seconds and the MB of memory of each crate's first proof, as `bench/run gate` measured them. A crate that it hasn't measured counts as the mean."""
-    lines = (ROOT / "bench" / "gate.tsv").read_text(encoding="utf-8").splitlines()
-    rows = [line.split("\t") for line in lines if "\tproof\t" in line]
-    found = {crate: (int(seconds), int(memory)) for crate, _, _, _, seconds, memory in rows}
-    mean = tuple(sum(one) // len(found) for one in zip(*found.values()))
+    """The processor seconds and the MB of memory of each crate's first proof, as `tools/bench/run gate` measured them. A crate that it hasn't measured counts as the mean."""
+    found = {crate: (int(seconds), int(memory)) for crate, part, _, _, seconds, memory in measured("gate")[2] if part == "proof"}
+    mean = tuple(sum(one) // len(found) for one in zip(*found.values())) or (0, 0)
     return {name: found.get(name, mean) for name in names}
 
 
 def measured_on():
     """The machine on which that was measured."""
-    lines = (ROOT / "bench" / "gate.tsv").read_text(encoding="utf-8").splitlines()
-    return next(line.split("\t")[1] for line in lines if line.startswith("# machine"))
+    return measured("gate")[0].get("machine", "a machine that isn't named")
 
 
 def places():
@@ -86,5 +106,4 @@ def minutes(seconds, jobs):
 
 def minutes_to_build(crate):
     """How long it takes to prove and build a crate and all that it uses, from nothing on this machine."""
-    crates = needed([crate], uses_of(lines_of(ROOT / "crates.txt")))
-    return minutes(sum(seconds for seconds, _ in costs(crates).values()), places())
+    return minutes(sum(seconds for seconds, _ in costs(needed([crate], crates())).values()), places())

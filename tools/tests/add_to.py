@@ -7,7 +7,7 @@ import shutil
 from scratch import ROOT, Scratch, contents, text_of
 
 SCRIPT = ROOT / "tools" / "add-to"
-RLP = ["rlp_format", "rlp_write", "rlp_reading", "rlp_codec", "rlp"]
+RLP = ["rlp_format", "rlp_write", "rlp_reading", "rlp"]
 
 
 def lines_here():
@@ -69,7 +69,7 @@ class AddTo(Scratch):
         self.write("crates.txt", "app: rlp_format\n")
         self.write("app/src/main.rt")
         self.passes(SCRIPT, ".", "rlp_format")
-        self.assertEqual(self.lines(), ["rlp_format:", "app: rlp_format"])
+        self.assertEqual(self.lines(), ["rlp_format: hex", "app: rlp_format"])
         self.assertTrue((self.folder / "rlp_format/src/lib.rt").exists())
 
     def test_another_crate_of_the_name(self):
@@ -90,11 +90,11 @@ class AddTo(Scratch):
         self.assertIn("app: hex rlp # mine", self.lines())
 
     def test_cost_that_is_told(self):
-        rows = [line.split("\t") for line in text_of(ROOT / "bench" / "gate.tsv").splitlines() if "\tproof\t" in line]
+        rows = [line.split("\t") for line in text_of(ROOT / "tools" / "bench" / "gate.tsv").splitlines() if "\tproof\t" in line]
         seconds, memory = {row[0]: int(row[4]) for row in rows}, {row[0]: int(row[5]) for row in rows}
-        said = self.passes(SCRIPT, ".", "keccak")
-        self.assertIn(f"about {seconds['keccak'] / 60:.0f} minutes", said)
-        self.assertIn(f"up to {memory['keccak'] / 1000:.1f} GB", said)
+        said = self.passes(SCRIPT, ".", "rlp_format")
+        self.assertIn(f"about {seconds['rlp_format'] / 60:.0f} minutes", said)
+        self.assertIn(f"up to {memory['rlp_format'] / 1000:.1f} GB", said)
         self.assertIn("run `rt all check` in .", said)
 
     def test_page(self):
@@ -136,7 +136,7 @@ class AddTo(Scratch):
         shutil.rmtree(self.crate("rlp_reading"))
         self.write("crates.txt", text_of(self.folder / "crates.txt").replace(f"{lines_here()['rlp_reading']}\n", ""))
         self.passes(SCRIPT, "--update", ".")
-        self.assertEqual(self.lines().index(lines_here()["rlp_reading"]), 4)
+        self.assertEqual(self.lines().index(lines_here()["rlp_reading"]), 3)
         self.assertEqual({path: content for path, content in contents(self.folder).items() if path != "crates.txt"}, {path: content for path, content in wanted.items() if path != "crates.txt"})
 
     def test_update_keeps_the_crates_of_others(self):
@@ -167,8 +167,8 @@ class AddTo(Scratch):
 
     def test_update_of_a_changed_line(self):
         self.passes(SCRIPT, ".")
-        self.write("crates.txt", text_of(self.folder / "crates.txt").replace("rlp_reading: rlp_format", "rlp_reading: rlp_format hex"))
-        self.assertIn("the line `rlp_reading: rlp_format hex` isn't as it was added", self.refuses("--update", "."))
+        self.write("crates.txt", text_of(self.folder / "crates.txt").replace("rlp_reading: rlp_format", "rlp_reading: rlp_format bytes"))
+        self.assertIn("the line `rlp_reading: rlp_format bytes hex` isn't as it was added", self.refuses("--update", "."))
 
     def test_update_of_a_copy_without_checksums(self):
         self.passes(SCRIPT, ".")

@@ -156,8 +156,7 @@ class Real(Scratch):
     """A small program by the `rt try` of the kit."""
 
     def test_small_program(self):
-        shutil.copytree(ROOT / "tools", self.folder / "tools", ignore=shutil.ignore_patterns("tests"))
-        shutil.copytree(ROOT / "bench", self.folder / "bench", ignore=shutil.ignore_patterns("rust"))
+        self.copy_tools()
         self.write("crates.txt", "rlp_tool_main:\n")
         self.write("crates/rlp_tool_main/src/main.rt", ECHO)
         ran = self.run_script("tools/run", "rlp_tool", input=b"c0\n" * 1000, timeout=300)

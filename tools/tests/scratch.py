@@ -36,6 +36,11 @@ class Scratch(unittest.TestCase):
         file.chmod(mode)
         return file
 
+    def copy_tools(self):
+        """Copies the scripts of `tools/` that run and build the programs, and what was measured of the crates."""
+        shutil.copytree(ROOT / "tools", self.folder / "tools", ignore=lambda folder, names: [name for name in names if pathlib.Path(folder, name).is_dir()])
+        self.write("tools/bench/gate.tsv", text_of(ROOT / "tools" / "bench" / "gate.tsv"))
+
     def run_script(self, *words, **how):
         """Runs a script in the folder, and returns how that went."""
         how = {"stdin": subprocess.DEVNULL, **how} if "input" not in how else how

@@ -44,7 +44,7 @@ class StandIn(Scratch):
 
     def setUp(self):
         super().setUp()
-        shutil.copytree(ROOT / "tools", self.folder / "tools", ignore=shutil.ignore_patterns("tests"))
+        self.copy_tools()
         for script in ("rlp_tool", "rlp_show"):
             shutil.copy2(ROOT / script, self.folder / script)
         self.write("crates.txt", CRATES)
@@ -52,7 +52,6 @@ class StandIn(Scratch):
             self.write(f"crates/{name}/src/lib.rt")
         for name in ("rlp_tool_main", "rlp_show_main"):
             self.write(f"crates/{name}/src/main.rt")
-        shutil.copytree(ROOT / "bench", self.folder / "bench", ignore=shutil.ignore_patterns("rust"))
         self.write("crates/low/specs/Lib.antt")
         self.notes = self.folder / "notes"
         self.write("bin/rt", RT, 0o755)

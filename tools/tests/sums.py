@@ -1,4 +1,4 @@
-"""Tests that `bench/library.py` refuses operations whose results differ."""
+"""Tests that `tools/bench/library.py` refuses operations whose results differ."""
 
 from scratch import ROOT, Scratch
 
@@ -9,7 +9,7 @@ class Sums(Scratch):
     def test_sums_that_differ(self):
         for name, total in (("one", 1), ("other", 2)):
             self.write(name, f"#!/bin/sh\necho {total}\n", 0o755)
-        script = ("python3", "-B", ROOT / "bench" / "library.py", "./one", "--against", "./other", "--write", "times.tsv", "kinds")
+        script = ("python3", "-B", ROOT / "tools" / "bench" / "library.py", "./one", "--against", "./other", "--write", "times.tsv", "kinds")
         ran = self.run_script(*script)
         self.assertEqual(ran.returncode, 1)
         self.assertIn("refused: the sums of the results are 1 and 2", ran.stdout.decode())

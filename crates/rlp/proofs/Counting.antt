@@ -1,17 +1,13 @@
 -- What a struct gives, by the number of items that a view has.
 use Rattle.std.proofs.Common.{◌≡◌, ◌≢◌, ℕ, ◌-◌, true, false, List, [], ◌∷◌, length, None, Some, Result, Ok, Err, IfOk, arith, refl, sym, ap, subst, ◌∙◌}
-use Rattle.std.specs.List.{slice_get}
 use Rattle.std.proofs.lemmas.List.{length-map}
-use Rattle.rlp_reading.specs.declared.error.DecoderError.{DecoderError}
-use Rattle.rlp_reading.specs.declared.error.DecoderError.TheVariants.{RlpIncorrectListLen}
-use Rattle.rlp_reading.specs.Format.Framing.{items}
-use Rattle.rlp_reading.specs.Views.View.{View, item_count, item_views}
-use Rattle.rlp_reading.proofs.Lemmas.Numbered.{item_count-told}
-use Rattle.rlp_reading.proofs.Views.InOrder.{counted_told}
-use Rattle.rlp_codec.specs.Form.{Fault, Faults, FieldsReading, Gives, Path, all_taken, and_then, fault_of, incorrect_list_len, items_of, map_value, path_by, read_struct, seen_fault, struct_reading, take_all}
-use Rattle.rlp_codec.specs.Laws.{TakePossible}
-use Rattle.rlp_codec.proofs.ListLaws.{items_told}
-use Rattle.rlp_codec.proofs.StructLaws.{other_number, struct_given, this_number}
+use Rattle.std.specs.List.{slice_get}
+use Rattle.rlp_reading.specs.{declared.error.DecoderError.DecoderError, declared.error.DecoderError.TheVariants.RlpIncorrectListLen}
+use Rattle.rlp_reading.specs.{Format.Framing.items, Views.View.{View, item_count, item_views}}
+use Rattle.rlp_reading.specs.Form.{Fault, Faults, FieldsReading, Gives, Path, all_taken, and_then, fault_of, incorrect_list_len, items_of, map_value, path_by, read_struct, seen_fault, struct_reading, take_all}
+use Rattle.rlp_reading.specs.Laws.{TakePossible}
+use Rattle.rlp_reading.proofs.{Lemmas.Numbered.item_count-told, Views.InOrder.counted_told, ListLaws.items_told}
+use Rattle.rlp_reading.proofs.StructLaws.{other_number, struct_given, this_number}
 use Rattle.rlp.specs.Left.{AreFaulty}
 
 module _ {P : Type 0} (r : FieldsReading P) (v : View) where

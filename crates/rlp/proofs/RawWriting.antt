@@ -1,9 +1,8 @@
 -- What is written for a raw item.
 use Rattle.std.proofs.Common.{◌≡◌, ◌<◌, ◌^◌, ℕ, false, List, length, refl, sym, ap, ◌∙◌}
 use Rattle.rlp_format.specs.Format.Encoding.{Item, is_list, string, list, encoding}
-use Rattle.rlp_reading.specs.Format.Framing.{begins_as_list}
+use Rattle.rlp_reading.specs.{Format.Framing.begins_as_list, Values.RawItem.{IsRawItem, raw_item_of}}
 use Rattle.rlp_write.specs.Streams.Stream.{State, put, put_item}
-use Rattle.rlp_reading.specs.Values.RawItem.{IsRawItem, raw_item_of}
 use Rattle.rlp_reading.proofs.Lemmas.RawItems.{list_by, raw_encoding}
 
 put_string : (x : Item) (s : State) → is_list x ≡ false → put (encoding x) s ≡ put_item x s

@@ -1,17 +1,15 @@
 -- The items of a view, as a reader of items begins with them.
 use Rattle.std.proofs.Common.{◌≡◌, ℕ, ◌≤◌, ◌↔◌, Option, IsTrue, true, false, MatchResult, IfOk, List, [], ◌∷◌, ◌++◌, length, take, drop, map, ◌<◌, ◌^◌, Bool, arith, Result, Ok, Err, None, Some, refl, sym, ap, ◌∙◌}
-use Rattle.std.proofs.lemmas.Bool.{cond-true, cond-false}
-use Rattle.std.proofs.lemmas.List.{length-map}
-use Rattle.rlp_reading.specs.declared.error.DecoderError.{DecoderError}
-use Rattle.rlp_reading.specs.declared.error.DecoderError.TheVariants.{RlpExpectedToBeList}
+use Rattle.std.proofs.{lemmas.Bool.{cond-true, cond-false}, lemmas.List.length-map}
+use Rattle.rlp_reading.specs.{declared.error.DecoderError.DecoderError, declared.error.DecoderError.TheVariants.RlpExpectedToBeList}
 use Rattle.rlp_reading.specs.declared.header.PayloadInfo.{PayloadInfo}
 use Rattle.rlp_reading.specs.Format.Framing.{fault, framing, map_ok, value, begins_as_list, items, payload, payload_in, split, after_items, fault_of_some, strict_fault, strict_list_fault}
-use Rattle.rlp_reading.proofs.Lemmas.Numbered.{item_count-fault, item_count-told, payload-fault, told_begins}
 use Rattle.rlp_reading.specs.Views.View.{View, item_at, item_count, item_views, items_fault, list_fault}
+use Rattle.rlp_reading.specs.Form.{fault_of, items_of, list_of_views, map_value, seen_fault}
+use Rattle.rlp_reading.proofs.Lemmas.Numbered.{item_count-fault, item_count-told, payload-fault, told_begins}
 use Rattle.rlp_reading.proofs.Format.Splits.{length-split, split-nil}
 use Rattle.rlp_reading.proofs.Format.StrictLists.{after_items-next, after_items-nil, after_items-none, strict_counted, strict_not_whole, strict_whole, value-items}
 use Rattle.rlp_reading.proofs.Views.InOrder.{counted_told, framed_place, unframed_place}
-use Rattle.rlp_codec.specs.Form.{fault_of, items_of, list_of_views, map_value, seen_fault}
 use Rattle.rlp.specs.Left.{ItemsLeft, after_next}
 
 no_items : (b : List ℕ) → payload b ≡ [] → items b ≡ []

@@ -1,9 +1,7 @@
 -- The faults of a view whose bytes aren't framed.
 use Rattle.std.proofs.Common.{◌≡◌, ℕ, Bool, true, false, List, Some, Err, ap}
-use Rattle.rlp_reading.specs.declared.error.DecoderError.{DecoderError}
-use Rattle.rlp_reading.specs.Format.Framing.{frame, framing, strict_fault, unless}
-use Rattle.rlp_reading.specs.Values.RawItem.{view_frame}
-use Rattle.rlp_reading.specs.Views.View.{view_header}
+use Rattle.rlp_reading.specs.{declared.error.DecoderError.DecoderError, Format.Framing.{frame, framing, strict_fault, unless}}
+use Rattle.rlp_reading.specs.{Values.RawItem.view_frame, Views.View.view_header}
 use Rattle.rlp_reading.proofs.Views.Fronts.{faulty_front, front_frame_fault}
 
 pub faulty_view : (b : List ℕ) (strict : Bool) (e : DecoderError) → framing b ≡ Err e

@@ -1,20 +1,15 @@
--- Codecs of types: what the traits of a type are given. Each is the form of this name in `rlp_codec`, with the proof of its laws.
-use Rattle.std.specs.Prelude.{ℕ, ◌≡◌, ◌==◌, ◌⊎◌, Bool, true, false, List, Option, Result}
-use Rattle.rlp_format.specs.declared.uint.Uint.{Uint}
-use Rattle.std.specs.Int.Digits.{number_from_digits}
-use Rattle.rlp_format.specs.Format.Encoding.{Item, is_list}
-use Rattle.rlp_codec.specs.Form.{Form, Fault, FieldsForm, FieldsReading, Reading}
-use Rattle.rlp_codec.specs.Form as form
-use Rattle.rlp_codec.specs.Sums.{CasesForm}
-use Rattle.rlp_codec.specs.Sums as sums
-use Rattle.rlp_codec.specs.Laws.{AreLawful, CasesAreLawful, IsLawful, IsReadBack, form_of, fields_of}
-use Rattle.rlp_codec.proofs.StringLaws.{ReadsStrings, array_lawful, bytes_lawful, number_lawful, string_lawful, text_lawful, truth_lawful}
-use Rattle.rlp_codec.proofs.ListLaws.{holding_lawful, list_lawful, newtype_lawful, option_lawful, read_back}
-use Rattle.rlp_codec.proofs.RawLaws.{raw_lawful}
-use Rattle.rlp_codec.proofs.FieldLaws.{each_lawful, end_lawful, field_lawful, group_lawful, optional_group_lawful, optional_lawful}
-use Rattle.rlp_codec.proofs.StructLaws.{struct_lawful}
-use Rattle.rlp_codec.proofs.SumLaws.{and_case_lawful, either_lawful, enveloped_lawful, last_case_lawful, tagged_lawful}
-use Rattle.rlp_codec.proofs.GroupLaws.{groups_lawful}
+-- Codecs of types: what the traits of a type are given. Each is the form of this name in `rlp_reading`, with the proof of its laws.
+use Rattle.std.specs.{Prelude.{ℕ, ◌≡◌, ◌==◌, ◌⊎◌, Bool, true, false, List, Option, Result}, Int.Digits.number_from_digits}
+use Rattle.rlp_format.specs.{declared.uint.Uint.Uint, Format.Encoding.{Item, is_list}}
+use Rattle.rlp_reading.specs.{Form.{Form, Fault, FieldsForm, FieldsReading, Reading}, Sums.CasesForm}
+use Rattle.rlp_reading.specs.Laws.{AreLawful, CasesAreLawful, IsLawful, IsReadBack, form_of, fields_of}
+use Rattle.rlp_reading.specs.Form as form
+use Rattle.rlp_reading.specs.Sums as sums
+use Rattle.rlp_reading.proofs.StringLaws.{ReadsStrings, array_lawful, bytes_lawful, number_lawful, string_lawful, text_lawful, truth_lawful}
+use Rattle.rlp_reading.proofs.{ListLaws.{holding_lawful, list_lawful, newtype_lawful, option_lawful, read_back}, RawLaws.raw_lawful}
+use Rattle.rlp_reading.proofs.FieldLaws.{each_lawful, end_lawful, field_lawful, group_lawful, optional_group_lawful, optional_lawful}
+use Rattle.rlp_reading.proofs.{StructLaws.struct_lawful, SumLaws.{and_case_lawful, either_lawful, enveloped_lawful, last_case_lawful, tagged_lawful}}
+use Rattle.rlp_reading.proofs.GroupLaws.{groups_lawful}
 
 -- How the values of a type are written and read: which values fit, the item of a value, what views give, and the laws: what is written is read back, and a strict
 -- view gives nothing else.

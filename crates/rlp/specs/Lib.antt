@@ -9,15 +9,15 @@ pub use Rattle.rlp_reading.specs.Values
 -- streams: their states, and what each call makes of one
 pub mod Streams
 -- how the values of types are written and read
-pub use Rattle.rlp_codec.specs.Form
+pub use Rattle.rlp_reading.specs.Form
 -- values of several types
-pub use Rattle.rlp_codec.specs.Sums
+pub use Rattle.rlp_reading.specs.Sums
 -- types whose strings are of several kinds
-pub use Rattle.rlp_codec.specs.Kinds
+pub use Rattle.rlp_reading.specs.Kinds
 -- types that are read from a whole item
-pub use Rattle.rlp_codec.specs.FirstItems
+pub use Rattle.rlp_reading.specs.FirstItems
 -- the laws of codecs
-pub use Rattle.rlp_codec.specs.Laws
+pub use Rattle.rlp_reading.specs.Laws
 -- what a reader of items has left
 pub mod Left
 -- the codec of a custom type, from those of its fields, with its laws

@@ -1,13 +1,10 @@
 //! Structs that are read as the list of their fields.
 
-ghost use Rattle.std.specs.Prelude.{◌≡◌, ◌+◌, ◌⊎◌, ◌^◌, Ok, Err, Some, IfOk, IfErr, IsTrue, slice_get};
-ghost use Rattle.std.specs.Vec.{vec_items};
-ghost use Rattle.rlp_reading.specs.declared.error.DecoderError.TheVariants.{OutOfMemory};
-ghost use Rattle.rlp_reading.specs.Values.FaultText.{field_fault_text};
-ghost use Rattle.rlp_reading.specs.Views.View.{item_views};
-ghost use Rattle.rlp_codec.specs.Form.{Faults, FieldsReading, Gives, fault_of, group_before, items_of, list_reading, no_fields, one_field, part_fields, struct_reading};
-ghost use Rattle.rlp_codec.specs.Laws.{TakePossible};
-ghost use Rattle.rlp_codec.proofs.FieldLaws.{end_possible, group_possible, one_wide, part_possible};
+ghost use Rattle.std.specs.{Prelude.{◌≡◌, ◌+◌, ◌⊎◌, ◌^◌, Ok, Err, Some, IfOk, IfErr, IsTrue, slice_get}, Vec.vec_items};
+ghost use Rattle.rlp_reading.specs.{declared.error.DecoderError.TheVariants.OutOfMemory, Values.FaultText.field_fault_text, Views.View.item_views};
+ghost use Rattle.rlp_reading.specs.Form.{Faults, FieldsReading, Gives, fault_of, group_before, items_of, list_reading, no_fields, one_field, part_fields, struct_reading};
+ghost use Rattle.rlp_reading.specs.Laws.{TakePossible};
+ghost use Rattle.rlp_reading.proofs.FieldLaws.{end_possible, group_possible, one_wide, part_possible};
 ghost use Rattle.rlp.specs.Left.{AreFaulty};
 
 mod groups;
@@ -70,7 +67,7 @@ impl Error for FieldFault {}
 /// Pairs that end with `()` are fields one after another, as in `(a, (b, ()))`. The last fields may
 /// be an [`OptionalField`], an [`OptionalGroup`] or [`Groups`] in the place of `()`. A struct has
 /// this trait if its fields stand in the list of another struct.
-pub trait DecodeFields: Sized + Drop {
+pub trait DecodeFields: Sized {
     /// How the fields are read.
     ghost reading: { FieldsReading Self };
 
@@ -145,7 +142,7 @@ impl<T: Decodable, Q: DecodeFields> DecodeFields for (T, Q) {
 /// It walks over the items once more only after a fault, to find which fault comes first.
 #[inline(always)]
 #[tactic(auto, using(crate::proofs::Counting::struct_answers))]
-pub fn decode_struct<F: DecodeFields>(alloc: Global, rlp: &Rlp<'_>) -> Result<F, FieldFault>
+pub fn decode_struct<F: DecodeFields + Drop>(alloc: Global, rlp: &Rlp<'_>) -> Result<F, FieldFault>
     ensures value { IfOk result (λ x. Gives (struct_reading F.reading) rlp.now x) }
     ensures fault { IfErr result (λ e. Faults (struct_reading F.reading) rlp.now e.fault
         ⊎ ((e.fault ≡ OutOfMemory) × IsTrue F.reading.takes_memory)) }

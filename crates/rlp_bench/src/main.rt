@@ -1,7 +1,7 @@
-//! Runs the library many times, for `bench/run`: `rlp_bench OPERATION TIMES` on inputs that are the
-//! same each time, `rlp_bench OPERATION SIZE TIMES` on inputs of a chosen size, and `rlp_bench day` on
-//! the blocks of a day. It prints a sum of the results, so that the compiler can't leave out any of the
-//! work.
+//! Runs the library many times, for `tools/bench/run`: `rlp_bench OPERATION TIMES` on inputs that
+//! are the same each time, `rlp_bench OPERATION SIZE TIMES` on inputs of a chosen size, and
+//! `rlp_bench day` on the blocks of a day. It prints a sum of the results, so that the compiler
+//! can't leave out any of the work.
 #![tactic(auto)]
 
 mod day;

@@ -1,8 +1,8 @@
 //! Operations that read.
 
 use crate::inputs::Inputs;
-use keccak::keccak256;
 use rlp::{Rlp, decode, decode_list, decode_strict};
+use rlp_records::keccak256;
 use rlp_transactions::SignedLegacyTransaction;
 use std::alloc::Global;
 

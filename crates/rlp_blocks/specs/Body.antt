@@ -2,9 +2,8 @@
 use Rattle.std.specs.Vec.{vec_items}
 use Rattle.rlp.specs.Codec.{Codec, Fields, field, list_type, optional, struct_of}
 use Rattle.rlp_blocks.specs.declared.body.Body.{Body}
-use Rattle.rlp_headers.specs.Header.{header}
+use Rattle.rlp_headers.specs.{Header.header, Withdrawal.withdrawals}
 use Rattle.rlp_transactions.specs.Transaction.{any_transaction}
-use Rattle.rlp_headers.specs.Withdrawal.{withdrawals}
 
 -- the protocol eth: [transactions, ommers, withdrawals], without the withdrawals before Shanghai
 abbrev pub body_fields : Fields Body

@@ -1,11 +1,8 @@
 -- What the key of an account or of a node signs, and when two of these mean the same.
 use Rattle.std.specs.Prelude.{ℕ, ◌≡◌, ◌≢◌, ⊤, List, ◌∷◌}
-use Rattle.keccak.specs.Keccak.{keccak256}
+use Rattle.rlp_records.specs.{Keccak.keccak256, OtherEnvelope.{IsOther, other_type}}
 use Rattle.rlp.specs.Format.Encoding.{encoding}
-use Rattle.rlp_node_record.specs.NodeFields.{signed_item}
-use Rattle.rlp_node_record.specs.NodeRecord.{IsNodeRecord}
-use Rattle.rlp_node_record.specs.declared.node_fields.NodeFields.{NodeFields}
-use Rattle.rlp_records.specs.OtherEnvelope.{IsOther, other_type}
+use Rattle.rlp_node_record.specs.{NodeFields.signed_item, NodeRecord.IsNodeRecord, declared.node_fields.NodeFields.NodeFields}
 use Rattle.rlp_transactions.specs.Signing.{FitsSigning, HaveOneMeaning, Signable, signed_bytes}
 
 -- what a key signs: a transaction or an authorization, a transaction of another type, the content of a node record, or a message

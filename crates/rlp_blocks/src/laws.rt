@@ -1,7 +1,7 @@
 //! What holds of all that a key signs: nothing has two meanings.
 
 ghost use Rattle.std.specs.Prelude.{◌≡◌, ◌<◌, ◌^◌, ◌⊎◌, length};
-ghost use Rattle.keccak.specs.Keccak.{keccak256};
+ghost use Rattle.rlp_records.specs.Keccak.{keccak256};
 ghost use Rattle.rlp_blocks.specs.SignedContent.{AreCollision, FitsContent, MeanTheSame, SignedContent, content_bytes};
 
 /// Nothing that a key signs has two meanings. A key of an account signs transactions, authorizations,

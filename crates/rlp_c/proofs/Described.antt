@@ -1,13 +1,10 @@
 -- The rows of a tree describe it.
 use Rattle.std.proofs.Common.{◌≡◌, ℕ, ◌+◌, ◌-◌, ◌<◌, ◌≤◌, ⊎_elim, List, [], ◌++◌, length, take, drop, refl, sym, ap, ◌∙◌, subst, arith}
-use Rattle.std.proofs.Common.{true, false, append-nil, append_assoc, length-append, take_at, drop_at}
-use Rattle.std.proofs.lemmas.Bool.{cases_Bool}
+use Rattle.std.proofs.{Common.{true, false, append-nil, append_assoc, length-append, take_at, drop_at}, lemmas.Bool.cases_Bool}
 use Rattle.rlp_format.specs.Format.Encoding.{Item, string, list, Items, no_items, item_and, item_depth, items_depth, encoding, is_low_byte, join_items}
 use Rattle.rlp_format.specs.Format.Encoding.{written_header}
-use Rattle.rlp_c.specs.declared.item.RlpItem.{RlpItem}
+use Rattle.rlp_c.specs.{declared.item.RlpItem.RlpItem, Flat.{flat, flat_items, row_of}, Tree.{AreRows, DescribeTree, item_of, items_of, tree_of}}
 use Rattle.rlp_reading.specs.Format.Flat.{flat_item, flat_rows, header_length}
-use Rattle.rlp_c.specs.Flat.{flat, flat_items, row_of}
-use Rattle.rlp_c.specs.Tree.{AreRows, DescribeTree, item_of, items_of, tree_of}
 use Rattle.rlp_reading.proofs.Trees.Needless.{high_written, low_again}
 use Rattle.rlp_c.proofs.Trees.{item-list, item-string, items_of-behind, items_of-deeper, items_of-here}
 

@@ -1,11 +1,9 @@
 -- A tree that is gone through from its last row on.
 use Rattle.std.proofs.Common.{◌≡◌, ◌≢◌, ℕ, ◌+◌, ◌-◌, ◌<◌, ◌≤◌, ⊎_elim, List, [], ◌∷◌, ◌++◌, length, take, drop, get_or, set, replicate, refl, sym, ap, ◌∙◌, subst, arith}
-use Rattle.std.proofs.Common.{append-nil, append_assoc, length-append}
-use Rattle.std.proofs.lemmas.Bool.{cases_eq, cases_lt}
+use Rattle.std.proofs.{Common.{append-nil, append_assoc, length-append}, lemmas.Bool.{cases_eq, cases_lt}}
 use Rattle.std.proofs.lemmas.List.{drop_at, get_or-replicate, get_or-set_other, get_or-set_same, length-replicate, length-set, length-take-le, take-append-drop, take-append-le, take-take, take_all, take_more}
 use Rattle.rlp_format.specs.Format.Encoding.{encoding}
-use Rattle.rlp_c.specs.declared.item.RlpItem.{RlpItem}
-use Rattle.rlp_c.specs.Tree.{AreRows, DescribeTree, depth_behind, front_of, item_of, items_of, tree_of}
+use Rattle.rlp_c.specs.{declared.item.RlpItem.RlpItem, Tree.{AreRows, DescribeTree, depth_behind, front_of, item_of, items_of, tree_of}}
 use Rattle.rlp_c.proofs.Trees.{behind-most, encoding-front, level, level-behind, level-deeper, level-here}
 use Rattle.rlp_c.proofs.Trees.{level-inside, level-within, rows-longer, rows-tree, rows_encoding}
 

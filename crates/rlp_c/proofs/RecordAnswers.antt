@@ -1,42 +1,32 @@
 -- The answers for transactions and headers.
 use Rattle.std.proofs.Common.{◌≡◌, ◌↔◌, inl, inr, ℕ, ◌-◌, ◌==◌, ◌<◌, ◌≤◌, ◌^◌, Bool, true, false, if◌then◌else◌, nat_le, List, [], ◌∷◌, length, map, take, drop}
 use Rattle.std.proofs.Common.{slice_index_or, refl, sym, ap, ◌∙◌, subst, arith, append-nil, IsOk, Option, Some, None, Result, Ok, Err}
+use Rattle.std.proofs.{lemmas.Bool.{cond-true, cond-false}, lemmas.Bool.Decides.nat_tests, lemmas.List.take_all}
 use Rattle.std.specs.Bool.{⊤}
-use Rattle.std.proofs.lemmas.Bool.{cond-true, cond-false}
-use Rattle.std.proofs.lemmas.Bool.Decides.{nat_tests}
-use Rattle.std.proofs.lemmas.List.{take_all}
 use Rattle.rlp_format.specs.Format.Encoding.{Item, list_of, IsSized, encoding}
 use Rattle.rlp_format.proofs.Lemmas.Encodings.{listed_from}
-use Rattle.rlp_reading.specs.Format.Framing.{begins_as_list, items}
-use Rattle.rlp_reading.specs.Views.View.{View, strict_view_of}
-use Rattle.rlp_reading.proofs.Lemmas.Views.{list_shape}
-use Rattle.rlp_reading.proofs.Lemmas.WholeLists.{strict_items, whole_sized}
-use Rattle.rlp_codec.specs.Form.{Answer, Fault, custom, here, map_answer, map_fault}
+use Rattle.rlp_reading.specs.{Format.Framing.{begins_as_list, items}, Views.View.{View, strict_view_of}}
+use Rattle.rlp_reading.specs.Form.{Answer, Fault, custom, here, map_answer, map_fault}
+use Rattle.rlp_reading.proofs.{Lemmas.Views.list_shape, Lemmas.WholeLists.{strict_items, whole_sized}}
 use Rattle.rlp.specs.Codec.{truth_value}
-use Rattle.rlp_records.specs.Alone.{bytes_alone, unknown_type}
+use Rattle.rlp_records.specs.{Alone.{bytes_alone, unknown_type}, Eip2718.{type_of, typed_alone}}
 use Rattle.rlp_transactions.specs.declared.transaction.Transaction.{Transaction}
-use Rattle.rlp_transactions.specs.declared.transaction.Transaction.TheVariants.{AccessList as of_access_list, Blob as of_blob, FeeMarket as of_fee_market}
-use Rattle.rlp_transactions.specs.declared.transaction.Transaction.TheVariants.{Legacy as of_legacy, SetCode as of_set_code}
 use Rattle.rlp_transactions.specs.AccessListTransaction.{access_list_transaction_fields, signed_access_list_transaction}
 use Rattle.rlp_transactions.specs.BlobTransaction.{blob_transaction_fields, signed_blob_transaction}
 use Rattle.rlp_transactions.specs.FeeMarketTransaction.{fee_market_transaction_fields, signed_fee_market_transaction}
 use Rattle.rlp_transactions.specs.LegacyTransaction.{signed_legacy_transaction_fields}
-use Rattle.rlp_transactions.specs.SetCodeTransaction.{set_code_transaction_fields, signed_set_code_transaction}
-use Rattle.rlp_transactions.specs.Signed.{signed_fields}
-use Rattle.rlp_records.proofs.TypedSums.{typed_strings}
-use Rattle.rlp_records.specs.Eip2718.{type_of, typed_alone}
+use Rattle.rlp_transactions.specs.{SetCodeTransaction.{set_code_transaction_fields, signed_set_code_transaction}, Signed.signed_fields}
 use Rattle.rlp_transactions.specs.Transaction.{transaction, transaction_types}
+use Rattle.rlp_transactions.specs.declared.transaction.Transaction.TheVariants.{AccessList as of_access_list, Blob as of_blob, FeeMarket as of_fee_market}
+use Rattle.rlp_transactions.specs.declared.transaction.Transaction.TheVariants.{Legacy as of_legacy, SetCode as of_set_code}
+use Rattle.rlp_records.proofs.TypedSums.{typed_strings}
 use Rattle.rlp_headers.specs.declared.header.Header.{Header as BlockHeader}
 use Rattle.rlp_headers.specs.Header.{header, header_fields}
-use Rattle.rlp_c.specs.declared.item.RlpItem.{RlpItem}
-use Rattle.rlp_c.specs.declared.records.fields.Record.{Record}
+use Rattle.rlp_c.specs.{declared.item.RlpItem.RlpItem, declared.records.fields.Record.Record}
 use Rattle.rlp_c.specs.declared.records.fields.Record.TheVariants.{Header, Legacy, AccessListPayload, FeeMarketPayload, BlobPayload, SetCodePayload}
-use Rattle.rlp_c.specs.Fields.{number_of, numbered, record_result, without_value}
-use Rattle.rlp_c.specs.Places.{IsFound, fields_in, fields_of, place_of}
-use Rattle.rlp_c.specs.Records.{IsRecordRead, IsTransactionRead, legacy, record_of_type, transaction_result, typed, unknown}
-use Rattle.rlp_c.specs.Rows.{ArePlaced}
-use Rattle.rlp_c.proofs.Statuses.{number_within}
-use Rattle.rlp_c.proofs.Testing.{mapped}
+use Rattle.rlp_c.specs.{Fields.{number_of, numbered, record_result, without_value}, Places.{IsFound, fields_in, fields_of, place_of}}
+use Rattle.rlp_c.specs.{Records.{IsRecordRead, IsTransactionRead, legacy, record_of_type, transaction_result, typed, unknown}, Rows.ArePlaced}
+use Rattle.rlp_c.proofs.{Statuses.number_within, Testing.mapped}
 
 -- the first byte, and the others
 pub first_and_rest : (b : List ℕ) → 1 ≤ length b → b ≡ slice_index_or b 0 0 ∷ take (length b - 1) (drop 1 b)

@@ -1,19 +1,14 @@
 -- The walk over the items of one list.
 use Rattle.std.proofs.Common.{◌≡◌, ℕ, ◌+◌, ◌-◌, ◌^◌, ◌<◌, ◌≤◌, ◌⊎◌, inl, inr, suc, true, List, [], ◌∷◌, ◌++◌, length, drop, refl, sym, ap, ◌∙◌}
 use Rattle.std.proofs.Common.{subst, arith, Ok, Some, None, append-nil, append_assoc, length-append}
-use Rattle.rlp_reading.specs.declared.error.DecoderError.{DecoderError}
-use Rattle.rlp_reading.specs.declared.header.PayloadInfo.{PayloadInfo}
+use Rattle.rlp_reading.specs.{declared.error.DecoderError.DecoderError, declared.header.PayloadInfo.PayloadInfo}
 use Rattle.rlp_reading.specs.Format.Framing.{IsFramedItem, fault, framing, value, begins_as_list, split, after_items, fault_of_some, strict_fault, strict_list_fault}
+use Rattle.rlp_reading.specs.Format.Walk.{Extends}
 use Rattle.rlp_reading.proofs.Format.Splits.{split-nil}
 use Rattle.rlp_reading.proofs.Format.StrictLists.{after_items-next, after_items-nil, after_items-none, fault_of_some-some, some_bytes}
-use Rattle.rlp_reading.proofs.Format.StrictLists.{strict_not_begun, strict_not_whole, strict_whole, value-items}
-use Rattle.rlp_c.specs.declared.item.RlpItem.{RlpItem}
-use Rattle.rlp_c.specs.Rows.{ArePlaced, IsItemized, header_length, row, row_by, rows_at}
-use Rattle.rlp_c.specs.Status.{fault_status}
-use Rattle.rlp_reading.specs.Format.Walk.{Extends}
-use Rattle.rlp_reading.proofs.Trees.Needless.{whole_item}
-use Rattle.rlp_reading.proofs.Trees.Rows.{extends_both, extends_start}
-use Rattle.rlp_reading.proofs.Trees.Walks.{content_payload}
+use Rattle.rlp_reading.proofs.{Format.StrictLists.{strict_not_begun, strict_not_whole, strict_whole, value-items}, Trees.Needless.whole_item}
+use Rattle.rlp_reading.proofs.{Trees.Rows.{extends_both, extends_start}, Trees.Walks.content_payload}
+use Rattle.rlp_c.specs.{declared.item.RlpItem.RlpItem, Rows.{ArePlaced, IsItemized, header_length, row, row_by, rows_at}, Status.fault_status}
 use Rattle.std.specs.List.{concat}
 
 -- the first items have rows, and the others are those of the rest

@@ -1,6 +1,6 @@
 -- The numbers of faults.
 use Rattle.std.proofs.Common.{◌<◌, arith}
-use Rattle.rlp_codec.specs.Form.{Fault}
+use Rattle.rlp_reading.specs.Form.{Fault}
 use Rattle.rlp_c.specs.Status.{fault_number}
 
 -- no fault has the number 0, and none has the number of an array that is too short

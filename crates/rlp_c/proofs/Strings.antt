@@ -1,12 +1,10 @@
 -- Where the string that bytes begin with is.
 use Rattle.std.proofs.Common.{◌≡◌, ℕ, ◌^◌, ◌<◌, ◌+◌, List, length, take, drop, false, ap, sym, ◌∙◌, subst, arith, le-leb, Ok, Err, MatchResult}
 use Rattle.std.proofs.lemmas.Bool.{cond-true}
-use Rattle.rlp_reading.specs.declared.error.DecoderError.{DecoderError}
-use Rattle.rlp_reading.specs.declared.header.PayloadInfo.{PayloadInfo}
+use Rattle.rlp_reading.specs.{declared.error.DecoderError.DecoderError, declared.header.PayloadInfo.PayloadInfo}
 use Rattle.rlp_reading.specs.Format.Framing.{framing, framing_in, header, payload_info, IsString}
 use Rattle.rlp_reading.proofs.Trees.Placed.{Ok_same, string_placed}
-use Rattle.rlp_c.specs.declared.item.RlpItem.{RlpItem}
-use Rattle.rlp_c.specs.Rows.{IsRowOfString, row}
+use Rattle.rlp_c.specs.{declared.item.RlpItem.RlpItem, Rows.{IsRowOfString, row}}
 
 -- the header that was read, for the string
 placed_as : (b d : List ℕ) (info : PayloadInfo) (fits : length b < 2 ^ 64) (stands : IsString b d) → Ok info ≡ header b

@@ -1,16 +1,12 @@
 -- Tests that keep nothing have the faults of the codecs.
 use Rattle.std.proofs.Common.{◌≡◌, ℕ, ◌+◌, ◌<◌, ◌^◌, Bool, true, false, List, [], ◌∷◌, length, None, Some, Result, Ok, Err, refl, ap, arith}
-use Rattle.std.specs.Bool.{⊤}
-use Rattle.std.specs.List.{slice_get}
-use Rattle.rlp_reading.specs.Format.Framing.{payload, strict_list_fault}
-use Rattle.rlp_reading.specs.Views.View.{View, item_views, strict_view_of}
-use Rattle.rlp_reading.proofs.Format.Splits.{length-item_views, length-split}
-use Rattle.rlp_reading.proofs.Lemmas.Slices.{payload_short}
+use Rattle.std.specs.{Bool.⊤, List.slice_get}
+use Rattle.rlp_reading.specs.{Format.Framing.{payload, strict_list_fault}, Views.View.{View, item_views, strict_view_of}}
+use Rattle.rlp_reading.specs.Form.{Answer, Fault, FieldsReading, Path, Taken, all_taken, go_on, if_possible, in_list}
+use Rattle.rlp_reading.specs.Form.{map_answer, map_taken, struct_reading}
+use Rattle.rlp_reading.proofs.{Format.Splits.{length-item_views, length-split}, Lemmas.Slices.payload_short}
 use Rattle.rlp_reading.proofs.Lemmas.StrictReads.{counted_told, told_whole}
-use Rattle.rlp_codec.specs.Form.{Answer, Fault, FieldsReading, Path, Taken, all_taken, go_on, if_possible, in_list}
-use Rattle.rlp_codec.specs.Form.{map_answer, map_taken, struct_reading}
-use Rattle.rlp_c.specs.Fields.{number_of, numbered}
-use Rattle.rlp_c.specs.Forgotten.{forgotten}
+use Rattle.rlp_c.specs.{Fields.{number_of, numbered}, Forgotten.forgotten}
 
 -- f applied to the value leaves what an answer tells
 pub mapped : {A B : Type 0} (f : A → B) (a : Answer A Fault) → numbered (map_answer f a) ≡ numbered a

@@ -1,10 +1,7 @@
 -- Bytes that are put one after another.
-use Rattle.std.proofs.Common.{◌≡◌, ℕ, ◌+◌, ◌-◌, ◌^◌, ◌<◌, ◌≤◌, List, [], ◌∷◌, ◌++◌, length, take, drop, map, codes, get_or, sym, ap, ◌∙◌, subst, arith}
-use Rattle.std.proofs.Common.{append-nil, append_assoc, length-append}
-use Rattle.std.proofs.lemmas.Grind.{flat_map-append}
-use Rattle.std.proofs.lemmas.List.{drop-drop, drop_at, length-take-le, take_at, take_more}
-use Rattle.rlp_reading.specs.Format.Framing.{items, split}
-use Rattle.rlp_reading.specs.Views.Text.{hex, hex_pair, separated, text}
+use Rattle.std.proofs.Common.{◌≡◌, ℕ, ◌+◌, ◌-◌, ◌^◌, ◌<◌, ◌≤◌, List, [], ◌∷◌, ◌++◌, length, take, drop, map, codes, sym, ap, ◌∙◌, subst, arith}
+use Rattle.std.proofs.{Common.{append_assoc, length-append}, lemmas.List.{drop-drop, drop_at, length-take-le, take_at}}
+use Rattle.rlp_reading.specs.{Format.Framing.{items, split}, Views.Text.{separated, text}}
 use Rattle.rlp_reading.proofs.Views.Printing.{done-more, separator_after, separator_after-more, texts-more}
 use Rattle.rlp_c.specs.Written.{IsPut}
 
@@ -34,13 +31,6 @@ put_both old mid new n m k e f short first then = record {
 
 pub put_as : (old new : List ℕ) (n m : ℕ) (e f : List ℕ) → e ≡ f → IsPut old n e new m → IsPut old n f new m
 put_as old new n m e f same p = subst (λ s. IsPut old n s new m) same p
-
--- one more byte as two digits
-pub hex-more : (s : List ℕ) (i : ℕ) (d : ℕ) → i < length s → hex (take i s) ++ hex_pair (get_or s i d) ≡ hex (take (i + 1) s)
-hex-more s i d less =
-    ap (λ t. hex (take i s) ++ t) (sym (append-nil (hex_pair (get_or s i d))))
-    ∙ sym (flat_map-append hex_pair (take i s) (get_or s i d ∷ []))
-    ∙ ap hex (sym (take_more s i d less))
 
 -- the first items of a list are put
 pub record IsPrinting (b rest : List ℕ) (old : List ℕ) (n : ℕ) (separator new : List ℕ) (m : ℕ) : Type 0 where

@@ -4,8 +4,7 @@ use Rattle.std.proofs.Common.{append-nil, append_assoc, length-append, lt-ltb, l
 use Rattle.std.proofs.lemmas.Bool.{cases_eq, cases_lt, cond-true, cond-false}
 use Rattle.rlp_format.specs.Format.Encoding.{Item, string, list, Items, no_items, item_and, encoding, is_low_byte, join_items, string_encoding, written_header}
 use Rattle.rlp_format.proofs.Lemmas.Headers.{written_header_long, written_header_short}
-use Rattle.rlp_c.specs.declared.item.RlpItem.{RlpItem}
-use Rattle.rlp_c.specs.Rows.{payload_at}
+use Rattle.rlp_c.specs.{declared.item.RlpItem.RlpItem, Rows.payload_at}
 use Rattle.rlp_c.specs.Tree.{AreRows, DescribeTree, depth_behind, front_of, item_of, items_of, tree_of}
 
 -- ---- one row

@@ -1,7 +1,6 @@
 -- What a function for C returns and leaves in its result parameter.
 use Rattle.std.specs.Prelude.{ℕ, ◌≡◌, Bool, List, Result, Ok, Err}
-use Rattle.rlp_reading.specs.Views.View.{View}
-use Rattle.rlp_codec.specs.Form.{Fault}
+use Rattle.rlp_reading.specs.{Views.View.View, Form.Fault}
 use Rattle.rlp_c.specs.Status.{fault_number}
 
 -- The status 0 and the value that was read, or the number of the fault and the old result. No fault has the number 0.

@@ -1,14 +1,9 @@
 -- A tree as rows, one for each item, in the order in which the items begin.
 use Rattle.std.specs.Prelude.{ℕ, ◌≡◌, ◌<◌, ◌≤◌, List, ◌++◌, length, drop, Some}
-use Rattle.rlp_reading.specs.declared.flat.FlatItem.{FlatItem}
-use Rattle.rlp_reading.specs.declared.flat.TreeFault.{TreeFault}
-use Rattle.rlp_format.specs.Format.Encoding.{Item, Items, item_depth, encoding}
-use Rattle.rlp_reading.specs.Format.Flat.{flat_rows, flat_rows_inside}
-use Rattle.rlp_reading.specs.Format.Framing.{IsCanonicalWithin}
-use Rattle.rlp_reading.specs.Format.TreeFaults.{tree_fault}
-use Rattle.rlp_format.specs.Values.Value.{bit}
-use Rattle.rlp_c.specs.declared.item.RlpItem.{RlpItem}
-use Rattle.rlp_c.specs.Status.{tree_status}
+use Rattle.rlp_reading.specs.{declared.flat.FlatItem.FlatItem, declared.flat.TreeFault.TreeFault, Format.Flat.{flat_rows, flat_rows_inside}}
+use Rattle.rlp_reading.specs.{Format.Framing.IsCanonicalWithin, Format.TreeFaults.tree_fault}
+use Rattle.rlp_format.specs.{Format.Encoding.{Item, Items, item_depth, encoding}, Values.Value.bit}
+use Rattle.rlp_c.specs.{declared.item.RlpItem.RlpItem, Status.tree_status}
 
 -- the row of an item
 abbrev pub row_of : FlatItem → RlpItem

@@ -1,8 +1,7 @@
 -- Readings that keep nothing of what they read.
 use Rattle.std.specs.Prelude.{◌≡◌, ⊤, true, [], length}
-use Rattle.rlp_codec.specs.Form.{FieldsReading, map_taken}
-use Rattle.rlp_codec.specs.Laws.{TakePossible}
-use Rattle.rlp_codec.proofs.FieldLaws.{still_left}
+use Rattle.rlp_reading.specs.{Form.{FieldsReading, map_taken}, Laws.TakePossible}
+use Rattle.rlp_reading.proofs.FieldLaws.{still_left}
 
 -- the reading of a type that is read from the items of these fields, and keeps nothing of their values
 abbrev pub forgotten : {P Q : Type 0} → FieldsReading P → FieldsReading Q

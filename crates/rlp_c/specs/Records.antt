@@ -1,16 +1,11 @@
 -- The answers for transactions and headers.
 use Rattle.std.specs.Prelude.{ℕ, ◌≡◌, ◌+◌, ◌&&◌, ◌==◌, if◌then◌else◌, nat_lt, true, false, ⊤, List, [], ◌∷◌, length, Option, Some, None, Result, Ok, Err}
-use Rattle.rlp_reading.specs.Format.Framing.{begins_as_list, items}
-use Rattle.rlp_codec.specs.Form.{Fault, custom, is_too_short}
-use Rattle.rlp_records.specs.Alone.{unknown_type}
-use Rattle.rlp_records.specs.Eip2718.{typed_alone}
+use Rattle.rlp_reading.specs.{Format.Framing.{begins_as_list, items}, Form.{Fault, custom, is_too_short}}
+use Rattle.rlp_records.specs.{Alone.unknown_type, Eip2718.typed_alone}
 use Rattle.rlp_transactions.specs.Transaction.{transaction_types}
-use Rattle.rlp_c.specs.declared.item.RlpItem.{RlpItem}
-use Rattle.rlp_c.specs.declared.records.fields.Record.{Record}
+use Rattle.rlp_c.specs.{declared.item.RlpItem.RlpItem, declared.records.fields.Record.Record}
 use Rattle.rlp_c.specs.declared.records.fields.Record.TheVariants.{Legacy, AccessListPayload, FeeMarketPayload, BlobPayload, SetCodePayload, Header}
-use Rattle.rlp_c.specs.Fields.{numbered}
-use Rattle.rlp_c.specs.Rows.{ArePlaced}
-use Rattle.rlp_c.specs.Status.{fault_number}
+use Rattle.rlp_c.specs.{Fields.numbered, Rows.ArePlaced, Status.fault_number}
 
 -- the most fields that a record has
 abbrev pub most_fields : Record → ℕ

@@ -1,11 +1,9 @@
 -- What C sees of items.
 use Rattle.std.specs.Prelude.{ℕ, ◌≡◌, ◌+◌, ◌<◌, ◌≤◌, ◌⊎◌, Bool, false, List, [], ◌∷◌, ◌++◌, length, take, drop, Option, Some, None, Result, Ok, Err, MatchResult}
-use Rattle.rlp_reading.specs.declared.error.DecoderError.{DecoderError}
-use Rattle.rlp_reading.specs.declared.header.PayloadInfo.{PayloadInfo}
+use Rattle.rlp_reading.specs.{declared.error.DecoderError.DecoderError, declared.header.PayloadInfo.PayloadInfo}
 use Rattle.rlp_reading.specs.Format.Framing.{framing, begins_as_list, items}
 use Rattle.rlp_format.specs.Values.Value.{bit}
-use Rattle.rlp_c.specs.Status.{fault_status}
-use Rattle.rlp_c.specs.declared.item.RlpItem.{RlpItem}
+use Rattle.rlp_c.specs.{Status.fault_status, declared.item.RlpItem.RlpItem}
 
 -- the row of an item with this header, at this place and depth
 abbrev pub row : ℕ → ℕ → Bool → PayloadInfo → RlpItem

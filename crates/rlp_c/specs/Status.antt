@@ -1,10 +1,9 @@
 -- The numbers by which C tells faults apart.
 use Rattle.std.specs.Prelude.{ℕ}
-use Rattle.rlp_reading.specs.declared.error.DecoderError.{DecoderError}
-use Rattle.rlp_reading.specs.declared.flat.TreeFault.{TreeFault}
+use Rattle.rlp_reading.specs.{declared.error.DecoderError.DecoderError, declared.flat.TreeFault.TreeFault}
 use Rattle.rlp_reading.specs.declared.flat.TreeFault.TheVariants.{Decoding, TooDeep}
-use Rattle.rlp_codec.specs.Form.{Fault, custom, data_len_with_zero, expected_data, expected_list, fault_of, inconsistent_len, incorrect_list_len, invalid_indirection, invalid_len}
-use Rattle.rlp_codec.specs.Form.{is_too_big, is_too_short, list_len_with_zero, out_of_memory}
+use Rattle.rlp_reading.specs.Form.{Fault, custom, data_len_with_zero, expected_data, expected_list, fault_of, inconsistent_len, incorrect_list_len, invalid_indirection, invalid_len}
+use Rattle.rlp_reading.specs.Form.{is_too_big, is_too_short, list_len_with_zero, out_of_memory}
 
 -- the number of a fault; 0 is none of them
 abbrev pub fault_number : Fault → ℕ

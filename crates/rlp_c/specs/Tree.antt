@@ -1,8 +1,7 @@
 -- The tree that rows describe.
 use Rattle.std.specs.Prelude.{ℕ, ◌≡◌, ◌+◌, ◌≤◌, if◌then◌else◌, ◌==◌, nat_lt, List, [], ◌∷◌, length}
 use Rattle.rlp_format.specs.Format.Encoding.{Item, string, list, Items, no_items, item_and, string_encoding, written_header}
-use Rattle.rlp_c.specs.declared.item.RlpItem.{RlpItem}
-use Rattle.rlp_c.specs.Rows.{payload_at}
+use Rattle.rlp_c.specs.{declared.item.RlpItem.RlpItem, Rows.payload_at}
 
 -- the item of a row with these items in it: a list of them, or the string that the row points at
 abbrev pub item_of : List ℕ → RlpItem → Items → Item

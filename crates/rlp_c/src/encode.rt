@@ -1,8 +1,7 @@
 //! Writing into the caller's array.
 
 ghost use Rattle.std.specs.Prelude.{◌≡◌, ◌++◌, if◌then◌else◌};
-ghost use Rattle.rlp_format.specs.Format.Encoding.{string, encoding, is_low_byte, written_header};
-ghost use Rattle.rlp_format.specs.Values.Value.{number_item};
+ghost use Rattle.rlp_format.specs.{Format.Encoding.{string, encoding, is_low_byte, written_header}, Values.Value.number_item};
 ghost use Rattle.rlp_c.specs.Written.{IsWritten};
 
 use crate::status::{RLP_NO_ROOM, RLP_OK, status_of};

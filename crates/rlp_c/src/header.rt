@@ -2,8 +2,7 @@
 
 ghost use Rattle.std.specs.Prelude.{◌≡◌, MatchResult};
 ghost use Rattle.rlp_reading.specs.Format.Framing.{framing, begins_as_list};
-ghost use Rattle.rlp_c.specs.Rows.{row};
-ghost use Rattle.rlp_c.specs.Status.{fault_status};
+ghost use Rattle.rlp_c.specs.{Rows.row, Status.fault_status};
 
 use crate::item::{RlpItem, bit};
 use crate::status::{RLP_OK, status_of};

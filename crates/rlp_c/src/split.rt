@@ -1,8 +1,7 @@
 //! The items of one list as rows.
 
 ghost use Rattle.std.specs.Prelude.{◌≡◌, ◌+◌, ◌<◌, ◌^◌, length, None, Some, IfOk, MatchResult};
-ghost use Rattle.rlp_reading.specs.Format.Framing.{split, after_items, fault_of_some, strict_list_fault};
-ghost use Rattle.rlp_reading.specs.Format.Walk.{Extends};
+ghost use Rattle.rlp_reading.specs.{Format.Framing.{split, after_items, fault_of_some, strict_list_fault}, Format.Walk.Extends};
 ghost use Rattle.rlp_c.specs.Rows.{IsItemized, rows_at};
 
 use crate::item::{RlpItem, bit};
@@ -63,10 +62,7 @@ fn split_payload(payload: &[u8], place: usize, out: &mut [RlpItem]) -> Result<us
     let mut rest = payload;
     let mut count = 0;
     while !rest.is_empty() {
-        let (item, others) = match first_framed(rest) {
-            Ok(first) => first,
-            Err(fault) => return Err(fault),
-        };
+        let (item, others) = first_framed(rest)?;
         let row = RlpItem {
             offset: place + (payload.len() - rest.len()),
             header_len: item.header.header_len,

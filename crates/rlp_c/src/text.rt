@@ -1,13 +1,14 @@
 //! The text of bytes.
 
 ghost use Rattle.std.specs.Prelude.{◌≡◌, ◌+◌, ◌<◌, ◌≤◌, ◌^◌, ◌++◌, codes, length};
-ghost use Rattle.rlp_reading.specs.Views.Depth.{depth};
-ghost use Rattle.rlp_reading.specs.Views.Text.{error_name, hex, hex_digit, text};
+ghost use Rattle.rlp_reading.specs.{Views.Depth.depth, Views.Text.{error_name, text}};
+ghost use Rattle.hex.specs.Hex.{encode_lower};
 ghost use Rattle.rlp_c.specs.Written.{IsPut, IsTextWritten};
 
 use crate::canonical::RLP_DEPTH_LIMIT;
 use crate::status::{RLP_NO_ROOM, RLP_OK, RLP_TOO_DEEP};
 use rlp::{DecoderError, Rlp};
+use rlp_format::hex_digits::digit_char;
 use rlp_reading::framed::{Framed, first_framed, is_null};
 
 /// Writes the text of the item that the bytes begin with: `"0x.."` for a string, `[.., ..]` for a
@@ -64,7 +65,7 @@ fn put_framed(framed: &Framed<'_>, out: &mut [u8], at: usize) -> usize
 
 /// Writes the text of a string.
 fn put_digits(string: &[u8], out: &mut [u8], at: usize) -> usize
-    ensures { IsPut out.old at (codes "\"0x" ++ hex string.now ++ codes "\"") out.new result }
+    ensures { IsPut out.old at (codes "\"0x" ++ encode_lower string.now ++ codes "\"") out.new result }
 {
     let mut place = put_bytes(out, at, b"\"0x");
     for byte in string {
@@ -72,18 +73,6 @@ fn put_digits(string: &[u8], out: &mut [u8], at: usize) -> usize
         place = put_bytes(out, place, &digits);
     }
     put_bytes(out, place, b"\"")
-}
-
-/// The character of a digit, in lower case.
-fn digit_char(digit: u8) -> u8
-    requires { digit < 16 }
-    ensures { result ≡ hex_digit digit }
-{
-    if digit < 10 {
-        b'0' + digit
-    } else {
-        b'a' - 10 + digit
-    }
 }
 
 /// Writes the name of a fault.

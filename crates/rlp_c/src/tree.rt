@@ -2,9 +2,7 @@
 
 ghost use Rattle.std.specs.Prelude.{◌≡◌, ◌↔◌, ◌+◌, ◌<◌, ◌≤◌, ◌^◌, ◌++◌, IsTrue, MatchOption, length, take, drop, slice_index, slice_set};
 ghost use Rattle.rlp_format.specs.Format.Encoding.{encoding};
-ghost use Rattle.rlp_c.specs.Rows.{payload_at};
-ghost use Rattle.rlp_c.specs.Tree.{DescribeTree, IsRow, depth_behind, front_of, tree_of};
-ghost use Rattle.rlp_c.specs.Written.{IsWritten};
+ghost use Rattle.rlp_c.specs.{Rows.payload_at, Tree.{DescribeTree, IsRow, depth_behind, front_of, tree_of}, Written.IsWritten};
 
 use crate::canonical::RLP_DEPTH_LIMIT;
 use crate::encode::is_low_byte;

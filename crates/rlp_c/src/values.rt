@@ -1,13 +1,10 @@
 //! Values that are read from one string.
 
-ghost use Rattle.std.specs.Prelude.{◌≡◌, Err, MatchResult, Ok, OnOk};
-ghost use Rattle.std.specs.Int.Digits.{number_from_digits};
-ghost use Rattle.rlp_reading.specs.Format.Framing.{IsString};
+ghost use Rattle.std.specs.{Prelude.{◌≡◌, Err, MatchResult, Ok, OnOk}, Int.Digits.number_from_digits};
+ghost use Rattle.rlp_reading.specs.{Format.Framing.IsString, Form.{fault_of, map_value, number_of, string_of}};
 ghost use Rattle.rlp_format.specs.Format.Encoding.{big_endian};
-ghost use Rattle.rlp_codec.specs.Form.{fault_of, map_value, number_of, string_of};
 ghost use Rattle.rlp.specs.Codec.{number};
-ghost use Rattle.rlp_c.specs.Answers.{Answers, view_as};
-ghost use Rattle.rlp_c.specs.Rows.{IsRowOfString, payload_at};
+ghost use Rattle.rlp_c.specs.{Answers.{Answers, view_as}, Rows.{IsRowOfString, payload_at}};
 
 use crate::item::RlpItem;
 use crate::status::{RLP_OK, status_of};

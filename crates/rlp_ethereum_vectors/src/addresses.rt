@@ -1,9 +1,8 @@
 //! Addresses of contracts, which are the ends of hashes.
 
-use keccak::keccak256;
 use rlp::{DecoderError, RlpStream};
-use rlp_records::Address;
-use rlp_rows::{Hex, Line};
+use rlp_records::{Address, keccak256};
+use rlp_vectors::rows::{Hex, Line};
 use std::alloc::{AllocError, Global};
 use std::fmt;
 use std::fmt::Write;
@@ -12,25 +11,25 @@ use std::fmt::Write;
 pub(crate) const ROWS: &str = "
     Those that an account creates by its transactions of the nonces 0 to 3, as the tests of
     go-ethereum name them: the address of the account and the nonce.
-    address: created | 6ac7ea33f8831ea9dcc53393aaa88b25a785dbf0+00 | cd234a471b72ba2f1ccf0a70fcaba64\
-     8a5eecd8d
-    address: created | 6ac7ea33f8831ea9dcc53393aaa88b25a785dbf0+01 | 343c43a37d37dff08ae8c4a11544c71\
-     8abb4fcf8
-    address: created | 6ac7ea33f8831ea9dcc53393aaa88b25a785dbf0+02 | f778b86fa74e846c4f0a1fbd1335fe8\
-     1c00a0c91
-    address: created | 6ac7ea33f8831ea9dcc53393aaa88b25a785dbf0+03 | fffd933a0bc612844eaf0c6fe3e5b8e\
-     9b6c1d19c
+    address: created | 6ac7ea33f8831ea9dcc53393aaa88b25a785dbf0+00 \
+     | cd234a471b72ba2f1ccf0a70fcaba648a5eecd8d
+    address: created | 6ac7ea33f8831ea9dcc53393aaa88b25a785dbf0+01 \
+     | 343c43a37d37dff08ae8c4a11544c718abb4fcf8
+    address: created | 6ac7ea33f8831ea9dcc53393aaa88b25a785dbf0+02 \
+     | f778b86fa74e846c4f0a1fbd1335fe81c00a0c91
+    address: created | 6ac7ea33f8831ea9dcc53393aaa88b25a785dbf0+03 \
+     | fffd933a0bc612844eaf0c6fe3e5b8e9b6c1d19c
     The examples of EIP-1014: the address of the creator, the salt and the code that makes the
     contract.
     address: created with salt | 00*20+00*32+00 | 4d1a2e2bb4f88f0250f26ffff098b0b30b26bf38
     address: created with salt | deadbeef+00*16+00*32+00 | b928f69bb1d91cd65274e3c79d8986362984fda3
-    address: created with salt | deadbeef+00*16+00*12+feed+00*18+00 | d04116cdd17bebe565eb2422f2497e\
-     06cc1c9833
+    address: created with salt | deadbeef+00*16+00*12+feed+00*18+00 \
+     | d04116cdd17bebe565eb2422f2497e06cc1c9833
     address: created with salt | 00*20+00*32+deadbeef | 70f2b2914a2a4b783faefb75f459a580616fcb5e
-    address: created with salt | 00*16+deadbeef+00*28+cafebabe+deadbeef | 60f3f640a8508fc6a86d45df05\
-     1962668e1e8ac7
-    address: created with salt | 00*16+deadbeef+00*28+cafebabe+deadbeef*11 | 1d8bfdc5d46dc4f61d6b611\
-     5972536ebe6a8854c
+    address: created with salt | 00*16+deadbeef+00*28+cafebabe+deadbeef \
+     | 60f3f640a8508fc6a86d45df051962668e1e8ac7
+    address: created with salt | 00*16+deadbeef+00*28+cafebabe+deadbeef*11 \
+     | 1d8bfdc5d46dc4f61d6b6115972536ebe6a8854c
     address: created with salt | 00*20+00*32 | e33c0c7f7df4809055c3eba6c09cfe4baf1bd9e0
 ";
 

@@ -4,20 +4,20 @@ use crate::alone::{OfTypes, Payload};
 use crate::fields::{fields, forks, london};
 use crate::reading::{Alone, Item, ways};
 use crate::{
-    addresses, bounded, by_name, hashes, node_records, nodes, places, pooled, records, signing,
-    unsigned,
+    addresses, bounded, by_name, hashes, message_answers, node_records, nodes, places, pooled,
+    records, signing, unsigned,
 };
 use rlp_blocks::{Block, Body};
 use rlp_headers::{AnyReceipt, BlockAccessList, Header, Log, TypedReceipt};
 use rlp_node_record::NodeRecord;
 use rlp_records::Hash;
-use rlp_rows::Line;
 use rlp_transactions::{
     AccessListTransaction, AnyTransaction, Authorization, BlobTransaction, FeeMarketTransaction,
     SetCodeTransaction, Signed, SignedLegacyTransaction, Transaction, UnsignedLegacyTransaction,
     UnsignedTransaction,
 };
 use rlp_trie::{Branch, BranchChild, Child, Extension, Leaf, TrieNode};
+use rlp_vectors::rows::Line;
 use std::alloc::Global;
 use std::fmt;
 use std::fmt::Write;
@@ -115,6 +115,6 @@ fn tell_node(alloc: Global, call: &str, bytes: &[u8], out: &mut Line) -> fmt::Re
         "TrieNode" => ways::<Item<TrieNode>>(alloc, bytes, out),
         "fields of TrieNode" => nodes::tell_fields(alloc, bytes, out),
         "hash of TrieNode" => nodes::tell_hash(alloc, bytes, out),
-        _ => out.write_str("no such call"),
+        _ => message_answers::tell(alloc, call, bytes, out),
     }
 }

@@ -6,11 +6,11 @@ use crate::reading::{made, made_of};
 use rlp::Uint;
 use rlp_headers::{Account, Withdrawal};
 use rlp_records::{Address, Hash};
-use rlp_rows::Line;
 use rlp_transactions::{
     AccessList, BlobTransaction, BlobTransactionWithCellProofs, BlobTransactionWithProofs,
     DepositTransaction, NonZeroScalar, Recipient, Signed, WrapperVersion,
 };
+use rlp_vectors::rows::Line;
 use std::alloc::{AllocError, Global};
 use std::fmt;
 
@@ -29,12 +29,12 @@ pub(crate) const ROWS: &str = "
 
     EIP-4844: the transaction of type 3 with the greatest fees 2, 3 and 8, no blobs, the commitment
     of bytes c0, and the proof of bytes c1.
-    by name: with proofs | f8aa+f843018002030494+35*20+0780c008e1a001+00*31+800102+c0+f1b0+c0*48+f1b0+\
-     c1*48
+    by name: with proofs \
+     | f8aa+f843018002030494+35*20+0780c008e1a001+00*31+800102+c0+f1b0+c0*48+f1b0+c1*48
 
     EIP-7594: the same with the version 1 of the wrapper, and the proof of bytes c2 for the cells.
-    by name: with cell proofs | f8ab+f843018002030494+35*20+0780c008e1a001+00*31+800102+01c0+f1b0+c0*48\
-     +f1b0+c2*48
+    by name: with cell proofs \
+     | f8ab+f843018002030494+35*20+0780c008e1a001+00*31+800102+01c0+f1b0+c0*48+f1b0+c2*48
 ";
 
 /// The account of its row.

@@ -5,11 +5,11 @@ use rlp::{Decodable, Rlp};
 use rlp_blocks::{Block, Body};
 use rlp_headers::{Amsterdam, AnyReceipt, Header, London, TypedReceipt};
 use rlp_records::{Eip2718, Hash};
-use rlp_rows::{Hex, Line};
 use rlp_transactions::{
     AnyTransaction, BlobTransaction, Recipient, SetCodeTransaction, Signed, SignedAuthorization,
     SignedLegacyTransaction, Transaction,
 };
+use rlp_vectors::rows::{Hex, Line};
 use std::alloc::Global;
 use std::fmt;
 use std::fmt::Write;

@@ -1,4 +1,4 @@
-//! The laws of records, called for several types. What a law says is proved.
+//! The laws of records and messages, called for several types. What a law says is proved.
 
 use crate::node_records::TEXTS;
 use crate::text::bytes_of;
@@ -6,6 +6,8 @@ use rlp::StrictRead;
 use rlp_blocks::laws::no_content_is_signed_for_two_meanings;
 use rlp_headers::laws::bytes_tell_receipts;
 use rlp_headers::{Account, AnyReceipt, Withdrawal};
+use rlp_messages::laws::{both_ends_agree, bytes_tell_messages};
+use rlp_messages::{Eth68Message, Eth69Message, P2pMessage};
 use rlp_node_record::NodeRecord;
 use rlp_node_record::laws::node_text_round_trips;
 use rlp_records::Eip2718;
@@ -79,5 +81,19 @@ fn laws_hold_of_nodes(rt: HostRuntime) -> Result<(), Fail> {
     let node = NodeRecord::from_text(alloc, example)?;
     let back = node_text_round_trips(alloc, &node)?;
     assert!(rt; back.fields() == node.fields());
+    Ok(())
+}
+
+#[test]
+fn bytes_tell_messages_apart(_rt: HostRuntime) -> Result<(), Fail> {
+    bytes_tell_messages::<P2pMessage>();
+    bytes_tell_messages::<Eth68Message>();
+    bytes_tell_messages::<Eth69Message>();
+    Ok(())
+}
+
+#[test]
+fn both_ends_find_the_same_offsets(_rt: HostRuntime) -> Result<(), Fail> {
+    both_ends_agree();
     Ok(())
 }

@@ -1,10 +1,12 @@
 //! Tests of the records of Ethereum, compared with public records: of transactions, blocks, nodes of
-//! the trie, proofs and node records, and of Keccak-256. The crate has only tests.
+//! the trie, proofs and node records, of the messages between clients, and of Keccak-256. The crate
+//! has only tests.
 //!
 //! The tests are tables of text. A row of a table is a line with bars between its cells: the call,
 //! its bytes, and what it answers. A row with two cells answers `both ways`: the bytes are read as a
 //! value that is written as the same bytes, and they fail if the last byte is missing or another
-//! follows. A line with no bar is a comment.
+//! follows. For bytes, `=` stands for those of the row above, and in an answer `<00*32>` for `00` 32
+//! times. A line with no bar is a comment.
 #![tactic(auto)]
 
 #[cfg(test)]
@@ -22,15 +24,27 @@ mod fields;
 #[cfg(test)]
 mod hashes;
 #[cfg(test)]
+mod ids;
+#[cfg(test)]
 mod laws;
 #[cfg(test)]
+mod message_answers;
+#[cfg(test)]
+mod message_bounds;
+#[cfg(test)]
+mod message_fields;
+#[cfg(test)]
 mod message_hashes;
+#[cfg(test)]
+mod messages;
 #[cfg(test)]
 mod named;
 #[cfg(test)]
 mod node_records;
 #[cfg(test)]
 mod nodes;
+#[cfg(test)]
+mod offsets;
 #[cfg(test)]
 mod places;
 #[cfg(test)]
@@ -41,6 +55,8 @@ mod proofs;
 mod reading;
 #[cfg(test)]
 mod records;
+#[cfg(test)]
+mod requests;
 #[cfg(test)]
 mod rows;
 #[cfg(test)]

@@ -1,6 +1,6 @@
 //! Hashes of messages.
 
-use keccak::keccak256;
+use rlp_records::keccak256;
 use std::alloc::Global;
 use std::test::Fail;
 

@@ -4,11 +4,11 @@
 use crate::reading::{Item, Reading, fault, made, made_of};
 use rlp::{DecoderError, RawItem};
 use rlp_records::Hash;
-use rlp_rows::{Hex, Line};
 use rlp_trie::{
     Branch, BranchChild, Child, Extension, ExtensionPath, InlineNode, Leaf, LeafPath, Path,
     TrieNode, ends_in_leaf,
 };
+use rlp_vectors::rows::{Hex, Line};
 use std::alloc::{AllocError, Global};
 use std::fmt;
 use std::fmt::Write;
@@ -55,40 +55,32 @@ pub(crate) const ROWS: &str = "
     5991bb8c..e9ac84. Each is read as its kind, and bytes with a changed byte are read as no other
     node.
     TrieNode | e216a0bd3ee507e6c67cfefca98f84be47c1bbc009315fabc4405db4ba32190374572a
-    fields of TrieNode | e216a0bd3ee507e6c67cfefca98f84be47c1bbc009315fabc4405db4ba32190374572a | e\
-     xtension 16 bd3ee507e6c67cfefca98f84be47c1bbc009315fabc4405db4ba32190374572a
-    node: changed | e216a0bd3ee507e6c67cfefca98f84be47c1bbc009315fabc4405db4ba32190374572a | None
-    TrieNode | f84080808080a094a9f95bd89698e4da1812e0518053813b4d5b87caaf6b3c6fa57e9e50c0ff68808080\
-     cf85206f727365887374616c6c696f6e8080808080808080
-    fields of TrieNode | f84080808080a094a9f95bd89698e4da1812e0518053813b4d5b87caaf6b3c6fa57e9e50c0\
-     ff68808080cf85206f727365887374616c6c696f6e8080808080808080 | branch
-    node: changed | f84080808080a094a9f95bd89698e4da1812e0518053813b4d5b87caaf6b3c6fa57e9e50c0ff688\
-     08080cf85206f727365887374616c6c696f6e8080808080808080 | None
+    fields of TrieNode | = \
+     | extension 16 bd3ee507e6c67cfefca98f84be47c1bbc009315fabc4405db4ba32190374572a
+    node: changed | = | None
+    TrieNode | PUPPY_1
+    fields of TrieNode | PUPPY_1 | branch
+    node: changed | PUPPY_1 | None
     TrieNode | e482006fa0d43b87fdcd4217013ccc92d04662e12d36e4cc25dc690077cd821a1956fc3e36
-    fields of TrieNode | e482006fa0d43b87fdcd4217013ccc92d04662e12d36e4cc25dc690077cd821a1956fc3e3\
-     6 | extension 006f d43b87fdcd4217013ccc92d04662e12d36e4cc25dc690077cd821a1956fc3e36
-    node: changed | e482006fa0d43b87fdcd4217013ccc92d04662e12d36e4cc25dc690077cd821a1956fc3e36 | No\
-     ne
-    TrieNode | f3808080808080de17dc808080808080c63584636f696e80808080808080808085707570707980808080\
-     80808080808476657262
-    fields of TrieNode | f3808080808080de17dc808080808080c63584636f696e8080808080808080808570757070\
-     798080808080808080808476657262 | branch
-    node: changed | f3808080808080de17dc808080808080c63584636f696e808080808080808080857075707079808\
-     0808080808080808476657262 | None
-    TrieNode | de17dc808080808080c63584636f696e808080808080808080857075707079
-    fields of TrieNode | de17dc808080808080c63584636f696e808080808080808080857075707079 | extensio\
-     n 17
-    node: changed | de17dc808080808080c63584636f696e808080808080808080857075707079 | None
-    TrieNode | dc808080808080c63584636f696e808080808080808080857075707079
-    fields of TrieNode | dc808080808080c63584636f696e808080808080808080857075707079 | branch
-    node: changed | dc808080808080c63584636f696e808080808080808080857075707079 | None
+    fields of TrieNode | = \
+     | extension 006f d43b87fdcd4217013ccc92d04662e12d36e4cc25dc690077cd821a1956fc3e36
+    node: changed | = | None
+    TrieNode | PUPPY_3
+    fields of TrieNode | PUPPY_3 | branch
+    node: changed | PUPPY_3 | None
+    TrieNode | de17dc808080808080c63584636f696e+80*9+857075707079
+    fields of TrieNode | = | extension 17
+    node: changed | = | None
+    TrieNode | dc808080808080c63584636f696e+80*9+857075707079
+    fields of TrieNode | = | branch
+    node: changed | = | None
     TrieNode | c63584636f696e
-    fields of TrieNode | c63584636f696e | leaf 35
-    node: changed | c63584636f696e | None
+    fields of TrieNode | = | leaf 35
+    node: changed | = | None
     TrieNode | cf85206f727365887374616c6c696f6e
-    fields of TrieNode | cf85206f727365887374616c6c696f6e | leaf 206f727365
-    node: changed | cf85206f727365887374616c6c696f6e | None
-    node: branch again | dc808080808080c63584636f696e808080808080808080857075707079
+    fields of TrieNode | = | leaf 206f727365
+    node: changed | = | None
+    node: branch again | dc808080808080c63584636f696e+80*9+857075707079
 
     The empty trie, and bytes that are no node: another string, lists of another number of items, paths of no bytes and that
     aren't encoded, a path that is a list, an extension with a child of one byte, a leaf whose value has
@@ -117,7 +109,7 @@ pub(crate) const ROWS: &str = "
     node: possible | 80 | true
     node: possible | c782201283636174 | true
     node: possible | e216a0bd3ee507e6c67cfefca98f84be47c1bbc009315fabc4405db4ba32190374572a | true
-    node: possible | de17dc808080808080c63584636f696e808080808080808080857075707079 | true
+    node: possible | de17dc808080808080c63584636f696e+80*9+857075707079 | true
     node: possible | f85180a0+11*32+80*13+a0+ff*32+80 | true
     node: possible | f180a0+11*32+80*14+76 | true
     node: possible | f85580a0+11*32+80*13+a0+ff*32+8476657262 | true
@@ -165,8 +157,7 @@ pub(crate) const ROWS: &str = "
     node: leaf by | 21 | Custom(\"path is not hex-prefix encoded\")
     node: leaf by |  | Custom(\"path is not hex-prefix encoded\")
     TrieNode | e7a120+11*32+84636f696e
-    node: leaf by | 20+11*32 | e7a120111111111111111111111111111111111111111111111111111111111111111184\
-     636f696e
+    node: leaf by | 20+11*32 | e7a120<11*32>84636f696e
     node: extension by | 00 | Custom(\"path of an extension is empty\")
     node: extension by | 000f | cb82000fc782201283636174
     node: extension by | 10 | c910c782201283636174
@@ -175,16 +166,16 @@ pub(crate) const ROWS: &str = "
     node: extension by | 30 | Custom(\"path is that of another node\")
     node: extension by | 3f | Custom(\"path is that of another node\")
     node: extension by | 40 | Custom(\"path is not hex-prefix encoded\")
-    node: extension by 17 to | dc808080808080c63584636f696e808080808080808080857075707079 | de17dc8\
-     08080808080c63584636f696e808080808080808080857075707079
+    node: extension by 17 to | dc808080808080c63584636f696e+80*9+857075707079 \
+     | de17dc808080808080c63584636f696e<80*9>857075707079
 
     The roots of the tries of transactions and receipts of block 46147, which has only the first
     transaction, and the root of the empty trie.
-    hash of TrieNode | f86e822080b869+FIRST | 4513310fcb9f6f616972a3b948dc5d547f280849a87ebb5af0191f98b87be5\
-     98
-    hash of TrieNode | f90131822080b9012bf90128a096a8e009d2b88b1483e6941e6812e32263b05683fac202abc622a3e31ae\
-     d1957825208b90100+00*256+c0 | fe2bf2a941abf41d72637e5b91750332a30283efd40c424dc522b77e6f0ed\
-     8c4
+    hash of TrieNode | f86e822080b869+FIRST \
+     | 4513310fcb9f6f616972a3b948dc5d547f280849a87ebb5af0191f98b87be598
+    hash of TrieNode | f90131822080b9012bf90128a096a8e009d2b88b1483e6941e6812e32263b05683fac202abc6\
+     22a3e31aed1957825208b90100+00*256+c0 \
+     | fe2bf2a941abf41d72637e5b91750332a30283efd40c424dc522b77e6f0ed8c4
     hash of TrieNode | 80 | 56e81f171bcc55a6ff8345e692c0f86e5b48e01b996cadc001622fb5e363b421
 ";
 

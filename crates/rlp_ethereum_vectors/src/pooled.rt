@@ -4,8 +4,8 @@ use crate::alone::OfTypes;
 use crate::places::tell_placed;
 use crate::reading::{Alone, Item, digits, fault, ways};
 use rlp_records::Eip2718;
-use rlp_rows::{Hex, Line};
 use rlp_transactions::PooledTransaction;
+use rlp_vectors::rows::{Hex, Line};
 use std::alloc::Global;
 use std::fmt;
 use std::fmt::Write;
@@ -15,8 +15,8 @@ pub(crate) const ROWS: &str = "
     Both forms of a transaction with one blob of zeros, and the same with no lists of blobs. The
     commitment to this blob is the point at infinity.
     pooled: alone | 03fa0200b1+ZERO_BLOB+fa020004ba020000+00*131072+f1b0c0+00*47+f1b0c0+00*47
-    pooled: alone | 03fa0200e4+ZERO_BLOB+01fa020004ba020000+00*131072+f1b0c0+00*47+f862b0c0+00*47+b\
-     0c0+00*47
+    pooled: alone \
+     | 03fa0200e4+ZERO_BLOB+01fa020004ba020000+00*131072+f1b0c0+00*47+f862b0c0+00*47+b0c0+00*47
     pooled: alone | 03f848+ZERO_BLOB+c0c0c0
     pooled: alone | 03f849+ZERO_BLOB+01c0c0c0
     In a message: the string of the same bytes.
@@ -30,8 +30,7 @@ pub(crate) const ROWS: &str = "
     pooled: alone | SET_CODE
     pooled: item | 9d+FEE_MARKET
 
-    A transaction of type 3 without blobs, as it stands in a block, and lists of three and six item\
-     s.
+    A transaction of type 3 without blobs, as it stands in a block, and lists of three and six items.
     pooled: alone | 03+ZERO_BLOB | RlpIncorrectListLen
     pooled: alone | BLOB | RlpIncorrectListLen
     pooled: alone | 03f847+ZERO_BLOB+c0c0 | RlpIncorrectListLen
@@ -55,43 +54,42 @@ pub(crate) const ROWS: &str = "
     pooled: place | 05c0 | [] Custom(\"unknown transaction type\")
 
     The hash is the hash of the bytes in a block. A second implementation of Keccak-256 gave it.
-    pooled: hash | 03f848+ZERO_BLOB+c0c0c0 | c1199b0bdc03581721ff631155cbac9448ed8b71f534a9637313a3\
-     797d265ec9
-    pooled: hash | 03f849+ZERO_BLOB+01c0c0c0 | c1199b0bdc03581721ff631155cbac9448ed8b71f534a9637313\
-     a3797d265ec9
+    pooled: hash | 03f848+ZERO_BLOB+c0c0c0 \
+     | c1199b0bdc03581721ff631155cbac9448ed8b71f534a9637313a3797d265ec9
+    pooled: hash | 03f849+ZERO_BLOB+01c0c0c0 \
+     | c1199b0bdc03581721ff631155cbac9448ed8b71f534a9637313a3797d265ec9
     pooled: hash | SIGNED | 33469b22e9f636356c4160a87eb19df52b7412e8eac32a4a55ffe88ea8350788
-    pooled: consensus form | 03f848+ZERO_BLOB+c0c0c0 | 03f84301800203049435353535353535353535353535\
-     353535353535350780c008e1a0010657f37554c781402a22917dee2f75def7ab966d7b770905398eba3c4440148001\
-     02, the same hash
-    pooled: consensus form | SIGNED | f86c098504a817c8008252089435353535353535353535353535353535353\
-     53535880de0b6b3a76400008025a028ef61340bd939bc2195fe537567866003e1a15d3c71ff63e1590620aa636276a\
-     067cbe9d8997f761aecb703304b3800ccf555c9f3dc64214b297fb1966a3b6d83, the same hash
-    pooled: consensus form | FEE_MARKET | 02db0108843b9aca008504a817c800825208800600c08082333382444\
-     4, the same hash
+    pooled: consensus form | 03f848+ZERO_BLOB+c0c0c0 | 03f843018002030494<35*20>0780c008e1a0010657f\
+     37554c781402a22917dee2f75def7ab966d7b770905398eba3c444014800102, the same hash
+    pooled: consensus form | SIGNED | f86c098504a817c80082520894<35*20>880de0b6b3a76400008025a028ef\
+     61340bd939bc2195fe537567866003e1a15d3c71ff63e1590620aa636276a067cbe9d8997f761aecb703304b3800cc\
+     f555c9f3dc64214b297fb1966a3b6d83, the same hash
+    pooled: consensus form | FEE_MARKET \
+     | 02db0108843b9aca008504a817c800825208800600c080823333824444, the same hash
 
     The hash of the commitment to a blob of zeros stands in each transaction of the tests of
     go-ethereum that has such blobs.
     pooled: check | 03fa0200b1+ZERO_BLOB+fa020004ba020000+00*131072+f1b0c0+00*47+f1b0c0+00*47 | Ok
-    pooled: check | 03fa021903+ZERO_BLOB+01fa020004ba020000+00*131072+f1b0c0+00*47+f91880+b0c000000\
-     00000000000000000000000000000000000000000000000000000000000000000000000000000000000000000*128 \
-     | Ok
+    pooled: check | 03fa021903+ZERO_BLOB+01fa020004ba020000+00*131072+f1b0c0+00*47+f91880+\
+     b0c0000000000000000000000000000000000000000000000000000000000000000000000000000000000000000000\
+     0000*128 | Ok
     Two proofs of cells, and 127.
-    pooled: check | 03fa0200e4+ZERO_BLOB+01fa020004ba020000+00*131072+f1b0c0+00*47+f862b0c0+00*47+b\
-     0c0+00*47 | ProofCount
+    pooled: check | 03fa0200e4+ZERO_BLOB+01fa020004ba020000+00*131072+f1b0c0+00*47+f862b0c0+00*47+\
+     b0c0+00*47 | ProofCount
     No blob, no commitment, no proof, two proofs.
     pooled: check | 03f8aa+ZERO_BLOB+c0+f1b0c0+00*47+f1b0c0+00*47 | BlobCount
     pooled: check | 03f849+ZERO_BLOB+01c0c0c0 | BlobCount
-    pooled: check | 03fa020080+ZERO_BLOB+fa020004ba020000+00*131072+c0+f1b0c0+00*47 | CommitmentCou\
-     nt
+    pooled: check | 03fa020080+ZERO_BLOB+fa020004ba020000+00*131072+c0+f1b0c0+00*47 \
+     | CommitmentCount
     pooled: check | 03fa020080+ZERO_BLOB+fa020004ba020000+00*131072+f1b0c0+00*47+c0 | ProofCount
-    pooled: check | 03fa0200e3+ZERO_BLOB+fa020004ba020000+00*131072+f1b0c0+00*47+f862b0c0+00*47+b0c\
-     0+00*47 | ProofCount
+    pooled: check | 03fa0200e3+ZERO_BLOB+fa020004ba020000+00*131072+f1b0c0+00*47+f862b0c0+00*47+\
+     b0c0+00*47 | ProofCount
     Another commitment, and another version of the hash.
-    pooled: check | 03fa0200b1+ZERO_BLOB+fa020004ba020000+00*131072+f1b0c1+00*47+f1b0c0+00*47 | Ver\
-     sionedHash(0)
+    pooled: check | 03fa0200b1+ZERO_BLOB+fa020004ba020000+00*131072+f1b0c1+00*47+f1b0c0+00*47 \
+     | VersionedHash(0)
     pooled: check | 03fa0200b1+f843018002030494+35*20+0780c008e1a002+0657f37554c781402a22917dee2f75\
-     def7ab966d7b770905398eba3c444014800102+fa020004ba020000+00*131072+f1b0c0+00*47+f1b0c0+00*47 | \
-     VersionedHash(0)
+     def7ab966d7b770905398eba3c444014800102+fa020004ba020000+00*131072+f1b0c0+00*47+f1b0c0+00*47 \
+     | VersionedHash(0)
     pooled: check | SIGNED | no blobs
 ";
 

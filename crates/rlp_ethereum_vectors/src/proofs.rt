@@ -2,8 +2,8 @@
 
 use crate::text::bytes_of;
 use rlp_records::Hash;
-use rlp_rows::{Hex, Line};
 use rlp_trie::verify_proof;
+use rlp_vectors::rows::{Hex, Line};
 use std::alloc::{AllocError, Global};
 use std::fmt;
 use std::fmt::Write;

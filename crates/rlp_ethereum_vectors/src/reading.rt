@@ -2,7 +2,7 @@
 
 use bytes::BytesMut;
 use rlp::{Decodable, DecoderError, Encodable};
-use rlp_rows::{Hex, Line};
+use rlp_vectors::rows::{Hex, Line};
 use std::alloc::{AllocError, Global};
 use std::fmt;
 use std::fmt::Write;

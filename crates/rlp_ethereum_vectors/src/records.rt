@@ -4,11 +4,11 @@ use crate::reading::{digits, made, made_of};
 use rlp::Uint;
 use rlp_headers::{Bloom, Log, Receipt, ReceiptStatus};
 use rlp_records::{Address, Hash};
-use rlp_rows::Line;
 use rlp_transactions::{
     AccessList, AccessListItem, AccessListTransaction, FeeMarketTransaction, NonZeroScalar,
     Recipient, Signed,
 };
+use rlp_vectors::rows::Line;
 use std::alloc::{AllocError, Global};
 use std::fmt;
 
@@ -19,8 +19,7 @@ pub(crate) const ROWS: &str = "
     Hash | 8180 | RlpIsTooShort
 
     Logs: the list of an address, the list of one hash, and three bytes.
-    record: log | f83b941111111111111111111111111111111111111111e1a02222222222222222222222222222222\
-     22222222222222222222222222222222283636174
+    record: log | f83b94+11*20+e1a0+22*32+83636174
     Log | 05 | RlpExpectedToBeList
     Log | c0 | RlpIncorrectListLen
     Log | c405c08080 | RlpIncorrectListLen
@@ -29,35 +28,34 @@ pub(crate) const ROWS: &str = "
 
     The example of an access list in EIP-2930, of 116 bytes: an account with two keys, and another
     with none. An independent program wrote the bytes.
-    record: access list | f872f85994de0b295669a9fd93d5f28d9ec85e40f4cb697baef842a000000000000000000\
-     00000000000000000000000000000000000000000000003a0000000000000000000000000000000000000000000000\
-     0000000000000000007d694bb9bc244d798123fde783fcc1c72d3bb8c189413c0
+    record: access list | f872f85994de0b295669a9fd93d5f28d9ec85e40f4cb697baef842a0+00*31+03a0+\
+     00*31+07d694bb9bc244d798123fde783fcc1c72d3bb8c189413c0
 
     Access lists of blocks by the draft of EIP-7928, which an independent program wrote: none, and one
     with an account of which all fields have values, with a slot 255 before a slot 256, and another.
     BlockAccessList | c0
-    BlockAccessList | f889f86c94+11*20+f2c981ffc6c20102c20380e7820100e3e205a080+00*31+c407820101cec\
-     28009ca02880de0b6b3a7640000c3c2010bcbc402826001c58301000080da94+12*20+c0c0c0c0c0
+    BlockAccessList | f889f86c94+11*20+f2c981ffc6c20102c20380e7820100e3e205a080+00*31+\
+     c407820101cec28009ca02880de0b6b3a7640000c3c2010bcbc402826001c58301000080da94+12*20+c0c0c0c0c0
 
     Addresses that are equal and that fall; slots of changes and of reads that do; and places in the
     block, in the changes of a slot, of balances, of nonces and of code.
-    BlockAccessList | f6da94+11*20+c0c0c0c0c0da94+11*20+c0c0c0c0c0 | Custom(\"accounts are not in o\
-     rder\")
-    BlockAccessList | f6da94+12*20+c0c0c0c0c0da94+11*20+c0c0c0c0c0 | Custom(\"accounts are not in o\
-     rder\")
+    BlockAccessList | f6da94+11*20+c0c0c0c0c0da94+11*20+c0c0c0c0c0 \
+     | Custom(\"accounts are not in order\")
+    BlockAccessList | f6da94+12*20+c0c0c0c0c0da94+11*20+c0c0c0c0c0 \
+     | Custom(\"accounts are not in order\")
     BlockAccessList | e1e094+11*20+c6c202c0c202c0c0c0c0c0 | Custom(\"accounts are not in order\")
-    BlockAccessList | e4e394+11*20+c9c4820100c0c381ffc0c0c0c0c0 | Custom(\"accounts are not in orde\
-     r\")
+    BlockAccessList | e4e394+11*20+c9c4820100c0c381ffc0c0c0c0c0 \
+     | Custom(\"accounts are not in order\")
     BlockAccessList | dddc94+11*20+c0c20707c0c0c0 | Custom(\"accounts are not in order\")
-    BlockAccessList | f838dc94+11*20+c0c20807c0c0c0da94+12*20+c0c0c0c0c0 | Custom(\"accounts are no\
-     t in order\")
-    BlockAccessList | e4e394+11*20+c9c802c6c20102c20103c0c0c0c0 | Custom(\"accounts are not in orde\
-     r\")
+    BlockAccessList | f838dc94+11*20+c0c20807c0c0c0da94+12*20+c0c0c0c0c0 \
+     | Custom(\"accounts are not in order\")
+    BlockAccessList | e4e394+11*20+c9c802c6c20102c20103c0c0c0c0 \
+     | Custom(\"accounts are not in order\")
     BlockAccessList | e1e094+11*20+c0c0c6c20201c20101c0c0 | Custom(\"accounts are not in order\")
     BlockAccessList | e1e094+11*20+c0c0c0c6c20201c20202c0 | Custom(\"accounts are not in order\")
     BlockAccessList | e1e094+11*20+c0c0c0c0c6c20280c20280 | Custom(\"accounts are not in order\")
-    BlockAccessList | f841da94+11*20+c0c0c0c0c0e594+12*20+c0c0c0c0cbc58301000080c482ffff80 | Custom\
-     (\"accounts are not in order\")
+    BlockAccessList | f841da94+11*20+c0c0c0c0c0e594+12*20+c0c0c0c0cbc58301000080c482ffff80 \
+     | Custom(\"accounts are not in order\")
 
     Too short an address, a slot that begins with a zero, five fields, a place of five bytes, three
     items in a change, a slot of 33 bytes, and a string.
@@ -70,17 +68,15 @@ pub(crate) const ROWS: &str = "
     BlockAccessList | 80 | RlpExpectedToBeList
 
     The receipt of a transaction that succeeded, with one log.
-    record: receipt | f9014601825208b90100+00*256+f83df83b94111111111111111111111111111111111111111\
-     1e1a0222222222222222222222222222222222222222222222222222222222222222283636174
+    record: receipt | f9014601825208b90100+00*256+f83df83b94+11*20+e1a0+22*32+83636174
 
     A payment, the creation of a contract, and their envelopes.
     record: payment | PAYMENT
     record: creation | CREATION
-    record: envelope of the payment |  | 02f30180843b9aca008504a817c8008252089435353535353535353535\
-     35353535353535353535880de0b6b3a764000080c0800102
-    record: envelope of the creation |  | 01f84d0180843b9aca00825208808083636174f838f79411111111111\
-     11111111111111111111111111111e1a02222222222222222222222222222222222222222222222222222222222222\
-     222010102
+    record: envelope of the payment |  \
+     | 02f30180843b9aca008504a817c80082520894<35*20>880de0b6b3a764000080c0800102
+    record: envelope of the creation |  \
+     | 01f84d0180843b9aca00825208808083636174f838f794<11*20>e1a0<22*32>010102
     FeeMarketTransaction alone | 02+PAYMENT
     FeeMarketTransaction alone |  | refused
     record: payment of type 1 | 02+PAYMENT | Custom(\"another type\")
@@ -88,20 +84,18 @@ pub(crate) const ROWS: &str = "
     The first headers of the main network, with the values that block explorers show.
     Header | GENESIS
     Header | BLOCK_1
-    fields of Header | GENESIS | 0000000000000000000000000000000000000000000000000000000000000000 1\
-     dcc4de8dec75d7aab85b567b6ccd41ad312451b948a7413f0a142fd40d49347 000000000000000000000000000000\
-     0000000000 d7f8974fb5ac78d9ac099b9ad5018bedc2ce0a72dad1827a1709da30580f0544 56e81f171bcc55a6ff\
-     8345e692c0f86e5b48e01b996cadc001622fb5e363b421 56e81f171bcc55a6ff8345e692c0f86e5b48e01b996cadc\
-     001622fb5e363b421 0000000000000000000000000000000000000000000000000000000400000000 11bbe8db4e3\
-     47b4e8c937c1c8370e4b5ed33adb3db69cbdb7a38e1e50b1b82fa 0000000000000000000000000000000000000000\
-     000000000000000000000000 0000000000000042 0 5000 0 0 true
-    fields of Header | BLOCK_1 | d4e56740f876aef8c010b86a40d5f56745a118d0906a34e69aec8c0db1cb8fa3 1\
-     dcc4de8dec75d7aab85b567b6ccd41ad312451b948a7413f0a142fd40d49347 05a56e2d52c817161883f50c441c32\
-     28cfe54d9f d67e4d450343046425ae4271474353857ab860dbc0a1dde64b41b5cd3a532bf3 56e81f171bcc55a6ff\
-     8345e692c0f86e5b48e01b996cadc001622fb5e363b421 56e81f171bcc55a6ff8345e692c0f86e5b48e01b996cadc\
-     001622fb5e363b421 00000000000000000000000000000000000000000000000000000003ff800000 476574682f7\
-     6312e302e302f6c696e75782f676f312e342e32 969b900de27b6ac6a67742365dd65f55a0526c41fd18e1b16f1a12\
-     15c2e66f59 539bd4979fef1ec4 1 5000 0 1438269988 true
+    fields of Header | GENESIS | <00*32> 1dcc4de8dec75d7aab85b567b6ccd41ad312451b948a7413f0a142fd40\
+     d49347 <00*20> d7f8974fb5ac78d9ac099b9ad5018bedc2ce0a72dad1827a1709da30580f0544 \
+     56e81f171bcc55a6ff8345e692c0f86e5b48e01b996cadc001622fb5e363b421 56e81f171bcc55a6ff8345e692c0f\
+     86e5b48e01b996cadc001622fb5e363b421 <00*27>0400000000 11bbe8db4e347b4e8c937c1c8370e4b5ed33adb3\
+     db69cbdb7a38e1e50b1b82fa <00*32> 0000000000000042 0 5000 0 0 true
+    fields of Header | BLOCK_1 | d4e56740f876aef8c010b86a40d5f56745a118d0906a34e69aec8c0db1cb8fa3 \
+     1dcc4de8dec75d7aab85b567b6ccd41ad312451b948a7413f0a142fd40d49347 05a56e2d52c817161883f50c441c3\
+     228cfe54d9f d67e4d450343046425ae4271474353857ab860dbc0a1dde64b41b5cd3a532bf3 \
+     56e81f171bcc55a6ff8345e692c0f86e5b48e01b996cadc001622fb5e363b421 56e81f171bcc55a6ff8345e692c0f\
+     86e5b48e01b996cadc001622fb5e363b421 <00*27>03ff800000 476574682f76312e302e302f6c696e75782f676f\
+     312e342e32 969b900de27b6ac6a67742365dd65f55a0526c41fd18e1b16f1a1215c2e66f59 539bd4979fef1ec4 \
+     1 5000 0 1438269988 true
     forks of Header | GENESIS | 535 0 false None None
     forks of Header | BLOCK_1 | 532 1 false None None
 
@@ -111,50 +105,27 @@ pub(crate) const ROWS: &str = "
     base fee 5. Those since Amsterdam are by the lists of fields in the drafts of EIP-7928 and
     EIP-7843.
     Header | f901ed+FIFTEEN
-    fields of Header | f901ed+FIFTEEN | 01010101010101010101010101010101010101010101010101010101010\
-     10101 0202020202020202020202020202020202020202020202020202020202020202 03030303030303030303030\
-     30303030303030303 0404040404040404040404040404040404040404040404040404040404040404 05050505050\
-     50505050505050505050505050505050505050505050505050505 0606060606060606060606060606060606060606\
-     060606060606060606060606 0000000000000000000000000000000000000000000000000000000000000000  070\
-     7070707070707070707070707070707070707070707070707070707070707 0000000000000000 1 2 3 4 true
-    forks of Header | f901ed+FIFTEEN | 496 1 false None None
+    fields of Header | = | <01*32> <02*32> <03*20> <04*32> <05*32> <06*32> <00*32>  \
+     <07*32> 0000000000000000 1 2 3 4 true
+    forks of Header | = | 496 1 false None None
     Header | f901ee+FIFTEEN+07
-    forks of Header | f901ee+FIFTEEN+07 | 497 1 false None None 00000000000000000000000000000000000\
-     00000000000000000000000000007
+    forks of Header | = | 497 1 false None None <00*31>07
     Header | f9020f+FIFTEEN+07a0+08*32
-    forks of Header | f9020f+FIFTEEN+07a0+08*32 | 530 1 true None None 0000000000000000000000000000\
-     000000000000000000000000000000000007 080808080808080808080808080808080808080808080808080808080\
-     8080808
+    forks of Header | = | 530 1 true None None <00*31>07 <08*32>
     Header | f90232+FIFTEEN+07a0+08*32+8080a0+09*32
-    forks of Header | f90232+FIFTEEN+07a0+08*32+8080a0+09*32 | 565 1 true Some(0) Some(0) 000000000\
-     0000000000000000000000000000000000000000000000000000007 08080808080808080808080808080808080808\
-     08080808080808080808080808 0909090909090909090909090909090909090909090909090909090909090909
+    forks of Header | = | 565 1 true Some(0) Some(0) <00*31>07 <08*32> <09*32>
     Header | f90253+FIFTEEN+07a0+08*32+8080a0+09*32+a0+0a*32
-    forks of Header | f90253+FIFTEEN+07a0+08*32+8080a0+09*32+a0+0a*32 | 598 1 true Some(0) Some(0\
-     ) 0000000000000000000000000000000000000000000000000000000000000007 080808080808080808080808080\
-     8080808080808080808080808080808080808 09090909090909090909090909090909090909090909090909090909\
-     09090909 0a0a0a0a0a0a0a0a0a0a0a0a0a0a0a0a0a0a0a0a0a0a0a0a0a0a0a0a0a0a0a0a
+    forks of Header | = | 598 1 true Some(0) Some(0) <00*31>07 <08*32> <09*32> <0a*32>
     Header | f90232+FIFTEEN+05a0+08*32+0607a0+09*32
-    forks of Header | f90232+FIFTEEN+05a0+08*32+0607a0+09*32 | 565 1 true Some(6) Some(7) 000000000\
-     0000000000000000000000000000000000000000000000000000005 08080808080808080808080808080808080808\
-     08080808080808080808080808 0909090909090909090909090909090909090909090909090909090909090909
-    forks of Header | f90253+FIFTEEN+05a0+08*32+0607a0+09*32+a0+0a*32 | 598 1 true Some(6) Some(7\
-     ) 0000000000000000000000000000000000000000000000000000000000000005 080808080808080808080808080\
-     8080808080808080808080808080808080808 09090909090909090909090909090909090909090909090909090909\
-     09090909 0a0a0a0a0a0a0a0a0a0a0a0a0a0a0a0a0a0a0a0a0a0a0a0a0a0a0a0a0a0a0a0a
+    forks of Header | = | 565 1 true Some(6) Some(7) <00*31>05 <08*32> <09*32>
+    forks of Header | f90253+FIFTEEN+05a0+08*32+0607a0+09*32+a0+0a*32 \
+     | 598 1 true Some(6) Some(7) <00*31>05 <08*32> <09*32> <0a*32>
 
     Header | f90274+FIFTEEN+05a0+08*32+0607a0+09*32+a0+0a*32+a0+0b*32
-    forks of Header | f90274+FIFTEEN+05a0+08*32+0607a0+09*32+a0+0a*32+a0+0b*32 | 631 1 true Some(6\
-     ) Some(7) 0000000000000000000000000000000000000000000000000000000000000005 08080808080808080808\
-     08080808080808080808080808080808080808080808 0909090909090909090909090909090909090909090909090\
-     909090909090909 0a0a0a0a0a0a0a0a0a0a0a0a0a0a0a0a0a0a0a0a0a0a0a0a0a0a0a0a0a0a0a0a 0b0b0b0b0b0b0\
-     b0b0b0b0b0b0b0b0b0b0b0b0b0b0b0b0b0b0b0b0b0b0b0b0b0b None
+    forks of Header | = | 631 1 true Some(6) Some(7) <00*31>05 <08*32> <09*32> <0a*32> <0b*32> None
     Header | f90275+FIFTEEN+05a0+08*32+0607a0+09*32+a0+0a*32+a0+0b*32+0c
-    forks of Header | f90275+FIFTEEN+05a0+08*32+0607a0+09*32+a0+0a*32+a0+0b*32+0c | 632 1 true Some\
-     (6) Some(7) 0000000000000000000000000000000000000000000000000000000000000005 08080808080808080\
-     80808080808080808080808080808080808080808080808 0909090909090909090909090909090909090909090909\
-     090909090909090909 0a0a0a0a0a0a0a0a0a0a0a0a0a0a0a0a0a0a0a0a0a0a0a0a0a0a0a0a0a0a0a0a 0b0b0b0b0b\
-     0b0b0b0b0b0b0b0b0b0b0b0b0b0b0b0b0b0b0b0b0b0b0b0b0b0b0b Some(12)
+    forks of Header | = \
+     | 632 1 true Some(6) Some(7) <00*31>05 <08*32> <09*32> <0a*32> <0b*32> Some(12)
 
     Lists of 14 to 24 empty strings. Headers of forks have 15, 16, 17, 20, 21, 22 and 23 fields, and
     an empty string is no hash.
@@ -172,7 +143,7 @@ pub(crate) const ROWS: &str = "
 
     Too many fields, one or two of the three fields of Cancun, a base fee that begins with a zero, a
     list in the place of a hash, a string, and a short list.
-    Header | f901f6+FIFTEEN+070707070707070707 | RlpIncorrectListLen
+    Header | f901f6+FIFTEEN+07*9 | RlpIncorrectListLen
     Header | f90210+FIFTEEN+05a0+08*32+06 | RlpIncorrectListLen
     Header | f90211+FIFTEEN+05a0+08*32+0607 | RlpIncorrectListLen
     Header | f901ee+FIFTEEN+00 | RlpInvalidIndirection
@@ -197,46 +168,24 @@ pub(crate) const ROWS: &str = "
     London | f88905a0+08*32+0607a0+09*32+a0+0a*32+a0+0b*32+0c80 | RlpIncorrectListLen
 
     The header of the example of EIP-2481.
-    fields of Header | f901f9a00000000000000000000000000000000000000000000000000000000000000000a000\
-     0000000000000000000000000000000000000000000000000000000000000094000000000000000000000000000000\
-     0000000000a00000000000000000000000000000000000000000000000000000000000000000a00000000000000000\
-     000000000000000000000000000000000000000000000000a000000000000000000000000000000000000000000000\
-     00000000000000000000b90100+00*256+8208ae820d0582115c8215b3821a0a827788a00000000000000000000000\
-     000000000000000000000000000000000000000000880000000000000000 | 0000000000000000000000000000000\
-     000000000000000000000000000000000 000000000000000000000000000000000000000000000000000000000000\
-     0000 0000000000000000000000000000000000000000 000000000000000000000000000000000000000000000000\
-     0000000000000000 0000000000000000000000000000000000000000000000000000000000000000 000000000000\
-     0000000000000000000000000000000000000000000000000000 00000000000000000000000000000000000000000\
-     000000000000000000008ae 7788 000000000000000000000000000000000000000000000000000000000000000\
-     0 0000000000000000 3333 4444 5555 6666 true
-    forks of Header | f901f9a00000000000000000000000000000000000000000000000000000000000000000a0000\
-     0000000000000000000000000000000000000000000000000000000000000940000000000000000000000000000000\
-     000000000a00000000000000000000000000000000000000000000000000000000000000000a000000000000000000\
-     00000000000000000000000000000000000000000000000a0000000000000000000000000000000000000000000000\
-     0000000000000000000b90100+00*256+8208ae820d0582115c8215b3821a0a827788a000000000000000000000000\
-     00000000000000000000000000000000000000000880000000000000000 | 508 3333 false None None
+    fields of Header | f901f9a0+00*32+a0+00*32+94+00*20+a0+00*32+a0+00*32+a0+00*32+b90100+00*256+\
+     8208ae820d0582115c8215b3821a0a827788a0+00*32+88+00*8 | <00*32> <00*32> <00*20> <00*32> \
+     <00*32> <00*32> <00*30>08ae 7788 <00*32> 0000000000000000 3333 4444 5555 6666 true
+    forks of Header | = | 508 3333 false None None
 
     Blocks 0 and 1 of the main network, with the lengths that block explorers show: the number,
     whether there are withdrawals, and the length. Then block 1 as one since Shanghai.
     Block | f90219+GENESIS+c0c0
-    fields of Block | f90219+GENESIS+c0c0 | 0 false 540
+    fields of Block | = | 0 false 540
     Block | f90216+BLOCK_1+c0c0
-    fields of Block | f90216+BLOCK_1+c0c0 | 1 false 537
+    fields of Block | = | 1 false 537
     Block | f90217+BLOCK_1+c0c0c0
-    fields of Block | f90217+BLOCK_1+c0c0c0 | 1 true 538
+    fields of Block | = | 1 true 538
 
     A body of the first transaction of the main network, of a payment of type 2, and of a
     withdrawal. Then the body of no items, before Shanghai and since, and bytes that are no body.
-    Body | f8bcf89ff86780862d79883d2000825208945df9b87991262f6ba471f09758cde1c0fc1de734827a69801ca0\
-     88ff6cf0fefd94db46111149ae4bfc179e9b94721fffd821d38d16464b3f71d0a045e0aff800961cfce805daef7016\
-     b9b675c137a6a41a548f7b60a3484c06a33ab502f30180843b9aca008504a817c80082520894353535353535353535\
-     3535353535353535353535880de0b6b3a764000080c0800102c0d9d801029403030303030303030303030303030303\
-     0303030304
-    fields of Body | f8bcf89ff86780862d79883d2000825208945df9b87991262f6ba471f09758cde1c0fc1de73482\
-     7a69801ca088ff6cf0fefd94db46111149ae4bfc179e9b94721fffd821d38d16464b3f71d0a045e0aff800961cfce8\
-     05daef7016b9b675c137a6a41a548f7b60a3484c06a33ab502f30180843b9aca008504a817c8008252089435353535\
-     35353535353535353535353535353535880de0b6b3a764000080c0800102c0d9d80102940303030303030303030303\
-     03030303030303030304 | type 0 0 21000, type 2 0 21000, 0 true
+    Body | f8bcf89f+FIRST+b502+PAYMENT+c0d9d8010294+03*20+04
+    fields of Body | = | type 0 0 21000, type 2 0 21000, 0 true
     Body | c2c0c0
     fields of Body | c2c0c0 | 0 false
     Body | c3c0c0c0
@@ -251,10 +200,10 @@ pub(crate) const ROWS: &str = "
     Block | f90319+BERLIN_HEADER+f90101+BERLIN_LEGACY+b89e01+BERLIN_PAYLOAD+c0
     Block | f90319+BERLIN_HEADER+f90101+BERLIN_LEGACY+b89e7d+BERLIN_PAYLOAD+c0
     Body | f90105f90101+BERLIN_LEGACY+b89e7d+BERLIN_PAYLOAD+c0
-    fields of Body | f90105f90101+BERLIN_LEGACY+b89e01+BERLIN_PAYLOAD+c0 | type 0 0 50000, type 1 0 1\
-     23457, 0 false
-    fields of Body | f90105f90101+BERLIN_LEGACY+b89e7d+BERLIN_PAYLOAD+c0 | type 0 0 50000, other type \
-     125 157, 0 false
+    fields of Body | f90105f90101+BERLIN_LEGACY+b89e01+BERLIN_PAYLOAD+c0 \
+     | type 0 0 50000, type 1 0 123457, 0 false
+    fields of Body | f90105f90101+BERLIN_LEGACY+b89e7d+BERLIN_PAYLOAD+c0 \
+     | type 0 0 50000, other type 125 157, 0 false
 
     Receipts of transactions of each type that succeeded and used 21,000 units of gas, as items and
     by themselves. The byte before the list is the type. An independent program wrote the bytes.

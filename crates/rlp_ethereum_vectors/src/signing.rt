@@ -2,14 +2,13 @@
 
 use crate::reading::{Alone, Bare, digits, ways};
 use bytes::BytesMut;
-use keccak::keccak256;
 use rlp::DecoderError;
 use rlp_headers::DepositReceipt;
-use rlp_records::{Eip2718, Enveloped, Hash};
-use rlp_rows::{Hex, Line};
+use rlp_records::{Eip2718, Enveloped, Hash, keccak256};
 use rlp_transactions::{
     BlobTransactionWithCellProofs, BlobTransactionWithProofs, DepositTransaction, Transaction,
 };
+use rlp_vectors::rows::{Hex, Line};
 use std::alloc::{AllocError, Global};
 use std::fmt;
 use std::fmt::Write;
@@ -18,69 +17,40 @@ use std::fmt::Write;
 pub(crate) const ROWS: &str = "
     The example of EIP-155. The hash of what is signed is daf5a779..8e53, and that of the
     transaction 33469b22..0788.
-    signing: what is signed | f86c098504a817c800825208943535353535353535353535353535353535353535880de0b6b\
-     3a76400008025a028ef61340bd939bc2195fe537567866003e1a15d3c71ff63e1590620aa636276a067cbe9d8997f\
-     761aecb703304b3800ccf555c9f3dc64214b297fb1966a3b6d83 | ec098504a817c8008252089435353535353535\
-     35353535353535353535353535880de0b6b3a764000080018080
-    signing: signature again | f86c098504a817c800825208943535353535353535353535353535353535353535880de0b6b3a\
-     76400008025a028ef61340bd939bc2195fe537567866003e1a15d3c71ff63e1590620aa636276a067cbe9d8997f76\
-     1aecb703304b3800ccf555c9f3dc64214b297fb1966a3b6d83 | the same
-    signing: fees | f86c098504a817c800825208943535353535353535353535353535353535353535880de0b6b\
-     3a76400008025a028ef61340bd939bc2195fe537567866003e1a15d3c71ff63e1590620aa636276a067cbe9d8997f\
-     761aecb703304b3800ccf555c9f3dc64214b297fb1966a3b6d83 | 0 Some(1) 8504a817c800 8504a817c800 tr\
-     ue
+    signing: what is signed | SIGNED | ec098504a817c80082520894<35*20>880de0b6b3a764000080018080
+    signing: signature again | SIGNED | the same
+    signing: fees | SIGNED | 0 Some(1) 8504a817c800 8504a817c800 true
     A transaction of type 1 of the tests of go-ethereum. The hash of what is signed is
     49b486f0..69f3.
-    Transaction alone | 01f8630103018261a894b94f5374fce5edbc8e2a8697c15331677e6ebf0b0a825544c001a0\
-     c9519f4f2b30335884581971573fadf60c6204f59a911df35ee8a540456b2660a032f1e8e2c5dd761f9e4f88f41c8\
-     310aeaba26a8bfcdacfedfa12ec3862d37521
-    signing: what is signed | 01f8630103018261a894b94f5374fce5edbc8e2a8697c15331677e6ebf0b0a825544c001a0c\
-     9519f4f2b30335884581971573fadf60c6204f59a911df35ee8a540456b2660a032f1e8e2c5dd761f9e4f88f41c83\
-     10aeaba26a8bfcdacfedfa12ec3862d37521 | 01e00103018261a894b94f5374fce5edbc8e2a8697c15331677e6e\
-     bf0b0a825544c0
-    signing: signature again | 01f8630103018261a894b94f5374fce5edbc8e2a8697c15331677e6ebf0b0a825544c001a0c95\
-     19f4f2b30335884581971573fadf60c6204f59a911df35ee8a540456b2660a032f1e8e2c5dd761f9e4f88f41c8310\
-     aeaba26a8bfcdacfedfa12ec3862d37521 | the same
-    signing: fees | 01f8630103018261a894b94f5374fce5edbc8e2a8697c15331677e6ebf0b0a825544c001a0c\
-     9519f4f2b30335884581971573fadf60c6204f59a911df35ee8a540456b2660a032f1e8e2c5dd761f9e4f88f41c83\
-     10aeaba26a8bfcdacfedfa12ec3862d37521 | 1 Some(1) 01 01 true
+    Transaction alone | 01f8630103018261a894b94f5374fce5edbc8e2a8697c15331677e6ebf0b0a825544c001a0c\
+     9519f4f2b30335884581971573fadf60c6204f59a911df35ee8a540456b2660a032f1e8e2c5dd761f9e4f88f41c831\
+     0aeaba26a8bfcdacfedfa12ec3862d37521
+    signing: what is signed | = \
+     | 01e00103018261a894b94f5374fce5edbc8e2a8697c15331677e6ebf0b0a825544c0
+    signing: signature again | = | the same
+    signing: fees | = | 1 Some(1) 01 01 true
     The transaction 0ec0b6a2..2ee0 of the main chain, of type 2. The hash of what is signed is
     0d5688ac..b682.
-    Transaction alone | 02f8b00142843b9aca008504a817c80082ad62946069a6c32cf691f5982febae4faf8a6f3a\
-     b2f0f680b844a22cb4650000000000000000000000005eee75727d804a2b13038928d36f8b188945a57a000000000\
-     0000000000000000000000000000000000000000000000000000000c080a0840cfc572845f5786e702984c2a58252\
-     8cad4b49b2a10b9db1be7fca90058565a025e7109ceb98168d95b09b18bbf6b685130e0562f233877d492b94eee0c\
-     5b6d1
-    signing: what is signed | 02f8b00142843b9aca008504a817c80082ad62946069a6c32cf691f5982febae4faf8a6f3ab\
-     2f0f680b844a22cb4650000000000000000000000005eee75727d804a2b13038928d36f8b188945a57a0000000000\
-     000000000000000000000000000000000000000000000000000000c080a0840cfc572845f5786e702984c2a582528\
-     cad4b49b2a10b9db1be7fca90058565a025e7109ceb98168d95b09b18bbf6b685130e0562f233877d492b94eee0c5\
-     b6d1 | 02f86d0142843b9aca008504a817c80082ad62946069a6c32cf691f5982febae4faf8a6f3ab2f0f680b844\
-     a22cb4650000000000000000000000005eee75727d804a2b13038928d36f8b188945a57a000000000000000000000\
-     0000000000000000000000000000000000000000000c0
-    signing: signature again | 02f8b00142843b9aca008504a817c80082ad62946069a6c32cf691f5982febae4faf8a6f3ab2f\
-     0f680b844a22cb4650000000000000000000000005eee75727d804a2b13038928d36f8b188945a57a000000000000\
-     0000000000000000000000000000000000000000000000000000c080a0840cfc572845f5786e702984c2a582528ca\
-     d4b49b2a10b9db1be7fca90058565a025e7109ceb98168d95b09b18bbf6b685130e0562f233877d492b94eee0c5b6\
-     d1 | the same
-    signing: fees | 02f8b00142843b9aca008504a817c80082ad62946069a6c32cf691f5982febae4faf8a6f3ab\
-     2f0f680b844a22cb4650000000000000000000000005eee75727d804a2b13038928d36f8b188945a57a0000000000\
-     000000000000000000000000000000000000000000000000000000c080a0840cfc572845f5786e702984c2a582528\
-     cad4b49b2a10b9db1be7fca90058565a025e7109ceb98168d95b09b18bbf6b685130e0562f233877d492b94eee0c5\
-     b6d1 | 2 Some(1) 8504a817c800 843b9aca00 false
+    Transaction alone | 02f8b00142843b9aca008504a817c80082ad62946069a6c32cf691f5982febae4faf8a6f3ab\
+     2f0f680b844a22cb465+00*12+5eee75727d804a2b13038928d36f8b188945a57a+00*32+\
+     c080a0840cfc572845f5786e702984c2a582528cad4b49b2a10b9db1be7fca90058565a025e7109ceb98168d95b09b\
+     18bbf6b685130e0562f233877d492b94eee0c5b6d1
+    signing: what is signed | = | 02f86d0142843b9aca008504a817c80082ad62946069a6c32cf691f5982febae4\
+     faf8a6f3ab2f0f680b844a22cb465<00*12>5eee75727d804a2b13038928d36f8b188945a57a<00*32>c0
+    signing: signature again | = | the same
+    signing: fees | = | 2 Some(1) 8504a817c800 843b9aca00 false
     Each number v of EIP-155, and others.
     signing: what is signed | c98080808080801b0102 | c6808080808080
-    signing: fees | c98080808080801b0102 | 0 None 80 80 true
-    signing: signature again | c98080808080801b0102 | the same
+    signing: fees | = | 0 None 80 80 true
+    signing: signature again | = | the same
     signing: signature again | c98080808080801c0102 | the same
     signing: what is signed | c9808080808080230102 | c9808080808080808080
     signing: fees | c9808080808080240102 | 0 Some(0) 80 80 true
-    signing: signature again | c9808080808080240102 | the same
-    signing: what is signed | d280808080808089+0200000000000000220102 | d180808080808088ffffffffffffffff8\
-     080
-    signing: signature again | d280808080808089+0200000000000000220102 | the same
+    signing: signature again | = | the same
+    signing: what is signed | d280808080808089+0200000000000000220102 | d180808080808088<ff*8>8080
+    signing: signature again | = | the same
     signing: what is signed | d280808080808089+0200000000000000230102 | None
-    signing: fees | d280808080808089+0200000000000000230102 | 0 None 80 80 true
+    signing: fees | = | 0 None 80 80 true
     signing: what is signed | c9808080808080800102 | None
     signing: what is signed | c98080808080801a0102 | None
     signing: what is signed | c98080808080801d0102 | None
@@ -109,58 +79,51 @@ pub(crate) const ROWS: &str = "
     Transaction alone | 01cd+80*7+c08201000102 | RlpIsTooBig
     Transaction alone | 01cb+80*7+c0000102 | RlpInvalidIndirection
     What is signed of the example of EIP-155 for Polygon, chain 137, is no signed transaction.
-    Transaction alone | ed098504a817c800825208943535353535353535353535353535353535353535880de0b6b3a\
-     76400008081898080 | Custom(\"not a scalar of a signature\")
-    UnsignedTransaction alone | ed098504a817c800825208943535353535353535353535353535353535353535880\
-     de0b6b3a76400008081898080
-    signed: numbers | ed098504a817c800825208943535353535353535353535353535353535353535880de0b6b3a76\
-     400008081898080 | Some(137) 9 21000
+    Transaction alone | ed098504a817c80082520894+35*20+880de0b6b3a76400008081898080 \
+     | Custom(\"not a scalar of a signature\")
+    UnsignedTransaction alone | =
+    signed: numbers | = | Some(137) 9 21000
     Each number of a signature is from 1 to below the order of the group, in SEC 2.
     Transaction alone | c98080808080801b8002 | Custom(\"not a scalar of a signature\")
     Transaction alone | c98080808080801b0180 | Custom(\"not a scalar of a signature\")
-    Transaction alone | e98080808080801ba0fffffffffffffffffffffffffffffffebaaedce6af48a03bbfd25e8cd\
-     036414102 | Custom(\"not a scalar of a signature\")
-    Transaction alone | e98080808080801b01a0fffffffffffffffffffffffffffffffebaaedce6af48a03bbfd25e8\
-     cd0364141 | Custom(\"not a scalar of a signature\")
-    Transaction alone | e98080808080801ba0fffffffffffffffffffffffffffffffebaaedce6af48a03bbfd25e8cd\
-     036414002
-    Transaction alone | e98080808080801b01a0fffffffffffffffffffffffffffffffebaaedce6af48a03bbfd25e8\
-     cd0364140
-    Transaction alone | e98080808080801ba0fffffffffffffffffffffffffffffffffffffffffffffffffffffffff\
-     fffffff02 | Custom(\"not a scalar of a signature\")
+    Transaction alone | e98080808080801ba0+ff*15+febaaedce6af48a03bbfd25e8cd036414102 \
+     | Custom(\"not a scalar of a signature\")
+    Transaction alone | e98080808080801b01a0+ff*15+febaaedce6af48a03bbfd25e8cd0364141 \
+     | Custom(\"not a scalar of a signature\")
+    Transaction alone | e98080808080801ba0+ff*15+febaaedce6af48a03bbfd25e8cd036414002
+    Transaction alone | e98080808080801b01a0+ff*15+febaaedce6af48a03bbfd25e8cd0364140
+    Transaction alone | e98080808080801ba0+ff*32+02 | Custom(\"not a scalar of a signature\")
     Transaction alone | 01cb+80*7+c0018002 | Custom(\"not a scalar of a signature\")
     Transaction alone | 01cb+80*7+c0010180 | Custom(\"not a scalar of a signature\")
     A second number is low up to half of the order, rounded down, in EIP-2.
-    signing: low s | e98080808080801b01a07fffffffffffffffffffffffffffffff5d576e7357a4501ddfe92f4668\
-     1b20a0 | true
-    signing: low s | e98080808080801b01a07fffffffffffffffffffffffffffffff5d576e7357a4501ddfe92f4668\
-     1b20a1 | false
+    signing: low s | e98080808080801b01a07f+ff*15+5d576e7357a4501ddfe92f46681b20a0 | true
+    signing: low s | e98080808080801b01a07f+ff*15+5d576e7357a4501ddfe92f46681b20a1 | false
     signing: low s | 01cb+80*7+c0010102 | true
     With one blob of zeros, as in EIP-4844 and EIP-7594.
-    sent: with proofs | 03fa0200b1+f843018002030494+35*20+0780c008e1a001+00*31+800102+fa020004ba02\
-     0000+00*131072+f1b0c0+00*47+f1b0c0+00*47
-    sent: with cell proofs | 03fa0200e4+f843018002030494+35*20+0780c008e1a001+00*31+800102+01fa020\
-     004ba020000+00*131072+f1b0c0+00*47+f862b0c0+00*47+b0c0+00*47
+    sent: with proofs | 03fa0200b1+f843018002030494+35*20+0780c008e1a001+00*31+800102+\
+     fa020004ba020000+00*131072+f1b0c0+00*47+f1b0c0+00*47
+    sent: with cell proofs | 03fa0200e4+f843018002030494+35*20+0780c008e1a001+00*31+800102+\
+     01fa020004ba020000+00*131072+f1b0c0+00*47+f862b0c0+00*47+b0c0+00*47
     sent: with proofs | 03f848+f843018002030494+35*20+0780c008e1a001+00*31+800102+c0c0c0
     sent: with cell proofs | 03f849+f843018002030494+35*20+0780c008e1a001+00*31+800102+01c0c0c0
-    sent: with cell proofs | 03f849+f843018002030494+35*20+0780c008e1a001+00*31+800102+02c0c0c\
-     0 | Custom(\"unknown wrapper version\")
-    sent: with cell proofs | 03f848+f843018002030494+35*20+0780c008e1a001+00*31+800102+c0c0c0 | Rl\
-     pIncorrectListLen
-    sent: with proofs | 03f849+f843018002030494+35*20+0780c008e1a001+00*31+800102+01c0c0c0 | RlpIn\
-     correctListLen
+    sent: with cell proofs | 03f849+f843018002030494+35*20+0780c008e1a001+00*31+800102+02c0c0c0 \
+     | Custom(\"unknown wrapper version\")
+    sent: with cell proofs | 03f848+f843018002030494+35*20+0780c008e1a001+00*31+800102+c0c0c0 \
+     | RlpIncorrectListLen
+    sent: with proofs | 03f849+f843018002030494+35*20+0780c008e1a001+00*31+800102+01c0c0c0 \
+     | RlpIncorrectListLen
     sent: with proofs | 03f843018002030494+35*20+0780c008e1a001+00*31+800102 | RlpIncorrectListLen
-    sent: with proofs | 02f848+f843018002030494+35*20+0780c008e1a001+00*31+800102+c0c0c0 | Custom(\
-     \"another type\")
-    sent: with proofs | 03fa02004e+f843018002030494+35*20+0780c008e1a001+00*31+800102+fa020003ba01\
-     ffff+00*131071+c0c0 | RlpIsTooShort
-    sent: with proofs | 03f84b+f843018002030494+35*20+0780c008e1a001+00*31+800102+c0c3820000c0 | R\
-     lpIsTooShort
+    sent: with proofs | 02f848+f843018002030494+35*20+0780c008e1a001+00*31+800102+c0c0c0 \
+     | Custom(\"another type\")
+    sent: with proofs | 03fa02004e+f843018002030494+35*20+0780c008e1a001+00*31+800102+\
+     fa020003ba01ffff+00*131071+c0c0 | RlpIsTooShort
+    sent: with proofs | 03f84b+f843018002030494+35*20+0780c008e1a001+00*31+800102+c0c3820000c0 \
+     | RlpIsTooShort
     A deposit of the OP stack: the attributes of a block. Its first field is the hash by the rule
     for such deposits: of 1 and of the hash of what its data names, a block and a number.
     sent: deposit | DEPOSIT
-    sent: source of deposit | DEPOSIT | 44bae9d41b8380d781187b426c6fe43df5fb2fb57bd4466ef6a701e1f01\
-     e0156 true
+    sent: source of deposit | DEPOSIT \
+     | 44bae9d41b8380d781187b426c6fe43df5fb2fb57bd4466ef6a701e1f01e0156 true
     sent: deposit | 7ec0 | RlpIncorrectListLen
     sent: deposit | 02c0 | Custom(\"another type\")
     Receipts of deposits: those of the tests of reth's OP stack, since Regolith with the nonce 4012991,
@@ -179,8 +142,8 @@ pub(crate) const ROWS: &str = "
     Statuses of receipts, of which the third is in the trie of the receipts of block 46,147.
     TypedReceipt | f9010801825208b90100+00*256+c0
     TypedReceipt | f9010880825208b90100+00*256+c0
-    TypedReceipt | f90128a096a8e009d2b88b1483e6941e6812e32263b05683fac202abc622a3e31aed1957825208b\
-     90100+00*256+c0
+    TypedReceipt | f90128a096a8e009d2b88b1483e6941e6812e32263b05683fac202abc622a3e31aed1957825208b9\
+     0100+00*256+c0
     TypedReceipt | f9010802825208b90100+00*256+c0 | Custom(\"unknown receipt status\")
     TypedReceipt | f9010800825208b90100+00*256+c0 | Custom(\"unknown receipt status\")
     TypedReceipt | f901279f+01*31+825208b90100+00*256+c0 | Custom(\"unknown receipt status\")

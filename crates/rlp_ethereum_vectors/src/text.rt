@@ -7,5 +7,5 @@ use std::alloc::{AllocError, Global};
 /// [`NAMED`], or hexadecimal digits, or such digits, `*`, and the number of times that they are
 /// repeated.
 pub(crate) fn bytes_of(alloc: Global, text: &str) -> Result<Vec<u8>, AllocError> {
-    rlp_rows::bytes_named(alloc, text, NAMED)
+    rlp_vectors::rows::bytes_named(alloc, text, NAMED)
 }

@@ -8,11 +8,11 @@ use crate::reading::{Alone, digits, fault, made, ways};
 use crate::signing::{tell_again, tell_fees, tell_low, tell_parity, tell_payload};
 use rlp::Uint;
 use rlp_records::{Address, Eip2718};
-use rlp_rows::{Hex, Line};
 use rlp_transactions::{
     Authorization, LegacyTransaction, Recipient, Tagged, Transaction, UnsignedLegacyTransaction,
     UnsignedTransaction,
 };
+use rlp_vectors::rows::{Hex, Line};
 use std::alloc::Global;
 use std::fmt;
 use std::fmt::Write;
@@ -23,18 +23,14 @@ pub(crate) const ROWS: &str = "
     price of gas, the value, the signature, the nonce, the limit of gas and the length of the data.
     The example before it is signed is no signed transaction.
     LegacyTransaction | FIRST
-    fields of LegacyTransaction | FIRST | 5df9b87991262f6ba471f09758cde1c0fc1de734 0000000000000000\
-     0000000000000000000000000000000000002d79883d2000 000000000000000000000000000000000000000000000\
-     0000000000000007a69 000000000000000000000000000000000000000000000000000000000000001c 88ff6cf0f\
-     efd94db46111149ae4bfc179e9b94721fffd821d38d16464b3f71d0 45e0aff800961cfce805daef7016b9b675c137\
-     a6a41a548f7b60a3484c06a33a 0 21000 0
+    fields of LegacyTransaction | FIRST | 5df9b87991262f6ba471f09758cde1c0fc1de734 \
+     <00*26>2d79883d2000 <00*30>7a69 <00*31>1c 88ff6cf0fefd94db46111149ae4bfc179e9b94721fffd821d38d\
+     16464b3f71d0 45e0aff800961cfce805daef7016b9b675c137a6a41a548f7b60a3484c06a33a 0 21000 0
     LegacyTransaction | EXAMPLE | Custom(\"not a scalar of a signature\")
     LegacyTransaction | SIGNED
-    fields of LegacyTransaction | SIGNED | 3535353535353535353535353535353535353535 000000000000000\
-     00000000000000000000000000000000000000004a817c800 00000000000000000000000000000000000000000000\
-     00000de0b6b3a7640000 0000000000000000000000000000000000000000000000000000000000000025 28ef6134\
-     0bd939bc2195fe537567866003e1a15d3c71ff63e1590620aa636276 67cbe9d8997f761aecb703304b3800ccf555c\
-     9f3dc64214b297fb1966a3b6d83 9 21000 0
+    fields of LegacyTransaction | SIGNED | <35*20> <00*27>04a817c800 <00*24>0de0b6b3a7640000 \
+     <00*31>25 28ef61340bd939bc2195fe537567866003e1a15d3c71ff63e1590620aa636276 \
+     67cbe9d8997f761aecb703304b3800ccf555c9f3dc64214b297fb1966a3b6d83 9 21000 0
 
     Transactions by themselves, and as items of a block: a list, or the string of an envelope.
     Transaction alone | LEGACY
@@ -53,58 +49,42 @@ pub(crate) const ROWS: &str = "
     fields of Transaction alone | LEGACY | type 0 9 21000
     fields of Transaction alone | ACCESS_LIST | type 1 7 50000
     fields of Transaction alone | FEE_MARKET | type 2 8 21000
-    fields of Transaction alone | BLOB | 000000000000000000000000000000000000000000000000000000003b\
-     9aca00 00000000000000000000000000000000000000000000000000000006fc23ac00 0000000000000000000000\
-     000000000000000000000000000000000000000007 beef 0000000000000000000000000000000000000000000000\
-     0000000000000f4240 0000000000000000000000000000000000000000000000000000000000005555 0000000000\
-     000000000000000000000000000000000000000000000000006666 1 9 60000 1 2 true
-    fields of Transaction alone | SET_CODE | 000000000000000000000000000000000000000000000000000000\
-     003b9aca00 00000000000000000000000000000000000000000000000000000009502f9000 000000000000000000\
-     0000000000000000000000000000000000000000000000 010203 0000000000000000000000000000000000000000\
-     00000000000000000000bbbb 000000000000000000000000000000000000000000000000000000000000cccc 10 7\
-     0000 true
-    second authorization | SET_CODE | 0000000000000000000000000000000000000000000000000000000000000\
-     001 0000000000000000000000000000000000000000000000000000000000009999 0000000000000000000000000\
-     00000000000000000000000000000000000aaaa 300 255
+    fields of Transaction alone | BLOB | <00*28>3b9aca00 <00*27>06fc23ac00 <00*31>07 beef \
+     <00*29>0f4240 <00*30>5555 <00*30>6666 1 9 60000 1 2 true
+    fields of Transaction alone | SET_CODE \
+     | <00*28>3b9aca00 <00*27>09502f9000 <00*32> 010203 <00*30>bbbb <00*30>cccc 10 70000 true
+    second authorization | SET_CODE | <00*31>01 <00*30>9999 <00*30>aaaa 300 255
 
     What transactions of types 1, 3 and 4 have: the recipient, the value, the input, the nonce, the limit
     of gas and the length of the access list.
-    parts of Transaction alone | ACCESS_LIST | 3535353535353535353535353535353535353535 0000000000\
-     000000000000000000000000000000000000000000000000000005 cafe 7 50000 Some(1)
-    parts of Transaction alone | BLOB | 3535353535353535353535353535353535353535 00000000000000000\
-     00000000000000000000000000000000000000000000007 beef 9 60000 Some(1)
-    parts of Transaction alone | SET_CODE | 3535353535353535353535353535353535353535 0000000000000\
-     000000000000000000000000000000000000000000000000000 010203 10 70000 Some(0)
+    parts of Transaction alone | ACCESS_LIST | <35*20> <00*31>05 cafe 7 50000 Some(1)
+    parts of Transaction alone | BLOB | <35*20> <00*31>07 beef 9 60000 Some(1)
+    parts of Transaction alone | SET_CODE | <35*20> <00*32> 010203 10 70000 Some(0)
 
     What is signed: of a legacy transaction, without EIP-155 and for chain 1, of the other types, and
     of the second authorization of the transaction of type 4.
-    signed: payload | LEGACY | e9098504a817c800825208943535353535353535353535353535353535353535880d\
-     e0b6b3a764000080
-    signed: payload for chain 1 | LEGACY | ec098504a817c8008252089435353535353535353535353535353535\
-     35353535880de0b6b3a764000080018080
-    signed: payload | ACCESS_LIST | 01f85d0107843b9aca0082c3509435353535353535353535353535353535353\
-     535350582cafef838f7941111111111111111111111111111111111111111e1a022222222222222222222222222222\
-     22222222222222222222222222222222222
+    signed: payload | LEGACY | e9098504a817c80082520894<35*20>880de0b6b3a764000080
+    signed: payload for chain 1 | LEGACY | ec098504a817c80082520894<35*20>880de0b6b3a764000080018080
+    signed: payload | ACCESS_LIST \
+     | 01f85d0107843b9aca0082c35094<35*20>0582cafef838f794<11*20>e1a0<22*32>
     signed: payload | FEE_MARKET | 02d40108843b9aca008504a817c800825208800600c0
-    signed: payload | BLOB | 03f8ab0109843b9aca008506fc23ac0082ea6094353535353535353535353535353535\
-     35353535350782beeff838f7941111111111111111111111111111111111111111e1a0222222222222222222222222\
-     2222222222222222222222222222222222222222830f4240f842a00155555555555555555555555555555555555555\
-     555555555555555555555555a00166666666666666666666666666666666666666666666666666666666666666
-    signed: payload | SET_CODE | 04f86f010a843b9aca008509502f90008301117094353535353535353535353535\
-     35353535353535358083010203c0f841de809477777777777777777777777777777777777777770301827777828888\
-     e10194888888888888888888888888888888888888888882012c81ff82999982aaaa
-    signed: second authorization | SET_CODE | 05d90194888888888888888888888888888888888888888882012c
+    signed: payload | BLOB | 03f8ab0109843b9aca008506fc23ac0082ea6094<35*20>0782beeff838f794\
+     <11*20>e1a0<22*32>830f4240f842a001<55*31>a001<66*31>
+    signed: payload | SET_CODE | 04f86f010a843b9aca008509502f90008301117094<35*20>8083010203c0f841d\
+     e8094<77*20>0301827777828888e10194<88*20>82012c81ff82999982aaaa
+    signed: second authorization | SET_CODE | 05d90194<88*20>82012c
 
     What is signed of transactions of types 0 to 4 with 256 bytes of data, and of one with 65,536
     bytes: it is read and written as a transaction before it is signed, and has this length.
     signed: payload, both ways | f9010b8080808080b90100+aa*256+800102 | both ways, 267
     signed: payload, both ways | 01f9010d018080808080b90100+aa*256+c0800102 | both ways, 270
     signed: payload, both ways | 02f9010e01808080808080b90100+aa*256+c0800102 | both ways, 271
-    signed: payload, both ways | 03f901240180808080+94+35*20+80b90100+aa*256+c080c0800102 | both ways, \
-     293
-    signed: payload, both ways | 04f901230180808080+94+35*20+80b90100+aa*256+c0c0800102 | both ways, 2\
-     92
-    signed: payload, both ways | 02fa01000f01808080808080ba010000+aa*65536+c0800102 | both ways, 65553
+    signed: payload, both ways | 03f901240180808080+94+35*20+80b90100+aa*256+c080c0800102 \
+     | both ways, 293
+    signed: payload, both ways | 04f901230180808080+94+35*20+80b90100+aa*256+c0c0800102 \
+     | both ways, 292
+    signed: payload, both ways | 02fa01000f01808080808080ba010000+aa*65536+c0800102 \
+     | both ways, 65553
 
     Bytes that are no transaction by themselves.
     No bytes.
@@ -126,8 +106,7 @@ pub(crate) const ROWS: &str = "
     Type 5.
     Transaction | 8205c0 | Custom(\"unknown transaction type\")
     A legacy list in a string.
-    Transaction | b1f0098504a817c800825208943535353535353535353535353535353535353535880de0b6b3a7640\
-     0008025821111822222 | Custom(\"unknown transaction type\")
+    Transaction | b1+LEGACY | Custom(\"unknown transaction type\")
     The payload of type 2 as a list.
     Transaction | db0108843b9aca008504a817c800825208800600c080823333824444 | RlpIncorrectListLen
     An envelope with a byte after the payload.
@@ -188,73 +167,64 @@ pub(crate) const ROWS: &str = "
     signed: type 1 | 01+UNSIGNED_2 | RlpIncorrectListLen
 
     The same with a bit changed, of the length of the list or of the type.
-    UnsignedTransaction alone | ed098504a817c800825208943535353535353535353535353535353535353535880\
-     de0b6b3a764000080018080 | refused
-    UnsignedTransaction alone | e8098504a817c800825208943535353535353535353535353535353535353535880\
-     de0b6b3a764000080 | refused
+    UnsignedTransaction alone | ed098504a817c80082520894+35*20+880de0b6b3a764000080018080 | refused
+    UnsignedTransaction alone | e8098504a817c80082520894+35*20+880de0b6b3a764000080 | refused
     UnsignedTransaction alone | ce800182ea6080808260018205398080 | refused
     UnsignedTransaction alone | 00+UNSIGNED_1 | refused
-    UnsignedTransaction alone | 01f8850503843b9aca0083011170800182cafef872f859941111111111111111111\
-     111111111111111111111f842a02222222222222222222222222222222222222222222222222222222222222222a03\
-     333333333333333333333333333333333333333333333333333333333333333d694444444444444444444444444444\
-     4444444444444c0 | refused
-    UnsignedTransaction alone | 02f9470188ffffffffffffffff80a0fffffffffffffffffffffffffffffffffffff\
-     fffffffffffffffffffffffffff8252089435353535353535353535353535353535353535350780c0 | refused
+    UnsignedTransaction alone | 01f8850503843b9aca0083011170800182cafef872f85994+11*20+f842a0+\
+     22*32+a0+33*32+d694+44*20+c0 | refused
+    UnsignedTransaction alone | 02f9470188+ff*8+80a0+ff*32+82520894+35*20+0780c0 | refused
     UnsignedTransaction alone | 02+UNSIGNED_3 | refused
-    UnsignedTransaction alone | 04f83c01800102039435353535353535353535353535353535353535358080c0dfd\
-     e809466666666666666666666666666666666666666660701821111822222 | refused
+    UnsignedTransaction alone | 04f83c018001020394+35*20+8080c0dfde8094+66*20+0701821111822222 \
+     | refused
 
     The example of EIP-155 from its fields, with and without the number of the chain.
     signed: example for chain 1 | EXAMPLE
     signed: example | BEFORE
-    signed: bytes of the example for chain 1 |  | ec098504a817c800825208943535353535353535353535353\
-     535353535353535880de0b6b3a764000080018080
+    signed: bytes of the example for chain 1 |  \
+     | ec098504a817c80082520894<35*20>880de0b6b3a764000080018080
 
     An authorization: the number of the chain, the address and the nonce.
     signed: an authorization | 05+UNSIGNED_5
-    signed: authorization | 05+UNSIGNED_5 | fffffffffffffffffffffffffffffffffffffffffffffffffffffff\
-     fffffffff 7777777777777777777777777777777777777777 18446744073709551615
+    signed: authorization | = | <ff*32> <77*20> 18446744073709551615
     signed: an authorization |  | refused
     signed: an authorization | 04c0 | refused
 
     Bytes that are no transaction before it is signed.
     Seven items.
-    UnsignedTransaction alone | ea098504a817c800825208943535353535353535353535353535353535353535880\
-     de0b6b3a76400008001 | RlpIncorrectListLen
+    UnsignedTransaction alone | ea098504a817c80082520894+35*20+880de0b6b3a76400008001 \
+     | RlpIncorrectListLen
     Eight items.
-    UnsignedTransaction alone | eb098504a817c800825208943535353535353535353535353535353535353535880\
-     de0b6b3a7640000800180 | RlpIncorrectListLen
+    UnsignedTransaction alone | eb098504a817c80082520894+35*20+880de0b6b3a7640000800180 \
+     | RlpIncorrectListLen
     Ten items.
-    UnsignedTransaction alone | ed098504a817c800825208943535353535353535353535353535353535353535880\
-     de0b6b3a76400008001808080 | RlpIncorrectListLen
+    UnsignedTransaction alone | ed098504a817c80082520894+35*20+880de0b6b3a76400008001808080 \
+     | RlpIncorrectListLen
     1 in the place of the first 0.
-    UnsignedTransaction alone | ec098504a817c800825208943535353535353535353535353535353535353535880\
-     de0b6b3a764000080010180 | RlpIsTooBig
+    UnsignedTransaction alone | ec098504a817c80082520894+35*20+880de0b6b3a764000080010180 \
+     | RlpIsTooBig
     1 in the place of the second 0.
-    UnsignedTransaction alone | ec098504a817c800825208943535353535353535353535353535353535353535880\
-     de0b6b3a764000080018001 | RlpIsTooBig
+    UnsignedTransaction alone | ec098504a817c80082520894+35*20+880de0b6b3a764000080018001 \
+     | RlpIsTooBig
     The byte 0 in the place of the first 0.
-    UnsignedTransaction alone | ec098504a817c800825208943535353535353535353535353535353535353535880\
-     de0b6b3a764000080010080 | RlpIsTooBig
+    UnsignedTransaction alone | ec098504a817c80082520894+35*20+880de0b6b3a764000080010080 \
+     | RlpIsTooBig
     A list in the place of the second 0.
-    UnsignedTransaction alone | ec098504a817c800825208943535353535353535353535353535353535353535880\
-     de0b6b3a7640000800180c0 | RlpExpectedToBeData
+    UnsignedTransaction alone | ec098504a817c80082520894+35*20+880de0b6b3a7640000800180c0 \
+     | RlpExpectedToBeData
     A signed transaction.
-    UnsignedTransaction alone | f0098504a817c800825208943535353535353535353535353535353535353535880\
-     de0b6b3a76400008025821111822222 | RlpIsTooBig
+    UnsignedTransaction alone | LEGACY | RlpIsTooBig
     A number of the chain of 65 bits.
-    UnsignedTransaction alone | f5098504a817c800825208943535353535353535353535353535353535353535880\
-     de0b6b3a764000080890100000000000000008080 | RlpIsTooBig
+    UnsignedTransaction alone \
+     | f5098504a817c80082520894+35*20+880de0b6b3a7640000808901+00*8+8080 | RlpIsTooBig
     A number of the chain that begins with a zero.
-    UnsignedTransaction alone | ee098504a817c800825208943535353535353535353535353535353535353535880\
-     de0b6b3a7640000808200018080 | RlpInvalidIndirection
+    UnsignedTransaction alone | ee098504a817c80082520894+35*20+880de0b6b3a7640000808200018080 \
+     | RlpInvalidIndirection
     The list of a legacy transaction after the type 2.
-    UnsignedTransaction alone | 02e9098504a817c8008252089435353535353535353535353535353535353535358\
-     80de0b6b3a764000080 | RlpIncorrectListLen
+    UnsignedTransaction alone | 02+BEFORE | RlpIncorrectListLen
     A signed transaction of type 2.
-    UnsignedTransaction alone | 02f84a0188ffffffffffffffff80a0fffffffffffffffffffffffffffffffffffff\
-     fffffffffffffffffffffffffff8252089435353535353535353535353535353535353535350780c0800102 | RlpI\
-     ncorrectListLen
+    UnsignedTransaction alone | 02f84a0188+ff*8+80a0+ff*32+82520894+35*20+0780c0800102 \
+     | RlpIncorrectListLen
     An authorization.
     UnsignedTransaction alone | 05c0 | Custom(\"unknown transaction type\")
     Type 0.
@@ -263,17 +233,16 @@ pub(crate) const ROWS: &str = "
     UnsignedTransaction alone |  | RlpIsTooShort
 
     Signed transactions of types 0 to 4 without their signatures. The legacy one is for chain 1.
-    signed: without its signature | f0098504a817c80082520894353535353535353535353535353535353535353\
-     5880de0b6b3a76400008025821111822222 | ec098504a817c8008252089435353535353535353535353535353535\
-     35353535880de0b6b3a764000080018080
-    signed: without its signature | 01d40503843b9aca0083011170800182cafec0010203 | 01d10503843b9aca\
-     0083011170800182cafec0
-    signed: without its signature | 02e001020304059435353535353535353535353535353535353535350780c08\
-     00102 | 02dd01020304059435353535353535353535353535353535353535350780c0
-    signed: without its signature | 03e201020304059435353535353535353535353535353535353535350780c00\
-     8c0800102 | 03df01020304059435353535353535353535353535353535353535350780c008c0
-    signed: without its signature | 04e101020304059435353535353535353535353535353535353535350780c0c\
-     0800102 | 04de01020304059435353535353535353535353535353535353535350780c0c0
+    signed: without its signature | LEGACY \
+     | ec098504a817c80082520894<35*20>880de0b6b3a764000080018080
+    signed: without its signature | 01d40503843b9aca0083011170800182cafec0010203 \
+     | 01d10503843b9aca0083011170800182cafec0
+    signed: without its signature | 02e0010203040594+35*20+0780c0800102 \
+     | 02dd010203040594<35*20>0780c0
+    signed: without its signature | 03e2010203040594+35*20+0780c008c0800102 \
+     | 03df010203040594<35*20>0780c008c0
+    signed: without its signature | 04e1010203040594+35*20+0780c0c0800102 \
+     | 04de010203040594<35*20>0780c0c0
 ";
 
 /// Returns the example of EIP-155 with this number of the chain.

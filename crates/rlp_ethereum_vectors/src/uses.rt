@@ -1,12 +1,11 @@
 //! What a node does with the bytes of strangers.
 
 use crate::text::bytes_of;
-use keccak::keccak256;
 use rlp::DecoderError;
-use rlp_records::Hash;
-use rlp_rows::{Hex, Line};
+use rlp_records::{Hash, keccak256};
 use rlp_transactions::AnyTransaction;
 use rlp_trie::{ProofFault, verify_proof};
+use rlp_vectors::rows::{Hex, Line};
 use std::alloc::Global;
 use std::fmt;
 use std::fmt::Write;

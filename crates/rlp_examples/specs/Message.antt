@@ -1,11 +1,8 @@
 -- How messages are written and read.
-use Rattle.std.specs.Prelude.{ℕ, ◌⊎◌, codes}
+use Rattle.std.specs.{Prelude.{ℕ, ◌⊎◌, codes}, Global.Vec, Vec.vec_items}
 use Rattle.std.proofs.Common.{inl, inr}
-use Rattle.std.specs.Global.{Vec}
-use Rattle.std.specs.Vec.{vec_items}
 use Rattle.rlp.specs.Codec.{Cases, Codec, and_case, byte_string, last_case, newtype, number, tagged_list}
-use Rattle.rlp_examples.specs.declared.message.Message.{Message}
-use Rattle.rlp_examples.specs.declared.message.Message.TheVariants.{Data, Ping}
+use Rattle.rlp_examples.specs.{declared.message.Message.Message, declared.message.Message.TheVariants.{Data, Ping}}
 
 -- the kinds of messages, each with its number
 abbrev pub message_kinds : Cases (ℕ ⊎ Vec ℕ)

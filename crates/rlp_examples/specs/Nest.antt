@@ -1,14 +1,10 @@
 -- How nests are written and read.
-use Rattle.std.specs.Prelude.{false}
-use Rattle.std.specs.Vec.{vec_items}
-use Rattle.std.specs.declared.alloc.Global.{Global}
+use Rattle.std.specs.{Prelude.false, Vec.vec_items, declared.alloc.Global.Global}
 use Rattle.rlp.specs.Codec.{Codec, end, field, list_type, struct_of}
-use Rattle.rlp.specs.Form.{Form, Reading, group_before, list_reading, no_fields, one_field, struct_reading}
+use Rattle.rlp.specs.{Form.{Form, Reading, group_before, list_reading, no_fields, one_field, struct_reading}, Laws.IsReadBack}
 use Rattle.rlp.specs.Form as form
-use Rattle.rlp.specs.Laws.{IsReadBack}
-use Rattle.rlp_codec.proofs.ListLaws.{list_back, list_told}
-use Rattle.rlp_codec.proofs.FieldLaws.{end_back, end_told, field_back, field_told}
-use Rattle.rlp_codec.proofs.StructLaws.{struct_back, struct_told}
+use Rattle.rlp_reading.proofs.{ListLaws.{list_back, list_told}, FieldLaws.{end_back, end_told, field_back, field_told}}
+use Rattle.rlp_reading.proofs.StructLaws.{struct_back, struct_told}
 use Rattle.rlp_examples.specs.declared.nest.Nest.{Nest}
 
 -- the list of one list of values

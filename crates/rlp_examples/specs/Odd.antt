@@ -1,7 +1,6 @@
 -- How odd numbers are read.
 use Rattle.std.specs.Prelude.{ℕ, ◌%◌, ◌==◌, if◌then◌else◌, false, codes, Result, Ok, Err}
-use Rattle.rlp.specs.Values.Value.{number_item}
-use Rattle.rlp.specs.Form.{Fault, Reading, custom, go_on, here, number}
+use Rattle.rlp.specs.{Values.Value.number_item, Form.{Fault, Reading, custom, go_on, here, number}}
 use Rattle.rlp_examples.specs.declared.odd.Odd.{Odd}
 
 -- an odd number, or the fault of an even one

@@ -1,6 +1,5 @@
 -- How values of `Row` are written and read.
-use Rattle.std.specs.Prelude.{refl}
-use Rattle.std.specs.Vec.{vec_items}
+use Rattle.std.specs.{Prelude.refl, Vec.vec_items}
 use Rattle.rlp.specs.Codec.{Codec, Fields, byte_array, byte_string, end, field, group, number, struct_of}
 use Rattle.rlp_examples.specs.declared.row.Row.{Row}
 

@@ -1,10 +1,7 @@
 //! A generic list type.
 
-ghost use Rattle.std.specs.Prelude.{[], ◌∷◌, ⊤, All, map};
-ghost use Rattle.std.specs.Vec.{vec_items};
-ghost use Rattle.rlp.specs.Format.Encoding.{list_of};
-ghost use Rattle.rlp.specs.Codec.{codec_of};
-ghost use Rattle.rlp.specs.Laws.{form_of};
+ghost use Rattle.std.specs.{Prelude.{[], ◌∷◌, ⊤, All, map}, Vec.vec_items};
+ghost use Rattle.rlp.specs.{Format.Encoding.list_of, Codec.codec_of, Laws.form_of};
 ghost use Rattle.rlp_examples.specs.Nest.{nest, nest_read_back, nest_reading};
 
 use rlp::{

@@ -1,7 +1,6 @@
 //! A custom type that is written and read as a number.
 
-ghost use Rattle.rlp.specs.Values.Value.{FitsBytes, number_item};
-ghost use Rattle.rlp.specs.Codec.{newtype, number};
+ghost use Rattle.rlp.specs.{Values.Value.{FitsBytes, number_item}, Codec.{newtype, number}};
 
 use rlp::{
     Decodable, DecodePlaced, DecoderError, Encodable, Rlp, RlpStream, RoundTrip, StrictRead,

@@ -1,8 +1,7 @@
 //! A custom struct: the list of its two fields.
 
 ghost use Rattle.std.specs.Prelude.{◌≡◌, IfErr, IfOk};
-ghost use Rattle.rlp.specs.DecoderError.TheVariants.{OutOfMemory};
-ghost use Rattle.rlp.specs.Format.Encoding.{BeginsWith, encoding};
+ghost use Rattle.rlp.specs.{DecoderError.TheVariants.OutOfMemory, Format.Encoding.{BeginsWith, encoding}};
 ghost use Rattle.rlp_examples.specs.Pair.{pair};
 
 use rlp::{

@@ -1,8 +1,6 @@
 //! A struct with a list and a last field that may be missing, and what equal items say of two.
 
-ghost use Rattle.std.specs.Option.{option_map};
-ghost use Rattle.std.specs.Prelude.{◌≡◌};
-ghost use Rattle.std.specs.Vec.{vec_items};
+ghost use Rattle.std.specs.{Option.option_map, Prelude.◌≡◌, Vec.vec_items};
 ghost use Rattle.rlp.specs.Format.Encoding.{IsSized};
 ghost use Rattle.rlp_examples.specs.Parcel.{parcel};
 

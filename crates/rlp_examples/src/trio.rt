@@ -1,8 +1,7 @@
 //! A list of two numbers and a value of any type, and a type that is never written.
 
 ghost use Rattle.std.specs.Prelude.{⊤, [], ◌∷◌};
-ghost use Rattle.rlp.specs.Format.Encoding.{string, list_of};
-ghost use Rattle.rlp.specs.Values.Value.{FitsBytes, number_item};
+ghost use Rattle.rlp.specs.{Format.Encoding.{string, list_of}, Values.Value.{FitsBytes, number_item}};
 
 use rlp::{Encodable, RlpStream};
 use std::alloc::AllocError;

@@ -1,7 +1,6 @@
 //! A whole number that only clauses read.
 
-ghost use Rattle.std.specs.Prelude.{◌≡◌, ℕ, ◌+◌};
-ghost use Rattle.std.specs.Borrow.{ftrue};
+ghost use Rattle.std.specs.{Prelude.{◌≡◌, ℕ, ◌+◌}, Borrow.ftrue};
 
 use std::marker::{Model, PhantomData};
 

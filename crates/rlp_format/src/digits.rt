@@ -2,9 +2,7 @@
 //! up to sixteen bytes, those of up to eight bytes in 64 bits. The headers of a stream write the
 //! digits of their lengths themselves.
 
-ghost use Rattle.std.specs.Prelude.{◌≡◌, ◌+◌, ◌≤◌, length, drop};
-ghost use Rattle.std.specs.Int.{w64, w128, to_be_bytes};
-ghost use Rattle.std.specs.Int.Digits.{number_from_digits};
+ghost use Rattle.std.specs.{Prelude.{◌≡◌, ◌+◌, ◌≤◌, length, drop}, Int.{w64, w128, to_be_bytes}, Int.Digits.number_from_digits};
 ghost use Rattle.rlp_format.specs.Format.Encoding.{big_endian};
 
 use std::marker::Model;

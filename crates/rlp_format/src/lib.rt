@@ -5,6 +5,7 @@
 
 pub mod count;
 pub mod digits;
+pub mod hex_digits;
 pub mod uint;
 
 pub use uint::Uint;

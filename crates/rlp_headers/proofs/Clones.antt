@@ -1,26 +1,13 @@
 -- Clones of accounts are seen as the accounts are.
-use Rattle.std.proofs.Common.{◌≡◌, ℕ, refl, sym, subst, List, [], ◌∷◌}
-use Rattle.std.specs.Prelude.{IsTrue, map, Vec}
-use Rattle.std.specs.List.{AllZip, each_same}
-use Rattle.std.specs.Vec.{vec_items}
-use Rattle.std.specs.declared.alloc.Global.{Global}
-use Rattle.rlp.specs.Codec.{byte_string, number, uint}
-use Rattle.rlp.specs.Uint.{Uint}
-use Rattle.rlp_headers.specs.AccessOrder.{AreAccountsInOrder, accounts_in_order, block_access_list}
-use Rattle.rlp_headers.specs.Changes.{account_changes, change, slot_changes}
+use Rattle.std.proofs.Common.{◌≡◌, ℕ, sym, subst}
+use Rattle.std.specs.{Prelude.{IsTrue, Vec}, List.{AllZip, each_same}, Vec.vec_items, declared.alloc.Global.Global}
+use Rattle.rlp.specs.{Codec.{byte_string, number, uint}, Uint.Uint}
+use Rattle.rlp_records.proofs.Clones.{clones_seen}
+use Rattle.rlp_headers.specs.{AccessOrder.{AreAccountsInOrder, accounts_in_order, block_access_list}, Changes.{account_changes, change, slot_changes}}
+use Rattle.rlp_headers.specs.declared.block_access_list.changes.AccountChanges.{AccountChanges}
+use Rattle.rlp_headers.specs.{declared.block_access_list.changes.SlotChanges.SlotChanges, declared.block_access_list.changes.StateChange.StateChange}
 use Rattle.rlp_headers.specs.contracts.block_access_list.changes.AccountChangesClone.TheImpl.{is_clone-value as account_clone}
 use Rattle.rlp_headers.specs.contracts.block_access_list.changes.SlotChangesClone.TheImpl.{is_clone-value as slot_clone}
-use Rattle.rlp_headers.specs.declared.block_access_list.changes.AccountChanges.{AccountChanges}
-use Rattle.rlp_headers.specs.declared.block_access_list.changes.SlotChanges.{SlotChanges}
-use Rattle.rlp_headers.specs.declared.block_access_list.changes.StateChange.{StateChange}
-
--- lists of values that are seen alike are seen alike
-clones_seen : {A M : Type 0} (R : A → A → Type 0) (seen : A → M) → ((x y : A) → R x y → seen y ≡ seen x)
-    → (xs ys : List A) → AllZip R xs ys → map seen ys ≡ map seen xs
-clones_seen R seen same [] [] all = refl
-clones_seen R seen same [] (y ∷ ys) all = absurd all
-clones_seen R seen same (x ∷ xs) [] all = absurd all
-clones_seen R seen same (x ∷ xs) (y ∷ ys) all = let first = same x y all.0 in let rest = clones_seen R seen same xs ys all.1 in cc
 
 numbers_same : (a b : StateChange (Uint 32)) → b.block_access_index ≡ a.block_access_index → b.new_value ≡ a.new_value
     → (change (uint 32)).reading.seen b ≡ (change (uint 32)).reading.seen a

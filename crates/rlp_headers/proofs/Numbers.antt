@@ -1,12 +1,8 @@
 -- Numbers of as many digits are in order as their digits are.
 use Rattle.std.proofs.Common.{◌≡◌, ◌<◌, ◌≤◌, ◌+◌, ◌*◌, ℕ, Bool, true, false, ◌^◌, List, [], ◌∷◌, length, ap, sym, refl, ◌∙◌, arith, ◌≢◌, ltb, le-ltb, ltb-true, ltb-false, eqb-true, ◌==◌}
-use Rattle.std.proofs.lemmas.Bool.{eqb-false, lt-ltb}
-use Rattle.std.proofs.lemmas.List.Elements.{recursion_from_All}
-use Rattle.std.specs.Cmp.Lexicographic.{slice_cmp}
-use Rattle.std.specs.Int.Digits.{AllBelowBase, number_from_digits, number_from_digits_after}
-use Rattle.std.specs.Ordering.{is_lt, nat_cmp, ordering_then}
-use Rattle.std.specs.Prelude.{cond}
-use Rattle.std.specs.declared.cmp.Ordering.TheVariants.{Less, Equal, Greater}
+use Rattle.std.proofs.{lemmas.Bool.{eqb-false, lt-ltb}, lemmas.List.Elements.recursion_from_All}
+use Rattle.std.specs.{Cmp.Lexicographic.slice_cmp, Int.Digits.{AllBelowBase, number_from_digits, number_from_digits_after}}
+use Rattle.std.specs.{Ordering.{is_lt, nat_cmp, ordering_then}, Prelude.cond, declared.cmp.Ordering.TheVariants.{Less, Equal, Greater}}
 use Rattle.rlp.specs.Format.Encoding.{AreBytes}
 
 -- what is below stays below, whatever digits follow

@@ -1,13 +1,9 @@
 -- The order of the lists in an access list of a block.
-use Rattle.std.specs.Prelude.{ℕ, Bool, true, ◌&&◌, codes, nat_lt, IsTrue, List, [], ◌∷◌, map, Vec}
-use Rattle.std.specs.Cmp.Lexicographic.{slice_cmp}
-use Rattle.std.specs.Ordering.{is_lt, nat_cmp}
-use Rattle.std.specs.Vec.{vec_items}
-use Rattle.std.specs.declared.alloc.Global.{Global}
+use Rattle.std.specs.{Prelude.{ℕ, Bool, true, ◌&&◌, codes, nat_lt, IsTrue, List, [], ◌∷◌, map, Vec}, Cmp.Lexicographic.slice_cmp}
+use Rattle.std.specs.{Ordering.{is_lt, nat_cmp}, Vec.vec_items, declared.alloc.Global.Global}
 use Rattle.rlp.specs.Codec.{Codec, list_type}
-use Rattle.rlp_headers.specs.Changes.{account_changes, slot_changes}
-use Rattle.rlp_headers.specs.Tested.{tested}
-use Rattle.rlp_headers.specs.declared.block_access_list.changes.AccountChanges.{AccountChanges}
+use Rattle.rlp_records.specs.Tested.{Passes, tested}
+use Rattle.rlp_headers.specs.{Changes.{account_changes, slot_changes}, declared.block_access_list.changes.AccountChanges.AccountChanges}
 
 -- each value is in order itself, and comes before the next
 abbrev pub in_order : {M : Type 0} → (M → M → Bool) → (M → Bool) → List M → Bool
@@ -47,9 +43,14 @@ account_inside m = storage_in_order m && account_changes_in_order m
 abbrev pub accounts_in_order : List account_changes.reading.M → Bool
 accounts_in_order ms = in_order account_before account_inside ms
 
+-- the list of accounts in any order
+abbrev pub accounts : Codec (Vec AccountChanges Global)
+accounts = list_type vec_items account_changes
+
 -- An access list of a block, seen as its accounts: the list of them. For accounts that aren't in order reading fails with `Custom` with this text.
 abbrev pub block_access_list : Codec (Vec AccountChanges Global)
-block_access_list = tested (codes "accounts are not in order") (list_type vec_items account_changes) accounts_in_order
+block_access_list =
+    tested (codes "accounts are not in order") accounts accounts_in_order (Passes accounts accounts_in_order) (λ xs. (λ passes. passes, λ passes. passes))
 
 -- the accounts are in order, and so are the lists of each
 unfoldable pub AreAccountsInOrder : Vec AccountChanges Global → Type 0

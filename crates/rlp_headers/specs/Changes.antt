@@ -1,11 +1,9 @@
 -- How what a block read and changed of accounts is written and read.
 use Rattle.std.specs.Vec.{vec_items}
-use Rattle.rlp.specs.Codec.{Codec, byte_string, end, field, list_type, number, struct_of, uint}
-use Rattle.rlp.specs.Form.{Form}
+use Rattle.rlp.specs.{Codec.{Codec, byte_string, end, field, list_type, number, struct_of, uint}, Form.Form}
 use Rattle.rlp.specs.Form as form
 use Rattle.rlp_headers.specs.declared.block_access_list.changes.AccountChanges.{AccountChanges}
-use Rattle.rlp_headers.specs.declared.block_access_list.changes.StateChange.{StateChange}
-use Rattle.rlp_headers.specs.declared.block_access_list.changes.SlotChanges.{SlotChanges}
+use Rattle.rlp_headers.specs.{declared.block_access_list.changes.StateChange.StateChange, declared.block_access_list.changes.SlotChanges.SlotChanges}
 use Rattle.rlp_records.specs.Address.{address}
 
 -- EIP-7928: [block_access_index, new_value]

@@ -1,12 +1,8 @@
 -- How receipts of deposits of the OP stack are written and read.
-use Rattle.std.specs.Prelude.{refl}
-use Rattle.std.specs.Vec.{vec_items}
+use Rattle.std.specs.{Prelude.refl, Vec.vec_items}
 use Rattle.rlp.specs.Codec.{Codec, Fields, field, list_type, number, optional, optional_group, struct_of}
-use Rattle.rlp_headers.specs.declared.deposit_receipt.DepositReceipt.{DepositReceipt}
-use Rattle.rlp_headers.specs.declared.deposit_receipt.Regolith.{Regolith}
-use Rattle.rlp_headers.specs.Bloom.{bloom}
-use Rattle.rlp_headers.specs.Log.{log}
-use Rattle.rlp_headers.specs.ReceiptStatus.{receipt_status}
+use Rattle.rlp_headers.specs.{declared.deposit_receipt.DepositReceipt.DepositReceipt, declared.deposit_receipt.Regolith.Regolith, Bloom.bloom}
+use Rattle.rlp_headers.specs.{Log.log, ReceiptStatus.receipt_status}
 
 -- the fields since Regolith: depositNonce, and since Canyon depositReceiptVersion
 abbrev pub regolith_fields : Fields Regolith

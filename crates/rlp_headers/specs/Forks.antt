@@ -1,11 +1,8 @@
 -- How the fields that forks added to headers are written and read.
 use Rattle.std.specs.Prelude.{refl}
 use Rattle.rlp.specs.Codec.{Fields, field, number, optional, optional_group, uint}
-use Rattle.rlp_headers.specs.declared.header.forks.Amsterdam.{Amsterdam}
-use Rattle.rlp_headers.specs.declared.header.forks.Cancun.{Cancun}
-use Rattle.rlp_headers.specs.declared.header.forks.London.{London}
-use Rattle.rlp_headers.specs.declared.header.forks.Prague.{Prague}
-use Rattle.rlp_headers.specs.declared.header.forks.Shanghai.{Shanghai}
+use Rattle.rlp_headers.specs.{declared.header.forks.Amsterdam.Amsterdam, declared.header.forks.Cancun.Cancun, declared.header.forks.London.London}
+use Rattle.rlp_headers.specs.{declared.header.forks.Prague.Prague, declared.header.forks.Shanghai.Shanghai}
 use Rattle.rlp_records.specs.Hash.{hash}
 
 -- the fields since Amsterdam: that of EIP-7928, and maybe that of EIP-7843

@@ -8,6 +8,5 @@ pub mod Header
 pub mod Log
 pub mod Receipt
 pub mod ReceiptStatus
-pub mod Tested
 pub mod TypedReceipt
 pub mod Withdrawal

@@ -2,8 +2,7 @@
 use Rattle.std.specs.Vec.{vec_items}
 use Rattle.rlp.specs.Codec.{Codec, byte_string, end, field, list_type, struct_of}
 use Rattle.rlp_headers.specs.declared.log.Log.{Log}
-use Rattle.rlp_records.specs.Address.{address}
-use Rattle.rlp_records.specs.Hash.{hash}
+use Rattle.rlp_records.specs.{Address.address, Hash.hash}
 
 -- section 4.4.1 of the yellow paper: (address, (topic, topic, ...), data)
 abbrev pub log : Codec Log

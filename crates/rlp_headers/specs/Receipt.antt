@@ -1,10 +1,7 @@
 -- How receipts are written and read.
 use Rattle.std.specs.Vec.{vec_items}
 use Rattle.rlp.specs.Codec.{Codec, Fields, end, field, list_type, number, struct_of}
-use Rattle.rlp_headers.specs.declared.receipt.Receipt.{Receipt}
-use Rattle.rlp_headers.specs.Bloom.{bloom}
-use Rattle.rlp_headers.specs.Log.{log}
-use Rattle.rlp_headers.specs.ReceiptStatus.{receipt_status}
+use Rattle.rlp_headers.specs.{declared.receipt.Receipt.Receipt, Bloom.bloom, Log.log, ReceiptStatus.receipt_status}
 
 -- the fields of section 4.4.1 of the yellow paper, with EIP-658: rlp([status, cumulative_gas_used, logs_bloom, logs])
 abbrev pub receipt_fields : Fields Receipt

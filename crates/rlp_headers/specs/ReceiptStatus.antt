@@ -1,11 +1,9 @@
 -- How statuses of receipts are written and read.
-use Rattle.std.specs.Prelude.{ℕ, zero, suc, ◌≡◌, ◌≢◌, ◌==◌, ⊤, Bool, true, false, if◌then◌else◌, List, [], ◌∷◌, Option, Some, None, codes, length, refl, Result, Ok, Err}
-use Rattle.std.proofs.Common.{◌↔◌, ◌∙◌, ap, sym, eq-eqb, ne_eqb}
-use Rattle.std.proofs.lemmas.Bool.{cond-true, cond-false, eqb-true}
-use Rattle.rlp.specs.Form.{Fault, custom, map_value}
-use Rattle.rlp_codec.specs.Kinds.{read_kind}
-use Rattle.rlp_codec.proofs.KindLaws.{HaveKinds, kinds_read}
-use Rattle.rlp.specs.Codec.{Codec, string_type}
+use Rattle.std.specs.Prelude.{ℕ, zero, suc, ◌≡◌, ◌==◌, ⊤, Bool, true, false, if◌then◌else◌, List, [], ◌∷◌, Option, Some, None, codes, length, refl, Result, Ok, Err}
+use Rattle.std.proofs.{Common.{◌↔◌, ◌∙◌, sym, eq-eqb}, lemmas.Bool.{cond-true, cond-false, eqb-true}}
+use Rattle.rlp.specs.{Form.{Fault, custom, map_value}, Codec.{Codec, string_type}}
+use Rattle.rlp_reading.specs.Kinds.{read_kind}
+use Rattle.rlp_reading.proofs.KindLaws.{HaveKinds, kinds_read}
 use Rattle.rlp_headers.specs.declared.receipt_status.ReceiptStatus.{ReceiptStatus}
 use Rattle.rlp_headers.specs.declared.receipt_status.ReceiptStatus.TheVariants.{Failure, StateRoot, Success}
 
@@ -39,18 +37,6 @@ outcome_of (byte ∷ next ∷ rest) = Err (custom (codes "unknown receipt status
 abbrev pub status_kind : List ℕ → Result (Option Bool) Fault
 status_kind d = if length d == 32 then Ok None else map_value Some (outcome_of d)
 
--- a string that isn't empty and isn't the byte 1 tells no outcome
-no_outcome : (d : List ℕ) → d ≢ [] → d ≢ 1 ∷ [] → outcome_of d ≡ Err (custom (codes "unknown receipt status"))
-no_outcome [] none one = absurd (none refl)
-no_outcome (zero ∷ []) none one = refl
-no_outcome (suc zero ∷ []) none one = absurd (one refl)
-no_outcome (suc (suc n) ∷ []) none one = refl
-no_outcome (byte ∷ next ∷ rest) none one = refl
-
--- any other string is no status
-pub no_status : (d : List ℕ) → d ≢ [] → d ≢ 1 ∷ [] → length d ≢ 32 → status_kind d ≡ Err (custom (codes "unknown receipt status"))
-no_status d none one many = cond-false (length d == 32) _ _ (ne_eqb (length d) 32 many) ∙ ap (map_value Some) (no_outcome d none one)
-
 -- 32 bytes are a root
 pub is_root : (d : List ℕ) → length d ≡ 32 → status_kind d ≡ Ok None
 is_root d is = cond-true (length d == 32) _ _ (eq-eqb _ _ is)
@@ -75,5 +61,3 @@ status_kinds = record { of_kind = of_kind }
 abbrev pub receipt_status : Codec ReceiptStatus
 receipt_status = string_type IsStatus status_bytes (λ s. (succeeded s, status_bytes s)) (λ m. m.1) (read_kind status_kind) false
     (kinds_read IsStatus status_bytes succeeded status_kind status_kinds)
-
-pub ruleset statuses = (no_status, is_root)

@@ -2,13 +2,9 @@
 use Rattle.std.specs.Prelude.{◌⊎◌, refl}
 use Rattle.std.proofs.Common.{inl, inr}
 use Rattle.rlp.specs.Codec.{Codec}
-use Rattle.rlp_headers.specs.declared.receipt.Receipt.{Receipt}
-use Rattle.rlp_headers.specs.declared.typed_receipt.TypedReceipt.{TypedReceipt}
-use Rattle.rlp_headers.specs.declared.typed_receipt.TypedReceipt.TheVariants.{AccessList, Blob, FeeMarket, Legacy, SetCode}
-use Rattle.rlp_headers.specs.Receipt.{receipt}
-use Rattle.rlp_records.specs.Eip2718.{TypedSum, typed, typed_by}
-use Rattle.rlp_records.specs.KnownOrOther.{with_others}
-use Rattle.rlp_records.specs.declared.known_or_other.KnownOrOther.{KnownOrOther}
+use Rattle.rlp_headers.specs.{declared.receipt.Receipt.Receipt, declared.typed_receipt.TypedReceipt.TypedReceipt}
+use Rattle.rlp_headers.specs.{declared.typed_receipt.TypedReceipt.TheVariants.{AccessList, Blob, FeeMarket, Legacy, SetCode}, Receipt.receipt}
+use Rattle.rlp_records.specs.{Eip2718.{TypedSum, typed, typed_by}, KnownOrOther.with_others, declared.known_or_other.KnownOrOther.KnownOrOther}
 
 -- the receipt of a transaction of one of the types
 abbrev pub receipt_as_sum : TypedReceipt → Receipt ⊎ (Receipt ⊎ (Receipt ⊎ (Receipt ⊎ Receipt)))

@@ -1,8 +1,7 @@
 -- How withdrawals are written and read.
 use Rattle.std.specs.Vec.{vec_items}
 use Rattle.rlp.specs.Codec.{Codec, Fields, end, field, list_type, number, struct_of}
-use Rattle.rlp_headers.specs.declared.withdrawal.Withdrawal.{Withdrawal}
-use Rattle.rlp_headers.specs.declared.withdrawal.Withdrawals.{Withdrawals}
+use Rattle.rlp_headers.specs.{declared.withdrawal.Withdrawal.Withdrawal, declared.withdrawal.Withdrawals.Withdrawals}
 use Rattle.rlp_records.specs.Address.{address}
 
 -- EIP-4895: [index, validator_index, address, amount]

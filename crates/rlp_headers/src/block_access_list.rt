@@ -1,12 +1,7 @@
 //! Access lists of blocks, whose accounts, slots and changes are in order.
 
-ghost use Rattle.std.specs.Int.Digits.{number_from_digits};
-ghost use Rattle.std.specs.Option.{SomeIff};
-ghost use Rattle.std.specs.Prelude.{◌≡◌, ℕ, Bool, IfOk, OnOk, length, map, nat_lt, true};
-ghost use Rattle.std.specs.Vec.{vec_items};
-ghost use Rattle.rlp.specs.Format.Encoding.{encoding};
-ghost use Rattle.rlp.specs.Form.{IsPlaced};
-ghost use Rattle.rlp.specs.Laws.{form_of};
+ghost use Rattle.std.specs.{Int.Digits.number_from_digits, Option.SomeIff, Prelude.{◌≡◌, ℕ, Bool, IfOk, OnOk, length, map, nat_lt, true}, Vec.vec_items};
+ghost use Rattle.rlp.specs.{Format.Encoding.encoding, Form.IsPlaced, Laws.form_of};
 ghost use Rattle.rlp_records.specs.Hashing.{IsHashOf};
 ghost use Rattle.rlp_headers.specs.AccessOrder.{AreAccountsInOrder, account_before, account_changes_in_order, account_inside, block_access_list, first_before, in_order, slot_inside, storage_in_order};
 ghost use Rattle.rlp_headers.specs.Changes.{account_changes, change_form, slot_changes};
@@ -36,10 +31,8 @@ pub struct BlockAccessList {
 }
 
 impl Model for BlockAccessList {
-    ghost use Rattle.rlp_headers.specs.AccessOrder.{AreAccountsInOrder};
-    ghost use Rattle.rlp_headers.specs.declared.block_access_list.changes.AccountChanges.{AccountChanges};
-    ghost use Rattle.std.specs.Prelude.{Vec};
-    ghost use Rattle.std.specs.declared.alloc.Global.{Global};
+    ghost use Rattle.rlp_headers.specs.{AccessOrder.AreAccountsInOrder, declared.block_access_list.changes.AccountChanges.AccountChanges};
+    ghost use Rattle.std.specs.{Prelude.Vec, declared.alloc.Global.Global};
 
     ghost Value = { Vec AccountChanges Global };
 

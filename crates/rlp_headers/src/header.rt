@@ -1,7 +1,6 @@
 //! Headers of the blocks of all forks up to Amsterdam.
 
-ghost use Rattle.std.specs.Option.{option_copied};
-ghost use Rattle.std.specs.Prelude.{◌≡◌, IfOk, OnOk};
+ghost use Rattle.std.specs.{Option.option_copied, Prelude.{◌≡◌, IfOk, OnOk}};
 ghost use Rattle.rlp.specs.Format.Encoding.{encoding};
 ghost use Rattle.rlp_records.specs.Hashing.{IsHashOf};
 ghost use Rattle.rlp_headers.specs.Header.{header, since_amsterdam, since_cancun, since_prague, since_shanghai};

@@ -2,7 +2,7 @@
 
 ghost use Rattle.std.specs.Prelude.{◌≡◌, ⊤, Ok, Err, IfErr, IfOk};
 ghost use Rattle.rlp.specs.Form.{fault_of};
-ghost use Rattle.rlp_codec.specs.Kinds.{read_kind};
+ghost use Rattle.rlp_reading.specs.Kinds.{read_kind};
 ghost use Rattle.rlp_headers.specs.ReceiptStatus.{receipt_status, status_kind};
 
 use rlp::{
@@ -63,7 +63,7 @@ impl StrictRead for ReceiptStatus {
 }
 
 /// Makes a status from a string. Fails as reading a status does.
-#[tactic(auto, using(crate::specs::ReceiptStatus::statuses))]
+#[tactic(auto, using(crate::proofs::Statuses::statuses))]
 fn status_of(string: &[u8]) -> Result<ReceiptStatus, DecoderError>
     ensures value { IfOk result
         (λ s. read_kind status_kind string.now ≡ Ok (receipt_status.reading.seen s)) }

@@ -1,20 +1,13 @@
 -- Numbers and bytes as digits.
-use Rattle.std.proofs.Common.{◌≡◌, ◌≢◌, ℕ, zero, suc, inl, inr, ◌+◌, ◌*◌, ◌/◌, ◌%◌, slice_index, ◌^◌, ◌<◌, ◌≤◌, ◌&&◌, Bool, true, false, cond, nat_eq, nat_lt, IsTrue}
+use Rattle.std.proofs.Common.{◌≡◌, ◌≢◌, ℕ, ◌+◌, ◌*◌, ◌%◌, ◌^◌, ◌<◌, ◌≤◌, ◌&&◌, Bool, true, false, cond, nat_eq, nat_lt, IsTrue}
 use Rattle.std.proofs.Common.{List, [], ◌∷◌, ◌++◌, length, take, drop, Option, Some, None, Result, Ok, Err, refl, subst, sym, ap, ◌∙◌, append_assoc}
-use Rattle.std.proofs.Common.{arith, take-add, take-append-drop}
-use Rattle.std.specs.List.{list_all}
-use Rattle.std.specs.Char.{digit_value, is_ascii_digit}
-use Rattle.std.specs.Str.Parse.{digits_value_after}
-use Rattle.std.proofs.lemmas.Bool.{and_parts, cases_lt, eqb-true}
-use Rattle.std.proofs.lemmas.Bool.Decides.{nat_tests}
-use Rattle.std.specs.Option.{IsSomeAnd}
-use Rattle.std.specs.Result.{result_ok}
-use Rattle.hex.specs.Hex.{encode_with, encode_lower, lower_digits, decode_of, decode_pairs, digit_or_error, hex_digit_value, is_hex_digit, pair_value}
+use Rattle.std.proofs.{Common.{arith, take-add, take-append-drop}, lemmas.Bool.Decides.nat_tests}
+use Rattle.std.proofs.{lemmas.List.Sums.{AllPass-from_list_all, list_all-from_AllPass}, lemmas.List.{append-nil, drop_all}}
+use Rattle.std.specs.{List.list_all, Char.{digit_value, is_ascii_digit}, Str.Parse.digits_value_after, Option.IsSomeAnd, Result.result_ok}
+use Rattle.rlp_format.proofs.HexDigits.{digits_append}
+use Rattle.hex.specs.Hex.{encode_with, encode_lower, decode_of, decode_pairs, digit_or_error, hex_digit_value, is_hex_digit, pair_value}
 use Rattle.hex.specs.declared.error.FromHexError.{FromHexError}
-use Rattle.std.proofs.lemmas.List.Sums.{AllPass-from_list_all, list_all-from_AllPass}
-use Rattle.std.proofs.lemmas.List.{append-nil, drop_all}
-use Rattle.hex.proofs.Pairs.{prepend}
-use Rattle.hex.proofs.HexLemmas.{decode_of-ok, decode_of-digits, decode_of-odd}
+use Rattle.hex.proofs.{Pairs.prepend, HexLemmas.{decode_of-ok, decode_of-digits, decode_of-odd}}
 use Rattle.rlp_lines.specs.Digits.{with_digit}
 
 -- the number that digits write when they follow those of n
@@ -114,43 +107,6 @@ read-no_digits digits other = refused_by digits (decode_of digits) refl other
 
 -- ---- printing
 
--- the digit of a number
-abbrev digit_at : ℕ → ℕ
-digit_at d = cond (nat_lt d 10) (48 + d) (87 + d)
-
--- whether the first numbers have these digits
-abbrev are_digits_of : ℕ → Bool
-are_digits_of zero = true
-are_digits_of (suc n) = nat_eq (slice_index lower_digits n) (digit_at n) && are_digits_of n
-
-digit_below : (n d : ℕ) → are_digits_of n ≡ true → d < n → slice_index lower_digits d ≡ digit_at d
-digit_below zero d all inside = absurd (omega arith)
-digit_below (suc n) d all inside =
-    let parts = and_parts (nat_eq (slice_index lower_digits n) (digit_at n)) (are_digits_of n) all in
-    elim (cases_lt d n) [
-      | inl below ↦ digit_below n d parts.1 below
-      | inr top ↦
-          let here : slice_index lower_digits n ≡ digit_at n = eqb-true (slice_index lower_digits n) (digit_at n) parts.0 in
-          let last : d ≡ n = omega arith in
-          subst (λ (k : ℕ). slice_index lower_digits k ≡ digit_at k) (sym last) here
-    ]
-
--- the digits of the numbers below 16
-pub digit_small : (d : ℕ) → d < 10 → 48 + d ≡ slice_index lower_digits d
-digit_small d small =
-    let test : nat_lt d 10 ≡ true = grind (arith, nat_tests) in
-    sym (digit_below 16 d refl (omega arith) ∙ ap (λ (b : Bool). cond b (48 + d) (87 + d)) test)
-
-pub digit_large : (d : ℕ) → 10 ≤ d → d < 16 → 87 + d ≡ slice_index lower_digits d
-digit_large d large small =
-    let test : nat_lt d 10 ≡ false = grind (arith, nat_tests) in
-    sym (digit_below 16 d refl small ∙ ap (λ (b : Bool). cond b (48 + d) (87 + d)) test)
-
-encode_with-append : (t xs ys : List ℕ) → encode_with t (xs ++ ys) ≡ encode_with t xs ++ encode_with t ys
-unfolding encode_with
-encode_with-append t [] ys = refl
-encode_with-append t (b ∷ xs) ys = ap (λ (r : List ℕ). slice_index t (b / 16) ∷ slice_index t (b % 16) ∷ r) (encode_with-append t xs ys)
-
 pub printed-none : (old bytes : List ℕ) → old ≡ old ++ encode_lower (take 0 bytes)
 unfolding encode_with
 printed-none old bytes = sym (append-nil old)
@@ -160,7 +116,7 @@ pub printed-more : (old before after bytes rest front : List ℕ) (n k : ℕ) �
     → front ≡ take k rest → after ≡ before ++ encode_lower front → after ≡ old ++ encode_lower (take (n + k) bytes)
 printed-more old before after bytes rest front n k so_far left is grown =
     grown ∙ ap (λ (t : List ℕ). t ++ encode_lower front) so_far ∙ append_assoc old (encode_lower (take n bytes)) (encode_lower front)
-    ∙ ap (λ (t : List ℕ). old ++ t) (sym (encode_with-append lower_digits (take n bytes) front)
+    ∙ ap (λ (t : List ℕ). old ++ t) (digits_append (take n bytes) front
     ∙ ap encode_lower (ap (λ (t : List ℕ). take n bytes ++ t) (is ∙ ap (take k) left) ∙ sym (take-add n k bytes)))
 
 -- the digits of the first n bytes, and then of the rest
@@ -168,5 +124,5 @@ pub printed-all : (old before after bytes rest : List ℕ) (n : ℕ) → before 
     → after ≡ before ++ encode_lower rest → after ≡ old ++ encode_lower bytes
 printed-all old before after bytes rest n so_far left grown =
     grown ∙ ap (λ (t : List ℕ). t ++ encode_lower rest) so_far ∙ append_assoc old (encode_lower (take n bytes)) (encode_lower rest)
-    ∙ ap (λ (t : List ℕ). old ++ t) (sym (encode_with-append lower_digits (take n bytes) rest)
+    ∙ ap (λ (t : List ℕ). old ++ t) (digits_append (take n bytes) rest
     ∙ ap encode_lower (ap (λ (t : List ℕ). take n bytes ++ t) left ∙ take-append-drop n bytes))

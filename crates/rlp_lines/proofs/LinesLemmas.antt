@@ -1,17 +1,13 @@
 -- Lines of a text that grows at its end.
 use Rattle.std.proofs.Common.{ℕ, Option, ◌≡◌, ◌≢◌, ◌<◌, ◌≤◌, ◌==◌, subst, length-append, nat_lt, cond, Some, None, Bool, true, false, List, [], ◌∷◌}
 use Rattle.std.proofs.Common.{◌++◌, length, take, get_or, refl, sym, ap, ◌∙◌, append_assoc, append-nil, arith, length-take}
-use Rattle.std.proofs.Math.Seq.{take-append_seam}
-use Rattle.std.proofs.lemmas.List.{get_or-take}
+use Rattle.std.proofs.{Math.Seq.take-append_seam, lemmas.List.get_or-take}
 use Rattle.std.proofs.lemmas.List.Splits.{slice_split-cons_yes, slice_split-cons_no, slice_split_none, length-slice_split}
-use Rattle.std.proofs.lemmas.List.Elements.{All-from_get_or}
-use Rattle.std.proofs.lemmas.Bool.Decides.{nat_tests}
-use Rattle.std.proofs.lemmas.List.Quantifiers.{position-Some}
+use Rattle.std.proofs.{lemmas.List.Elements.All-from_get_or, lemmas.Bool.Decides.nat_tests, lemmas.List.Quantifiers.position-Some}
 use Rattle.std.proofs.lemmas.List.Sums.{fails_before_first, position_or_len_is}
 use Rattle.memchr.specs.Find.{IsFirstByte, is_byte}
 use Rattle.std.specs.List.{onto_first, position, position_or_len}
-use Rattle.rlp_lines.specs.Lines.{pieces, all_but_last, last_of, ended_lines, last_piece, line_of_last, lines}
-use Rattle.rlp_lines.specs.Progress.{IsOnePiece}
+use Rattle.rlp_lines.specs.{Lines.{pieces, all_but_last, last_of, ended_lines, last_piece, line_of_last, lines}, Progress.IsOnePiece}
 
 is-false : (b : Bool) → (b ≡ true → ⊥) → b ≡ false
 is-false true other = absurd (other refl)

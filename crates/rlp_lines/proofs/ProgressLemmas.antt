@@ -1,22 +1,14 @@
 -- Steps of the loop over the input.
 use Rattle.std.proofs.Common.{ℕ, ◌≡◌, ◌<◌, ◌≤◌, Bool, true, false, ◌||◌, List, [], ◌∷◌, ◌++◌, length, take, drop, get_or, ◌+◌, ◌-◌, ◌==◌, arith}
 use Rattle.std.proofs.Common.{◌≢◌, Option, Some, None, Result, Ok, Err, OnOk, OnErr, IfErr, inl, inr, refl, sym, ap, ◌∙◌, append_assoc, append-nil}
-use Rattle.std.proofs.Common.{subst, take-append-drop}
-use Rattle.std.proofs.Math.Seq.{take-append_seam}
-use Rattle.std.proofs.KnownBytes.{Appends-nil, Appends-trans, Appends-kept, Consumes-nil, Consumes-trans}
-use Rattle.std.specs.Io.KnownBytes.{Appends, Consumes, Keeps, IsAtEnd}
-use Rattle.rlp_lines.specs.Run.{AppendsBefore, AppendsPart, AreRepliesBefore, RunLeaves, TextLeaves, longest_read}
-use Rattle.rlp_lines.specs.Watched.{Watched}
-use Rattle.rlp_lines.specs.declared.serving.RunFault.{RunFault}
-use Rattle.rlp_lines.specs.declared.serving.RunFault.TheVariants.{Write}
-use Rattle.std.specs.List.{position}
-use Rattle.std.proofs.lemmas.List.{take_rest, drop_more}
-use Rattle.std.proofs.lemmas.List.Quantifiers.{position-Some}
-use Rattle.std.proofs.lemmas.List.Concat.{flat_map-append}
-use Rattle.std.proofs.lemmas.List.Folds.{list_any-append}
+use Rattle.std.proofs.{Common.{subst, take-append-drop}, Math.Bool.or-false, Math.Seq.take-append_seam}
+use Rattle.std.proofs.{KnownBytes.{Appends-nil, Appends-trans, Appends-kept, Consumes-nil, Consumes-trans}, lemmas.List.{take_rest, drop_more}}
+use Rattle.std.proofs.{lemmas.List.Quantifiers.position-Some, lemmas.List.Concat.flat_map-append, lemmas.List.Folds.list_any-append}
+use Rattle.std.specs.{Io.KnownBytes.{Appends, Consumes, Keeps, IsAtEnd}, List.position}
+use Rattle.rlp_lines.specs.{Run.{AppendsBefore, AppendsPart, AreRepliesBefore, RunLeaves, TextLeaves, longest_read}, Watched.Watched}
+use Rattle.rlp_lines.specs.{declared.line.Line.Line, declared.serving.RunFault.RunFault, declared.serving.RunFault.TheVariants.Write}
 use Rattle.rlp_lines.specs.Lines.{lines, ended_lines, last_piece, line_of_last, unended_line}
-use Rattle.rlp_lines.specs.Replies.{has_fault, is_fault, reply, replies_to, replies}
-use Rattle.rlp_lines.specs.Progress.{IsOnePiece, IsLine, IsAfter, IsServed, IsStop}
+use Rattle.rlp_lines.specs.{Replies.{has_fault, is_fault, reply, replies_to, replies}, Progress.{IsOnePiece, IsLine, IsAfter, IsServed, IsStop}}
 use Rattle.rlp_lines.proofs.LinesLemmas.{ended_lines-run, last_piece-run, ended_lines-line, last_piece-line, one_piece-take, one_piece-whole}
 use Rattle.rlp_lines.proofs.LinesLemmas.{is_newline, take-lines, length-ended_lines-append, length-lines-more, length-lines-begun, ended_lines-nil}
 use Rattle.rlp_lines.proofs.LinesLemmas.{last_piece-nil}
@@ -44,6 +36,10 @@ Keeps-nil (Some before) (Some after) wrote = wrote ∙ append-nil before
 pub Keeps-none : (old new : Option (List ℕ)) (bytes : List ℕ) (count : ℕ) → count ≡ 0 → Appends old new (take count bytes) → Keeps old new
 Keeps-none old new bytes count none wrote = Keeps-nil old new (subst (λ n. Appends old new (take n bytes)) none wrote)
 
+-- no byte was read
+pub Consumes-none : (old new : Option (List ℕ)) (bytes : List ℕ) (count : ℕ) → count ≡ 0 → Consumes old new (take count bytes) → Consumes old new []
+Consumes-none old new bytes count none read = subst (λ n. Consumes old new (take n bytes)) none read
+
 -- a beginning of some bytes was appended
 AppendsPart-front : (start new : Option (List ℕ)) (front rest bytes : List ℕ) → Appends start new front → front ++ rest ≡ bytes → AppendsPart start new bytes
 AppendsPart-front start new front rest bytes wrote parts = record {
@@ -69,21 +65,9 @@ pub OnErr-always : {T E P : Type 0} (result : Result T E) → P → OnErr result
 OnErr-always (Ok value) holds = tt
 OnErr-always (Err error) holds = holds
 
-pub OnErr-step : {T E P Q : Type 0} (result : Result T E) → OnErr result P → (P → Q) → OnErr result Q
-OnErr-step (Ok value) holds step = tt
-OnErr-step (Err error) holds step = step holds
-
-pub OnOk-step : {T E P Q : Type 0} (result : Result T E) → OnOk result P → (P → Q) → OnOk result Q
-OnOk-step (Ok value) holds step = step holds
-OnOk-step (Err error) holds step = tt
-
 -- bytes that follow an empty text
 pub after_empty : {old said new : List ℕ} → old ≡ [] → new ≡ old ++ said → new ≡ said
 after_empty {said = said} none e = e ∙ ap (λ l. l ++ said) none
-
-or-false : (b : Bool) → (b || false) ≡ b
-or-false true = refl
-or-false false = refl
 
 pub replies_to-append : (answer : List ℕ → List ℕ) (xs ys : List (List ℕ)) → replies_to answer (xs ++ ys) ≡ replies_to answer xs ++ replies_to answer ys
 unfolding replies_to
@@ -115,28 +99,28 @@ pub ruleset last_line = (replies_to-none, replies_to-last, has_fault-none, has_f
 -- The most bytes of a line and the answer to a line, for the lemmas below.
 module _ (longest : ℕ) (answer : List ℕ → List ℕ) where
   -- bytes without a newline came
-  pub IsAfter-run : {text written waiting kept kept' : List ℕ} {over over' faulty faulty' : Bool} (run : List ℕ) → IsAfter longest answer text written waiting kept over faulty
-      → IsOnePiece run → IsLine longest kept' over' (last_piece text ++ run) → faulty' ≡ faulty
-      → IsAfter longest answer (text ++ run) written waiting kept' over' faulty'
-  IsAfter-run {text} {kept' = kept'} {over' = over'} run before one line same = record {
+  pub IsAfter-run : {text written waiting : List ℕ} {line line' : Line} (run : List ℕ) → IsAfter longest answer text written waiting line
+      → IsOnePiece run → IsLine longest line' (last_piece text ++ run) → line'.faulty ≡ line.faulty
+      → IsAfter longest answer (text ++ run) written waiting line'
+  IsAfter-run {text} {line' = line'} run before one kept same = record {
     answered = before.answered ∙ ap (replies_to answer) (sym (ended_lines-run text run one));
-    line = subst (IsLine longest kept' over') (sym (last_piece-run text run one)) line;
+    begun = subst (IsLine longest line') (sym (last_piece-run text run one)) kept;
     noted = same ∙ before.noted ∙ ap (has_fault answer) (sym (ended_lines-run text run one));
   }
 
   -- bytes without a newline came, and then a newline
-  pub IsAfter-line : {text written waiting waiting' kept kept' : List ℕ} {over over' faulty faulty' : Bool} (run : List ℕ) → IsAfter longest answer text written waiting kept over faulty
-      → IsOnePiece run → waiting' ≡ waiting ++ reply answer (last_piece text ++ run) → IsLine longest kept' over' []
-      → faulty' ≡ (faulty || is_fault answer (last_piece text ++ run))
-      → IsAfter longest answer (text ++ run ++ 10 ∷ []) written waiting' kept' over' faulty'
-  IsAfter-line {text} {written} {waiting} {kept' = kept'} {over' = over'} run before one said line told =
+  pub IsAfter-line : {text written waiting waiting' : List ℕ} {line line' : Line} (run : List ℕ) → IsAfter longest answer text written waiting line
+      → IsOnePiece run → waiting' ≡ waiting ++ reply answer (last_piece text ++ run) → IsLine longest line' []
+      → line'.faulty ≡ (line.faulty || is_fault answer (last_piece text ++ run))
+      → IsAfter longest answer (text ++ run ++ 10 ∷ []) written waiting' line'
+  IsAfter-line {text} {written} {waiting} {line' = line'} run before one said kept told =
       let new = last_piece text ++ run in
       record {
         answered = ap (λ w. written ++ w) said ∙ sym (append_assoc written waiting (reply answer new)) ∙ ap (λ w. w ++ reply answer new) before.answered
             ∙ ap (λ w. replies_to answer (ended_lines text) ++ w) (sym (replies_to-one answer new))
             ∙ sym (replies_to-append answer (ended_lines text) (new ∷ []))
             ∙ ap (replies_to answer) (sym (ended_lines-line text run one));
-        line = subst (IsLine longest kept' over') (sym (last_piece-line text run)) line;
+        begun = subst (IsLine longest line') (sym (last_piece-line text run)) kept;
         noted = told ∙ ap (λ b. b || is_fault answer new) before.noted
             ∙ ap (λ b. has_fault answer (ended_lines text) || b) (sym (or-false (is_fault answer new)))
             ∙ sym (list_any-append (is_fault answer) (ended_lines text) (new ∷ []))
@@ -144,42 +128,42 @@ module _ (longest : ℕ) (answer : List ℕ → List ℕ) where
       }
 
   -- all of some bytes but a rest came after any text
-  pub record IsFeeding (waiting kept : List ℕ) (over faulty : Bool) (waiting' kept' : List ℕ) (over' faulty' : Bool) (bytes rest : List ℕ) : Type 0 where
+  pub record IsFeeding (waiting : List ℕ) (line : Line) (waiting' : List ℕ) (line' : Line) (bytes rest : List ℕ) : Type 0 where
     pub done : List ℕ
     pub parts : done ++ rest ≡ bytes
-    pub after : (text written : List ℕ) → IsAfter longest answer text written waiting kept over faulty → IsAfter longest answer (text ++ done) written waiting' kept' over' faulty'
+    pub after : (text written : List ℕ) → IsAfter longest answer text written waiting line → IsAfter longest answer (text ++ done) written waiting' line'
 
   -- one more line was ended
-  pub IsFeeding-line : {waiting kept waiting' kept' waiting'' kept'' bytes : List ℕ} {over over' over'' faulty faulty' faulty'' : Bool} (rest run others : List ℕ) (at : ℕ)
-      → IsFeeding waiting kept over faulty waiting' kept' over' faulty' bytes rest → position (λ byte. byte == 10) rest ≡ Some at → run ≡ take at rest → others ≡ drop at rest
-      → ((text written : List ℕ) → IsAfter longest answer text written waiting' kept' over' faulty' → IsOnePiece run
-      → IsAfter longest answer (text ++ run ++ 10 ∷ []) written waiting'' kept'' over'' faulty'')
-      → IsFeeding waiting kept over faulty waiting'' kept'' over'' faulty'' bytes (take (length others - 1) (drop 1 others))
-  IsFeeding-line {waiting'' = waiting''} {kept'' = kept''} {over'' = over''} {faulty'' = faulty''} rest run others at before e front back step = rw take_rest (record {
+  pub IsFeeding-line : {waiting waiting' waiting'' bytes : List ℕ} {line line' line'' : Line} (rest run others : List ℕ) (at : ℕ)
+      → IsFeeding waiting line waiting' line' bytes rest → position (λ byte. byte == 10) rest ≡ Some at → run ≡ take at rest → others ≡ drop at rest
+      → ((text written : List ℕ) → IsAfter longest answer text written waiting' line' → IsOnePiece run
+      → IsAfter longest answer (text ++ run ++ 10 ∷ []) written waiting'' line'')
+      → IsFeeding waiting line waiting'' line'' bytes (take (length others - 1) (drop 1 others))
+  IsFeeding-line {waiting'' = waiting''} {line'' = line''} rest run others at before e front back step = rw take_rest (record {
     done = before.done ++ run ++ 10 ∷ [];
     parts = ap (λ o. before.done ++ run ++ 10 ∷ [] ++ drop 1 o) back ∙ append_assoc (before.done ++ run) (10 ∷ []) (drop 1 (drop at rest))
         ∙ ap (λ o. before.done ++ run ++ o) (newline_parts rest at e) ∙ append_assoc before.done run (drop at rest)
         ∙ ap (λ r. before.done ++ (r ++ drop at rest)) front ∙ ap (λ r. before.done ++ r) (take-append-drop at rest) ∙ before.parts;
-    after = λ text written b. subst (λ t. IsAfter longest answer t written waiting'' kept'' over'' faulty'')
+    after = λ text written b. subst (λ t. IsAfter longest answer t written waiting'' line'')
         (ap (λ t. t ++ 10 ∷ []) (append_assoc text before.done run) ∙ append_assoc text (before.done ++ run) (10 ∷ []))
         (step (text ++ before.done) written (before.after text written b) (subst IsOnePiece (sym front) (one_piece-take rest at e)));
   })
 
   -- the rest has no newline
-  pub IsFeeding-end : {E : Type 0} (result : Result (Unit {0}) E) {waiting kept waiting' kept' bytes : List ℕ} {over over' faulty faulty' : Bool}
-      (rest kept'' : List ℕ) (over'' faulty'' : Bool) → IsFeeding waiting kept over faulty waiting' kept' over' faulty' bytes rest → position (λ byte. byte == 10) rest ≡ None
-      → (text written : List ℕ) → IsAfter longest answer text written waiting kept over faulty
-      → ((begun : List ℕ) → IsLine longest kept' over' begun → OnOk result (IsLine longest kept'' over'' (begun ++ rest))) → faulty'' ≡ faulty'
-      → OnOk result (IsAfter longest answer (text ++ bytes) written waiting' kept'' over'' faulty'')
-  IsFeeding-end (Err error) rest kept'' over'' faulty'' feeding e text written before step same = tt
-  IsFeeding-end (Ok unit) {waiting' = waiting'} rest kept'' over'' faulty'' feeding e text written before step same =
+  pub IsFeeding-end : {E : Type 0} (result : Result (Unit {0}) E) {waiting waiting' bytes : List ℕ} {line line' : Line}
+      (rest : List ℕ) (line'' : Line) → IsFeeding waiting line waiting' line' bytes rest → position (λ byte. byte == 10) rest ≡ None
+      → (text written : List ℕ) → IsAfter longest answer text written waiting line
+      → ((begun : List ℕ) → IsLine longest line' begun → OnOk result (IsLine longest line'' (begun ++ rest))) → line''.faulty ≡ line'.faulty
+      → OnOk result (IsAfter longest answer (text ++ bytes) written waiting' line'')
+  IsFeeding-end (Err error) rest line'' feeding e text written before step same = tt
+  IsFeeding-end (Ok unit) {waiting' = waiting'} rest line'' feeding e text written before step same =
       let after = feeding.after text written before in
-      subst (λ t. IsAfter longest answer t written waiting' kept'' over'' faulty'') (append_assoc text feeding.done rest ∙ ap (λ t. text ++ t) feeding.parts)
-      (IsAfter-run rest after (one_piece-whole rest e) (step (last_piece (text ++ feeding.done)) after.line) same)
+      subst (λ t. IsAfter longest answer t written waiting' line'') (append_assoc text feeding.done rest ∙ ap (λ t. text ++ t) feeding.parts)
+      (IsAfter-run rest after (one_piece-whole rest e) (step (last_piece (text ++ feeding.done)) after.begun) same)
 
   -- memory was refused before the rest
-  pub IsFeeding-refused : {waiting kept waiting' kept' bytes : List ℕ} {over over' faulty faulty' : Bool} (rest new : List ℕ)
-      → IsFeeding waiting kept over faulty waiting' kept' over' faulty' bytes rest → new ≡ waiting' → (text written : List ℕ) → IsAfter longest answer text written waiting kept over faulty
+  pub IsFeeding-refused : {waiting waiting' bytes : List ℕ} {line line' : Line} (rest new : List ℕ)
+      → IsFeeding waiting line waiting' line' bytes rest → new ≡ waiting' → (text written : List ℕ) → IsAfter longest answer text written waiting line
       → rest ≢ []
       → AreRepliesBefore answer text (text ++ bytes) (written ++ new)
   IsFeeding-refused {bytes = bytes} rest new feeding same text written before some =
@@ -198,24 +182,24 @@ module _ (longest : ℕ) (answer : List ℕ → List ℕ) where
       }
 
   -- no reply waits
-  pub IsAfter-served : {start now : Option (List ℕ)} {text kept waiting : List ℕ} {over faulty : Bool} → IsServed longest answer start now text kept over faulty → waiting ≡ []
-      → IsAfter longest answer text (replies_to answer (ended_lines text)) waiting kept over faulty
+  pub IsAfter-served : {start now : Option (List ℕ)} {text waiting : List ℕ} {line : Line} → IsServed longest answer start now text line → waiting ≡ []
+      → IsAfter longest answer text (replies_to answer (ended_lines text)) waiting line
   IsAfter-served {text = text} served none = record {
     answered = ap (λ w. replies_to answer (ended_lines text) ++ w) none ∙ append-nil (replies_to answer (ended_lines text));
-    line = served.line;
+    begun = served.begun;
     noted = served.noted;
   }
 
   -- the replies that waited were written
   pub IsServed-written : (result : Result (Unit {0}) RunFault) (new : Option (List ℕ)) (bytes : List ℕ) {start old : Option (List ℕ)}
-      {text text' waiting kept kept' : List ℕ} {over over' faulty faulty' : Bool} → IsServed longest answer start old text kept over faulty
-      → IsAfter longest answer text' (replies_to answer (ended_lines text)) waiting kept' over' faulty' → bytes ≡ waiting → OnOk result (Appends old new bytes)
-      → OnOk result (IsServed longest answer start new text' kept' over' faulty')
+      {text text' waiting : List ℕ} {line line' : Line} → IsServed longest answer start old text line
+      → IsAfter longest answer text' (replies_to answer (ended_lines text)) waiting line' → bytes ≡ waiting → OnOk result (Appends old new bytes)
+      → OnOk result (IsServed longest answer start new text' line')
   IsServed-written (Err fault) new bytes served after all wrote = tt
   IsServed-written (Ok unit) new bytes {start} {old} {text} served after all wrote = record {
     wrote = subst (Appends start new) (ap (λ w. replies_to answer (ended_lines text) ++ w) all ∙ after.answered)
         (Appends-trans start old new (replies_to answer (ended_lines text)) bytes served.wrote wrote);
-    line = after.line;
+    begun = after.begun;
     noted = after.noted;
   }
 
@@ -237,8 +221,8 @@ module _ (longest : ℕ) (answer : List ℕ → List ℕ) where
 
   -- the writer failed among the replies to lines that ended
   pub IsStop-written : (result : Result (Unit {0}) RunFault) (new : Option (List ℕ)) (failed : Bool) (bytes : List ℕ) {start old : Option (List ℕ)}
-      {text text' waiting kept kept' : List ℕ} {over over' faulty faulty' : Bool} → IsServed longest answer start old text kept over faulty
-      → IsAfter longest answer text' (replies_to answer (ended_lines text)) waiting kept' over' faulty' → bytes ≡ waiting → OnErr result (AppendsPart old new bytes)
+      {text text' waiting : List ℕ} {line line' : Line} → IsServed longest answer start old text line
+      → IsAfter longest answer text' (replies_to answer (ended_lines text)) waiting line' → bytes ≡ waiting → OnErr result (AppendsPart old new bytes)
       → OnErr result (failed ≡ true) → IfErr result (λ fault. fault ≡ Write) → IfErr result (λ fault. IsStop answer fault start new text text' failed)
   IsStop-written result new failed bytes {start} {old} {text} {text'} served after all =
       let front = replies_to answer (ended_lines text) in
@@ -253,8 +237,8 @@ module _ (longest : ℕ) (answer : List ℕ → List ℕ) where
       ∙ ap (replies_to answer) (take-append-drop count (lines text))
 
   -- memory was refused, and what waited before was written, or the writer failed then
-  pub IsStop-some : (start old new : Option (List ℕ)) (failed : Bool) (text' bytes waiting : List ℕ) {text kept : List ℕ} {over faulty : Bool}
-      (result : Result (Unit {0}) RunFault) → IsServed longest answer start old text kept over faulty → AreRepliesBefore answer text text'
+  pub IsStop-some : (start old new : Option (List ℕ)) (failed : Bool) (text' bytes waiting : List ℕ) {text : List ℕ} {line : Line}
+      (result : Result (Unit {0}) RunFault) → IsServed longest answer start old text line → AreRepliesBefore answer text text'
       (replies_to answer (ended_lines text) ++ waiting)
       → bytes ≡ waiting
       → OnErr result (AppendsPart old new bytes) → OnErr result (failed ≡ true) → IfErr result (λ fault. fault ≡ Write)
@@ -265,8 +249,8 @@ module _ (longest : ℕ) (answer : List ℕ → List ℕ) where
       (ap (λ w. (front ++ w) ++ replies_to answer (drop some.refused (lines text'))) all
       ∙ ap (λ w. w ++ replies_to answer (drop some.refused (lines text'))) some.replies ∙ replies_to-take some.refused text')
 
-  pub AppendsBefore-written : (start old new : Option (List ℕ)) (text' bytes waiting : List ℕ) {text kept : List ℕ} {over faulty : Bool}
-      → IsServed longest answer start old text kept over faulty → AreRepliesBefore answer text text' (replies_to answer (ended_lines text) ++ waiting) → bytes ≡ waiting
+  pub AppendsBefore-written : (start old new : Option (List ℕ)) (text' bytes waiting : List ℕ) {text : List ℕ} {line : Line}
+      → IsServed longest answer start old text line → AreRepliesBefore answer text text' (replies_to answer (ended_lines text) ++ waiting) → bytes ≡ waiting
       → Appends old new bytes → AppendsBefore answer start new text text'
   AppendsBefore-written start old new text' bytes waiting {text} served some all wrote =
       let front = replies_to answer (ended_lines text) in
@@ -277,7 +261,7 @@ module _ (longest : ℕ) (answer : List ℕ → List ℕ) where
       }
 
   -- nothing of the last line was written
-  pub AppendsBefore-served : (start now : Option (List ℕ)) (text : List ℕ) {kept : List ℕ} {over faulty : Bool} → IsServed longest answer start now text kept over faulty
+  pub AppendsBefore-served : (start now : Option (List ℕ)) (text : List ℕ) {line : Line} → IsServed longest answer start now text line
       → last_piece text ≢ [] → AppendsBefore answer start now text text
   AppendsBefore-served start now text served some = record {
     bytes = replies_to answer (ended_lines text);
@@ -297,7 +281,7 @@ module _ (longest : ℕ) (answer : List ℕ → List ℕ) where
 
   -- the writer failed in the reply to the last line
   pub IsStop-last : (result : Result (Unit {0}) RunFault) (new : Option (List ℕ)) (failed : Bool) (bytes : List ℕ) {start old : Option (List ℕ)}
-      {text kept : List ℕ} {over faulty : Bool} → IsServed longest answer start old text kept over faulty → bytes ≡ replies_to answer (unended_line text)
+      {text : List ℕ} {line : Line} → IsServed longest answer start old text line → bytes ≡ replies_to answer (unended_line text)
       → OnErr result (AppendsPart old new bytes) → OnErr result (failed ≡ true) → IfErr result (λ fault. fault ≡ Write)
       → IfErr result (λ fault. IsStop answer fault start new text text failed)
   IsStop-last result new failed bytes {start} {old} {text} served last =
@@ -305,48 +289,48 @@ module _ (longest : ℕ) (answer : List ℕ → List ℕ) where
       IsStop-front result start old new failed text text front bytes [] served.wrote (append-nil (front ++ bytes) ∙ replies-parts text bytes last)
 
   -- the reply to the last line was written
-  pub Appends-last : (result : Result (Unit {0}) RunFault) (new : Option (List ℕ)) (bytes : List ℕ) {start old : Option (List ℕ)} {text kept : List ℕ}
-      {over faulty : Bool} → IsServed longest answer start old text kept over faulty → bytes ≡ replies_to answer (unended_line text) → OnOk result (Appends old new bytes)
+  pub Appends-last : (result : Result (Unit {0}) RunFault) (new : Option (List ℕ)) (bytes : List ℕ) {start old : Option (List ℕ)} {text : List ℕ}
+      {line : Line} → IsServed longest answer start old text line → bytes ≡ replies_to answer (unended_line text) → OnOk result (Appends old new bytes)
       → OnOk result (Appends start new (replies answer text))
   Appends-last (Err fault) new bytes served last wrote = tt
   Appends-last (Ok unit) new bytes {start} {old} {text} served last wrote =
       subst (Appends start new) (replies-parts text bytes last) (Appends-trans start old new (replies_to answer (ended_lines text)) bytes served.wrote wrote)
 
   -- whether a line was at fault is noted after the last line
-  pub noted-last : {start old : Option (List ℕ)} {text kept : List ℕ} {over faulty : Bool} (faulty' : Bool) → IsServed longest answer start old text kept over faulty
-      → faulty' ≡ (faulty || has_fault answer (unended_line text)) → faulty' ≡ has_fault answer (lines text)
-  noted-last {text = text} faulty' served told = told ∙ ap (λ b. b || has_fault answer (unended_line text)) served.noted
+  pub noted-last : {start old : Option (List ℕ)} {text : List ℕ} {line : Line} (faulty : Bool) → IsServed longest answer start old text line
+      → faulty ≡ (line.faulty || has_fault answer (unended_line text)) → faulty ≡ has_fault answer (lines text)
+  noted-last {text = text} faulty served told = told ∙ ap (λ b. b || has_fault answer (unended_line text)) served.noted
       ∙ sym (list_any-append (is_fault answer) (ended_lines text) (unended_line text))
 
   -- nothing was read
-  pub IsServed-begin : (start : Option (List ℕ)) (kept : List ℕ) (over faulty : Bool) → IsLine longest kept over [] → faulty ≡ false → IsServed longest answer start start [] kept over faulty
+  pub IsServed-begin : (start : Option (List ℕ)) (line : Line) → IsLine longest line [] → line.faulty ≡ false → IsServed longest answer start start [] line
   unfolding replies_to
-  IsServed-begin start kept over faulty line none = record {
+  IsServed-begin start line kept none = record {
     wrote = subst (Appends start start) (sym (ap (replies_to answer) ended_lines-nil)) (Appends-nil start);
-    line = subst (IsLine longest kept over) (sym last_piece-nil) line;
+    begun = subst (IsLine longest line) (sym last_piece-nil) kept;
     noted = none ∙ sym (ap (has_fault answer) ended_lines-nil);
   }
 
   -- some bytes of the input were taken, and served
-  pub record IsRunning (in0 in1 out0 out1 : Option (List ℕ)) (kept : List ℕ) (over faulty : Bool) : Type 0 where
+  pub record IsRunning (in0 in1 out0 out1 : Option (List ℕ)) (line : Line) : Type 0 where
     pub took : List ℕ
     pub read : Consumes in0 in1 took
-    pub served : IsServed longest answer out0 out1 took kept over faulty
+    pub served : IsServed longest answer out0 out1 took line
 
-  pub IsRunning-begin : (in0 out0 : Option (List ℕ)) (kept : List ℕ) (over faulty : Bool) → IsLine longest kept over [] → faulty ≡ false → IsRunning in0 in0 out0 out0 kept over faulty
-  IsRunning-begin in0 out0 kept over faulty line none = record { took = []; read = Consumes-nil in0; served = IsServed-begin out0 kept over faulty line none }
+  pub IsRunning-begin : (in0 out0 : Option (List ℕ)) (line : Line) → IsLine longest line [] → line.faulty ≡ false → IsRunning in0 in0 out0 out0 line
+  IsRunning-begin in0 out0 line kept none = record { took = []; read = Consumes-nil in0; served = IsServed-begin out0 line kept none }
 
   -- more bytes of the input were taken, and served
-  pub IsRunning-more : {in0 in1 out0 out1 : Option (List ℕ)} {kept kept' : List ℕ} {over over' faulty faulty' : Bool} (in2 out2 : Option (List ℕ)) (more : List ℕ)
-      (running : IsRunning in0 in1 out0 out1 kept over faulty) → Consumes in1 in2 more → IsServed longest answer out0 out2 (running.took ++ more) kept' over' faulty'
-      → IsRunning in0 in2 out0 out2 kept' over' faulty'
+  pub IsRunning-more : {in0 in1 out0 out1 : Option (List ℕ)} {line line' : Line} (in2 out2 : Option (List ℕ)) (more : List ℕ)
+      (running : IsRunning in0 in1 out0 out1 line) → Consumes in1 in2 more → IsServed longest answer out0 out2 (running.took ++ more) line'
+      → IsRunning in0 in2 out0 out2 line'
   IsRunning-more {in0} {in1} in2 out2 more running read served =
       record { took = running.took ++ more; read = Consumes-trans in0 in1 in2 running.took more running.read read; served = served }
 
   -- a run that memory or the writer stopped
   pub RunLeaves-stop : {R W : Type 0} (T : Type 0) (remaining : R → Option (List ℕ)) (contents : W → Option (List ℕ)) (in0 in2 : Watched R) (out0 out2 : Watched W)
-      (fault : RunFault) {in1 out1 : Option (List ℕ)} {kept : List ℕ} {over faulty : Bool} (text more : List ℕ)
-      (running : IsRunning (remaining in0.inner) in1 (contents out0.inner) out1 kept over faulty) → Consumes in1 (remaining in2.inner) more
+      (fault : RunFault) {in1 out1 : Option (List ℕ)} {line : Line} (text more : List ℕ)
+      (running : IsRunning (remaining in0.inner) in1 (contents out0.inner) out1 line) → Consumes in1 (remaining in2.inner) more
       → length more ≤ longest_read → text ≡ running.took ++ more
       → IsStop answer fault (contents out0.inner) (contents out2.inner) running.took text out2.failed
       → RunLeaves {T = T} answer remaining contents in0 in2 out0 out2 (Err fault)
@@ -371,8 +355,8 @@ module _ (longest : ℕ) (answer : List ℕ → List ℕ) where
 
   -- a run whose input gives no more bytes
   pub RunLeaves-end : {R W T : Type 0} (remaining : R → Option (List ℕ)) (contents : W → Option (List ℕ)) (in0 in2 : Watched R) (out0 out2 : Watched W)
-      (value : T) {in1 out1 : Option (List ℕ)} {kept : List ℕ} {over faulty : Bool}
-      (running : IsRunning (remaining in0.inner) in1 (contents out0.inner) out1 kept over faulty) → Consumes in1 (remaining in2.inner) []
+      (value : T) {in1 out1 : Option (List ℕ)} {line : Line}
+      (running : IsRunning (remaining in0.inner) in1 (contents out0.inner) out1 line) → Consumes in1 (remaining in2.inner) []
       → IsAtEnd (remaining in2.inner) → in2.failed ≡ false → Appends (contents out0.inner) (contents out2.inner) (replies answer running.took)
       → out2.failed ≡ false → out2.flushed ≡ true → RunLeaves answer remaining contents in0 in2 out0 out2 (Ok value)
   RunLeaves-end remaining contents in0 in2 out0 out2 value {in1} running read end reader wrote writer flushed = (

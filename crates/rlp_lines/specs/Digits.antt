@@ -1,9 +1,6 @@
 -- Bytes and numbers as digits.
 use Rattle.std.specs.Prelude.{ℕ, nat_lt, nat_eq, ◌+◌, ◌*◌, ◌^◌, ◌&&◌, Bool, if◌then◌else◌, List, length, drop, codes, Option, Some, None}
-use Rattle.std.specs.List.{starts_with, list_all}
-use Rattle.std.specs.Char.{digit_value, is_ascii_digit}
-use Rattle.std.specs.Result.{result_ok}
-use Rattle.std.specs.Str.Parse.{digits_value}
+use Rattle.std.specs.{List.{starts_with, list_all}, Char.{digit_value, is_ascii_digit}, Result.result_ok, Str.Parse.digits_value}
 use Rattle.hex.specs.Hex.{decode_of}
 
 -- the digits of a text: the text without a leading `0x`

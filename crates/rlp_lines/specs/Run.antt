@@ -2,10 +2,7 @@
 -- out0 and out1 are the bytes that the writer held.
 use Rattle.std.specs.Prelude.{ℕ, Bool, ◌≡◌, ◌<◌, ◌≤◌, ◌-◌, ◌^◌, ◌⊎◌, true, false, List, [], ◌++◌, length, take, Option, Result, Ok, Err}
 use Rattle.std.specs.Io.KnownBytes.{Consumes, Appends, IsAtEnd}
-use Rattle.rlp_lines.specs.Lines.{lines, ended_lines}
-use Rattle.rlp_lines.specs.Replies.{has_fault, replies_to, replies}
-use Rattle.rlp_lines.specs.Watched.{Watched}
-use Rattle.rlp_lines.specs.declared.serving.RunFault.{RunFault}
+use Rattle.rlp_lines.specs.{Lines.{lines, ended_lines}, Replies.{has_fault, replies_to, replies}, Watched.Watched, declared.serving.RunFault.RunFault}
 use Rattle.rlp_lines.specs.declared.serving.RunFault.TheVariants.{Memory, Read, Write}
 
 -- a beginning of these bytes was appended

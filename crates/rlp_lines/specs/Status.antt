@@ -1,7 +1,6 @@
 -- The exit status of a program.
 use Rattle.std.specs.Prelude.{ℕ, Result, Ok, Err}
-use Rattle.rlp_lines.specs.declared.serving.RunFault.{RunFault}
-use Rattle.rlp_lines.specs.declared.serving.RunFault.TheVariants.{Memory, Read, Write}
+use Rattle.rlp_lines.specs.{declared.serving.RunFault.RunFault, declared.serving.RunFault.TheVariants.{Memory, Read, Write}}
 
 -- the exit status after a fault
 abbrev pub status_of : RunFault → ℕ

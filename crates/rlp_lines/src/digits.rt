@@ -1,10 +1,10 @@
 //! Bytes and numbers as digits, read and printed.
-ghost use Rattle.std.specs.Prelude.{◌≡◌, ◌≢◌, ◌++◌, ◌*◌, ◌<◌, ◌≤◌, ℕ, slice_index, [], length, take, string_bytes, option_map, IfOk, OnErr, OnOk};
-ghost use Rattle.std.specs.Option.{IsSomeAnd};
-ghost use Rattle.hex.specs.Hex.{encode_lower, lower_digits};
+ghost use Rattle.std.specs.{Prelude.{◌≡◌, ◌≢◌, ◌++◌, ◌≤◌, ℕ, [], length, take, string_bytes, option_map, IfOk, OnErr, OnOk}, Option.IsSomeAnd};
+ghost use Rattle.hex.specs.Hex.{encode_lower};
 ghost use Rattle.rlp_lines.specs.Digits.{digits_of, bytes_in, number_in, with_digit};
 
 use crate::decoding::{are_pairs, put_bytes};
+use rlp_format::hex_digits::put_digits;
 use std::alloc::{AllocError, Global};
 use std::str::from_utf8;
 
@@ -72,30 +72,6 @@ pub fn read_number(text: &[u8]) -> Option<usize>
         rest = others;
     }
     Some(value)
-}
-
-/// The lower-case digit of a number below 16.
-#[tactic(auto, using(crate::proofs::DigitLemmas::digit_small, crate::proofs::DigitLemmas::digit_large))]
-fn digit_of(number: u8) -> u8
-    requires { number < 16 }
-    ensures { result ≡ slice_index lower_digits number }
-{
-    if number < 10 {
-        b'0' + number
-    } else {
-        b'a' - 10 + number
-    }
-}
-
-/// Writes each byte as two digits, without a branch for each digit.
-fn put_digits(bytes: &[u8], out: &mut [u8])
-    requires { length out.old ≡ 2 * length bytes.now }
-    ensures { out.new ≡ encode_lower bytes.now }
-{
-    for i in 0..bytes.len() {
-        out[2 * i] = digit_of(bytes[i] / 16);
-        out[2 * i + 1] = digit_of(bytes[i] % 16);
-    }
 }
 
 /// Appends a few bytes in one piece, each as two digits.

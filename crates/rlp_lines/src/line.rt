@@ -1,10 +1,8 @@
 //! The current line of the input.
 ghost use Rattle.std.specs.Prelude.{◌≡◌, ◌++◌, ◌≢◌, ◌==◌, ℕ, List, [], ◌∷◌, length, position, string_bytes, OnOk, OnErr, IsTrue, ◌↔◌, ◌||◌, false};
 ghost use Rattle.std.specs.Str.Lines.{strip_carriage_return};
-ghost use Rattle.rlp_lines.specs.Replies.{answer_by, has_fault, is_fault, reply, replies_to, says_fault};
-ghost use Rattle.rlp_lines.specs.Lines.{last_piece, unended_line};
-ghost use Rattle.rlp_lines.specs.Progress.{IsOnePiece, IsLine, IsAfter};
-ghost use Rattle.rlp_lines.specs.Run.{AreRepliesBefore};
+ghost use Rattle.rlp_lines.specs.{Replies.{answer_by, has_fault, is_fault, reply, replies_to, says_fault}, Lines.{last_piece, unended_line}};
+ghost use Rattle.rlp_lines.specs.{Progress.{IsOnePiece, IsLine, IsAfter}, Run.AreRepliesBefore};
 
 use crate::answering::LineAnswers;
 use memchr::memchr;
@@ -23,7 +21,7 @@ pub(crate) struct Line {
 
 impl Line {
     pub(crate) fn new(alloc: Global) -> Line
-        ensures empty { (longest : ℕ) → IsLine longest result.bytes.items result.over [] }
+        ensures empty { (longest : ℕ) → IsLine longest result [] }
         ensures none { result.faulty ≡ false }
     {
         Line {
@@ -36,8 +34,8 @@ impl Line {
 
     /// Adds bytes without a newline.
     fn extend<A: LineAnswers>(&mut self, run: &[u8]) -> Result<(), AllocError>
-        ensures ok { (begun : List ℕ) → IsLine A.longest self.old.bytes.items self.old.over begun
-            → OnOk result (IsLine A.longest self.new.bytes.items self.new.over (begun ++ run.now)) }
+        ensures ok { (begun : List ℕ) → IsLine A.longest self.old begun
+            → OnOk result (IsLine A.longest self.new (begun ++ run.now)) }
         ensures refused { OnErr result (run.now ≢ []) }
         ensures kept { self.new.faulty ≡ self.old.faulty }
     {
@@ -54,7 +52,7 @@ impl Line {
     /// Builds the answer in the buffer for replies.
     #[tactic(auto, unfolding(crate::specs::Replies::answer_by))]
     fn put_answer<A: LineAnswers>(&mut self, alloc: Global, answers: &A) -> Result<(), AllocError>
-        ensures reply { (begun : List ℕ) → IsLine A.longest self.old.bytes.items self.old.over begun
+        ensures reply { (begun : List ℕ) → IsLine A.longest self.old begun
             → OnOk result (string_bytes self.new.reply ≡ answer_by A.longest (A.long_line answers.now) (A.answer_within answers.now) begun) }
         ensures kept { self.new.faulty ≡ self.old.faulty }
     {
@@ -72,10 +70,10 @@ impl Line {
         answers: &A,
         out: &mut String,
     ) -> Result<(), AllocError>
-        ensures ok { (begun : List ℕ) → IsLine A.longest self.old.bytes.items self.old.over begun
+        ensures ok { (begun : List ℕ) → IsLine A.longest self.old begun
             → OnOk result (string_bytes out.new
             ≡ string_bytes out.old ++ reply (answer_by A.longest (A.long_line answers.now) (A.answer_within answers.now)) begun) }
-        ensures noted { (begun : List ℕ) → IsLine A.longest self.old.bytes.items self.old.over begun
+        ensures noted { (begun : List ℕ) → IsLine A.longest self.old begun
             → OnOk result (self.new.faulty
             ≡ (self.old.faulty || is_fault (answer_by A.longest (A.long_line answers.now) (A.answer_within answers.now)) begun)) }
         ensures refused { OnErr result (string_bytes out.new ≡ string_bytes out.old) }
@@ -94,14 +92,14 @@ impl Line {
     }
 
     fn is_empty(&self) -> bool
-        ensures { (longest : ℕ) (begun : List ℕ) → IsLine longest self.now.bytes.items self.now.over begun
+        ensures { (longest : ℕ) (begun : List ℕ) → IsLine longest self.now begun
             → IsTrue result ↔ (begun ≡ []) }
     {
         !self.over && self.bytes.is_empty()
     }
 
     fn clear(&mut self)
-        ensures empty { (longest : ℕ) → IsLine longest self.new.bytes.items self.new.over [] }
+        ensures empty { (longest : ℕ) → IsLine longest self.new [] }
         ensures kept { self.new.faulty ≡ self.old.faulty }
     {
         self.bytes.clear();
@@ -118,11 +116,11 @@ impl Line {
     ) -> Result<(), AllocError>
         ensures ok { (text written : List ℕ)
             → IsAfter A.longest (answer_by A.longest (A.long_line answers.now) (A.answer_within answers.now)) text written
-            (string_bytes out.old) self.old.bytes.items self.old.over self.old.faulty
+            (string_bytes out.old) self.old
             → IsOnePiece run.now
             → OnOk result (IsAfter A.longest (answer_by A.longest (A.long_line answers.now) (A.answer_within answers.now))
             (text ++ run.now ++ 10 ∷ []) written (string_bytes out.new)
-            self.new.bytes.items self.new.over self.new.faulty) }
+            self.new) }
         ensures refused { OnErr result (string_bytes out.new ≡ string_bytes out.old) }
     {
         self.extend::<A>(run)?;
@@ -142,13 +140,13 @@ impl Line {
     ) -> Result<(), AllocError>
         ensures ok { (text written : List ℕ)
             → IsAfter A.longest (answer_by A.longest (A.long_line answers.now) (A.answer_within answers.now)) text written
-            (string_bytes out.old) self.old.bytes.items self.old.over self.old.faulty
+            (string_bytes out.old) self.old
             → OnOk result (IsAfter A.longest (answer_by A.longest (A.long_line answers.now) (A.answer_within answers.now))
             (text ++ bytes.now) written (string_bytes out.new)
-            self.new.bytes.items self.new.over self.new.faulty) }
+            self.new) }
         ensures refused { (text written : List ℕ)
             → IsAfter A.longest (answer_by A.longest (A.long_line answers.now) (A.answer_within answers.now)) text written
-            (string_bytes out.old) self.old.bytes.items self.old.over self.old.faulty
+            (string_bytes out.old) self.old
             → OnErr result (AreRepliesBefore (answer_by A.longest (A.long_line answers.now) (A.answer_within answers.now)) text (text ++ bytes.now)
             (written ++ string_bytes out.new)) }
     {
@@ -169,14 +167,14 @@ impl Line {
         answers: &A,
         out: &mut String,
     ) -> Result<(), AllocError>
-        ensures ok { (text : List ℕ) → IsLine A.longest self.old.bytes.items self.old.over (last_piece text)
+        ensures ok { (text : List ℕ) → IsLine A.longest self.old (last_piece text)
             → OnOk result (string_bytes out.new
             ≡ string_bytes out.old
             ++ replies_to (answer_by A.longest (A.long_line answers.now) (A.answer_within answers.now)) (unended_line text)) }
-        ensures noted { (text : List ℕ) → IsLine A.longest self.old.bytes.items self.old.over (last_piece text)
+        ensures noted { (text : List ℕ) → IsLine A.longest self.old (last_piece text)
             → OnOk result (self.new.faulty ≡ (self.old.faulty
             || has_fault (answer_by A.longest (A.long_line answers.now) (A.answer_within answers.now)) (unended_line text))) }
-        ensures refused { (begun : List ℕ) → IsLine A.longest self.old.bytes.items self.old.over begun
+        ensures refused { (begun : List ℕ) → IsLine A.longest self.old begun
             → OnErr result (begun ≢ []) }
     {
         if self.is_empty() {

@@ -1,8 +1,7 @@
 //! A reader or writer that remembers whether it has failed, how many reads it made, and whether it
 //! was flushed.
 ghost use Rattle.std.specs.Prelude.{◌≡◌, ◌+◌, ◌-◌, ◌^◌, ◌<◌, min, true, false, length, OnOk, OnErr, IfOk, ◌||◌};
-ghost use Rattle.std.specs.Io.KnownBytes.{ReadConsumes, WriteAppends, Keeps};
-ghost use Rattle.std.specs.Io.{ReadsAtMost, WritesAtMost};
+ghost use Rattle.std.specs.{Io.KnownBytes.{ReadConsumes, WriteAppends, Keeps}, Io.{ReadsAtMost, WritesAtMost}};
 
 use std::io;
 use std::io::{Read, Write};

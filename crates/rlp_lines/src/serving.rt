@@ -1,9 +1,7 @@
 //! The loop over the input.
 ghost use Rattle.std.specs.Prelude.{◌≡◌, ◌-◌, ◌^◌, ◌++◌, ◌<◌, ◌⊎◌, ℕ, List, OnOk, OnErr, IfErr, IfOk, Option, string_bytes, true, false};
 ghost use Rattle.std.specs.Io.KnownBytes.{Appends};
-ghost use Rattle.rlp_lines.specs.Lines.{lines};
-ghost use Rattle.rlp_lines.specs.Replies.{answer_by, has_fault, replies};
-ghost use Rattle.rlp_lines.specs.Progress.{IsServed, IsStop};
+ghost use Rattle.rlp_lines.specs.{Lines.lines, Replies.{answer_by, has_fault, replies}, Progress.{IsServed, IsStop}};
 ghost use Rattle.rlp_lines.specs.Run.{AppendsPart, RunLeaves, TellsFault, TextLeaves};
 
 use crate::answering::LineAnswers;
@@ -95,13 +93,13 @@ fn serve<A: LineAnswers, W: Write>(
 ) -> Result<(), RunFault>
     ensures ok { (start : Option (List ℕ)) (text : List ℕ)
         → IsServed A.longest (answer_by A.longest (A.long_line answers.now) (A.answer_within answers.now)) start
-        (W.contents output.old.inner) text line.old.bytes.items line.old.over line.old.faulty
+        (W.contents output.old.inner) text line.old
         → OnOk result (IsServed A.longest (answer_by A.longest (A.long_line answers.now) (A.answer_within answers.now)) start
-        (W.contents output.new.inner) (text ++ bytes.now) line.new.bytes.items line.new.over line.new.faulty) }
+        (W.contents output.new.inner) (text ++ bytes.now) line.new) }
     ensures kept { OnOk result (output.new.failed ≡ output.old.failed) }
     ensures stop { (start : Option (List ℕ)) (text : List ℕ)
         → IsServed A.longest (answer_by A.longest (A.long_line answers.now) (A.answer_within answers.now)) start
-        (W.contents output.old.inner) text line.old.bytes.items line.old.over line.old.faulty
+        (W.contents output.old.inner) text line.old
         → IfErr result (λ fault. IsStop (answer_by A.longest (A.long_line answers.now) (A.answer_within answers.now)) fault start
         (W.contents output.new.inner) text (text ++ bytes.now) output.new.failed) }
 
@@ -129,19 +127,19 @@ fn finish<A: LineAnswers, W: Write>(
 ) -> Result<(), RunFault>
     ensures ok { (start : Option (List ℕ)) (text : List ℕ)
         → IsServed A.longest (answer_by A.longest (A.long_line answers.now) (A.answer_within answers.now)) start
-        (W.contents output.old.inner) text line.old.bytes.items line.old.over line.old.faulty
+        (W.contents output.old.inner) text line.old
         → OnOk result (Appends start (W.contents output.new.inner)
         (replies (answer_by A.longest (A.long_line answers.now) (A.answer_within answers.now)) text)) }
     ensures noted { (start : Option (List ℕ)) (text : List ℕ)
         → IsServed A.longest (answer_by A.longest (A.long_line answers.now) (A.answer_within answers.now)) start
-        (W.contents output.old.inner) text line.old.bytes.items line.old.over line.old.faulty
+        (W.contents output.old.inner) text line.old
         → OnOk result (line.new.faulty
         ≡ has_fault (answer_by A.longest (A.long_line answers.now) (A.answer_within answers.now)) (lines text)) }
     ensures kept { OnOk result (output.new.failed ≡ output.old.failed) }
     ensures flushed { OnOk result (output.new.flushed ≡ true) }
     ensures stop { (start : Option (List ℕ)) (text : List ℕ)
         → IsServed A.longest (answer_by A.longest (A.long_line answers.now) (A.answer_within answers.now)) start
-        (W.contents output.old.inner) text line.old.bytes.items line.old.over line.old.faulty
+        (W.contents output.old.inner) text line.old
         → IfErr result (λ fault. IsStop (answer_by A.longest (A.long_line answers.now) (A.answer_within answers.now)) fault start
         (W.contents output.new.inner) text text output.new.failed) }
 {
@@ -177,15 +175,11 @@ pub fn answer_lines<A: LineAnswers, R: Read, W: Write>(
             Err(_) => return Err(RunFault::Read),
         };
         if count == 0 {
-            if let Err(fault) = finish(alloc, answers, &mut line, &mut pending, output) {
-                return Err(fault);
-            }
+            finish(alloc, answers, &mut line, &mut pending, output)?;
             return Ok(line.is_faulty());
         }
         let chunk = &buffer[..count];
-        if let Err(fault) = serve(alloc, answers, &mut line, &mut pending, output, chunk) {
-            return Err(fault);
-        }
+        serve(alloc, answers, &mut line, &mut pending, output, chunk)?;
     }
     Err(RunFault::Read)
 }
@@ -204,11 +198,7 @@ pub fn answer_text<A: LineAnswers, W: Write>(
 {
     let mut line = Line::new(alloc);
     let mut pending = String::new(alloc);
-    if let Err(fault) = serve(alloc, answers, &mut line, &mut pending, output, text) {
-        return Err(fault);
-    }
-    if let Err(fault) = finish(alloc, answers, &mut line, &mut pending, output) {
-        return Err(fault);
-    }
+    serve(alloc, answers, &mut line, &mut pending, output, text)?;
+    finish(alloc, answers, &mut line, &mut pending, output)?;
     Ok(line.is_faulty())
 }

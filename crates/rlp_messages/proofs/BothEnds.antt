@@ -1,11 +1,7 @@
 -- Both ends of a connection find the same offsets.
-use Rattle.std.specs.Prelude.{◌==◌, nat_lt, if◌then◌else◌, not, sum_by}
-use Rattle.std.proofs.Common.{◌≡◌, ℕ, ◌+◌, Bool, true, false, ◌||◌, ◌&&◌, List, [], ◌∷◌, refl, sym, ap, ◌∙◌, arith}
-use Rattle.std.proofs.lemmas.Bool.Decides.{nat_tests}
-use Rattle.std.proofs.lemmas.List.Sums.{sum_by-cons}
-use Rattle.std.proofs.lemmas.Slice.Eq.{bytes_eq-Decides}
-use Rattle.std.specs.List.{list_all, list_any}
-use Rattle.std.specs.Str.{bytes_eq}
+use Rattle.std.specs.{Prelude.{◌==◌, nat_lt, if◌then◌else◌, not, sum_by}, List.{list_all, list_any}, Str.bytes_eq}
+use Rattle.std.proofs.{Common.{◌≡◌, ℕ, ◌+◌, Bool, true, false, ◌||◌, ◌&&◌, List, [], ◌∷◌, refl, sym, ap, ◌∙◌, arith}, lemmas.Bool.Decides.nat_tests}
+use Rattle.std.proofs.{lemmas.List.Sums.sum_by-cons, lemmas.Slice.Eq.bytes_eq-Decides}
 use Rattle.rlp_messages.specs.P2p.Offsets.{Known, announced, byte_if, comes_before, ids_before, is_named, is_same, is_shared, is_superseded, know_same_ids}
 use Rattle.rlp_messages.specs.P2p.Offsets.{lists_each_once, offset_of, shared_offset, speaks}
 use Rattle.rlp_messages.proofs.Capabilities.{any_map, both_true, eq-eqb}

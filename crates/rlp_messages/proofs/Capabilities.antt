@@ -1,12 +1,8 @@
 -- Tests of all capabilities, one by one.
 use Rattle.std.proofs.Common.{◌≡◌, ℕ, ◌+◌, ◌<◌, ◌≤◌, Bool, true, false, ◌||◌, ◌&&◌, lt-ltb, List, [], ◌∷◌, map, length, take, get_or, refl, sym, ap, ◌∙◌, arith}
-use Rattle.std.specs.Prelude.{◌==◌, nat_lt, sum_by}
-use Rattle.std.proofs.lemmas.Bool.Decides.{nat_tests}
-use Rattle.std.specs.List.{list_any}
-use Rattle.std.specs.Str.{bytes_eq}
+use Rattle.std.proofs.{lemmas.Bool.Decides.nat_tests, lemmas.List.Folds.{fold-map, list_any_at}, lemmas.Grind.common_steps}
+use Rattle.std.specs.{Prelude.{◌==◌, nat_lt, sum_by}, List.list_any, Str.bytes_eq}
 use Rattle.rlp_messages.specs.P2p.Offsets.{Known, Named, announced, is_named, speaks, supersedes}
-use Rattle.std.proofs.lemmas.List.Folds.{fold-map, list_any_at}
-use Rattle.std.proofs.lemmas.Grind.{common_steps}
 
 pub both_true : (a b : Bool) → a ≡ true → b ≡ true → (a && b) ≡ true
 both_true true b one other = other

@@ -1,8 +1,7 @@
 -- A string that isn't read as a hash is read as a number.
 use Rattle.std.proofs.Common.{◌≡◌, ◌≢◌, ◌≤◌, ◌==◌, inl, inr, ℕ, Bool, true, false, List, length, ltb, le-ltb, ltb-false, refl, ap, ◌∙◌, arith, ne_eqb, eq-eqb, Result, Ok, Err}
 use Rattle.std.proofs.lemmas.Bool.{cond-true, cond-false}
-use Rattle.rlp.specs.Form.{Fault, and_then, fixed_of, is_too_big, is_too_short, map_value, number_of, string_of}
-use Rattle.rlp.specs.Views.View.{View}
+use Rattle.rlp.specs.{Form.{Fault, and_then, fixed_of, is_too_big, is_too_short, map_value, number_of, string_of}, Views.View.View}
 use Rattle.rlp_messages.specs.Eth.HashOrNumber.{hash_or_number_of}
 
 module _ (s : List ℕ) where

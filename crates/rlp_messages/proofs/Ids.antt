@@ -1,18 +1,10 @@
 -- Bytes that begin with the id of a message.
 use Rattle.std.proofs.Common.{◌≡◌, ℕ, ◌^◌, ◌<◌, ◌≤◌, ◌+◌, ◌-◌, Bool, true, false, List, ◌++◌, length, drop, drop_at, ltb, le-ltb, ltb-false, refl, ap, sym, ◌∙◌, Ok, Err, subst, arith}
 use Rattle.std.proofs.lemmas.Bool.{cond-true, cond-false}
-use Rattle.rlp.specs.DecoderError.{DecoderError}
-use Rattle.rlp.specs.Format.Encoding.{BeginsWith, encoding, AreBytes, big_endian}
-use Rattle.rlp.specs.Form.{Gives, and_then, custom, number}
-use Rattle.rlp_format.proofs.Lemmas.Encodings.{front_sized, prefix_free}
-use Rattle.rlp_format.proofs.Lemmas.Digits.{big_endian_same}
-use Rattle.rlp_format.proofs.Lemmas.Lists.{same_front}
-use Rattle.rlp_reading.proofs.Lemmas.RawItems.{view_frame-held}
-use Rattle.rlp.specs.Values.RawItem.{view_frame}
-use Rattle.rlp.specs.Values.Value.{FitsBytes, number_item}
-use Rattle.rlp.specs.Views.View.{View, view_of}
-use Rattle.rlp_codec.proofs.ListLaws.{goes_on}
-use Rattle.rlp_codec.proofs.StringLaws.{number_lawful, number_scalar}
+use Rattle.rlp.specs.{DecoderError.DecoderError, Format.Encoding.{BeginsWith, encoding, AreBytes, big_endian}, Form.{Gives, and_then, custom, number}}
+use Rattle.rlp.specs.{Values.RawItem.view_frame, Values.Value.{FitsBytes, number_item}, Views.View.{View, view_of}}
+use Rattle.rlp_format.proofs.{Lemmas.Encodings.{front_sized, prefix_free}, Lemmas.Digits.big_endian_same, Lemmas.Lists.same_front}
+use Rattle.rlp_reading.proofs.{Lemmas.RawItems.view_frame-held, ListLaws.goes_on, StringLaws.{number_lawful, number_scalar}}
 use Rattle.rlp_messages.specs.Message.{after_id, numbered_of, unknown_message}
 
 -- numbers that are written as one item are the same

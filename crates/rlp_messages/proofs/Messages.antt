@@ -1,16 +1,9 @@
 -- The bytes of a message are read back, and from nothing else, and they tell messages apart.
 use Rattle.std.proofs.Common.{◌≡◌, ℕ, ◌^◌, ◌<◌, ◌+◌, ◌⊎◌, ⊎_elim, true, List, ◌++◌, length, refl, sym, ap, ◌∙◌, subst, arith, length-append}
-use Rattle.std.proofs.Common.{Result, Ok, Err, IfErr, IfOk}
-use Rattle.std.proofs.lemmas.List.Elements.{All-from_recursion, recursion_from_All}
-use Rattle.rlp.specs.DecoderError.{DecoderError}
-use Rattle.rlp.specs.DecoderError.TheVariants.{OutOfMemory}
-use Rattle.rlp.specs.Form.{and_then, fault_of}
-use Rattle.rlp.specs.Format.Encoding.{IsSized, encoding, AreBytes}
-use Rattle.rlp_reading.proofs.Lemmas.OneReading.{back_bytes}
-use Rattle.rlp_reading.proofs.Lemmas.Reading.{Bytes}
-use Rattle.rlp.specs.Values.Value.{FitsBytes, number_item}
-use Rattle.rlp_codec.proofs.FieldLaws.{ok_same}
-use Rattle.rlp_codec.proofs.ListLaws.{goes_on}
+use Rattle.std.proofs.{Common.{Result, Ok, Err, IfErr, IfOk}, lemmas.List.Elements.{All-from_recursion, recursion_from_All}}
+use Rattle.rlp.specs.{DecoderError.DecoderError, DecoderError.TheVariants.OutOfMemory, Form.{and_then, fault_of}}
+use Rattle.rlp.specs.{Format.Encoding.{IsSized, encoding, AreBytes}, Values.Value.{FitsBytes, number_item}}
+use Rattle.rlp_reading.proofs.{Lemmas.OneReading.back_bytes, Lemmas.Reading.Bytes, FieldLaws.ok_same, ListLaws.goes_on}
 use Rattle.rlp_messages.specs.Message.{Fits, Table, bytes_of, item_of, message_of, number_of, numbered_of, read_of, seen_of}
 use Rattle.rlp_messages.proofs.Ids.{numbered_back, numbered_only, same_number}
 

@@ -1,13 +1,9 @@
 -- What the bytes of a message give within bounds.
 use Rattle.std.specs.Prelude.{codes, if◌then◌else◌}
 use Rattle.std.proofs.Common.{◌≡◌, ℕ, ◌^◌, ◌<◌, ◌≤◌, ◌+◌, ◌⊎◌, inl, inr, Bool, true, false, ltb, le-ltb, lt-ltb, List, length, refl, sym, ap, ◌∙◌}
-use Rattle.std.proofs.Common.{Option, None, Some, Result, Ok, Err, IfErr, IfOk, OnOk}
-use Rattle.std.proofs.lemmas.Bool.{cond-true, cond-false}
-use Rattle.rlp.specs.DecoderError.{DecoderError}
-use Rattle.rlp.specs.DecoderError.TheVariants.{OutOfMemory}
-use Rattle.rlp.specs.Form.{Answer, Fault, custom, fault_of}
-use Rattle.rlp.specs.Format.Encoding.{Item, encoding}
-use Rattle.rlp.specs.Views.View.{View, strict_view_of}
+use Rattle.std.proofs.{Common.{Option, None, Some, Result, Ok, Err, IfErr, IfOk, OnOk}, lemmas.Bool.{cond-true, cond-false}}
+use Rattle.rlp.specs.{DecoderError.DecoderError, DecoderError.TheVariants.OutOfMemory, Form.{Answer, Fault, custom, fault_of}}
+use Rattle.rlp.specs.{Format.Encoding.{Item, encoding}, Views.View.{View, strict_view_of}}
 use Rattle.rlp_messages.specs.declared.bounds.MessageBounds.{MessageBounds}
 use Rattle.rlp_messages.specs.Bounds.{body_fault, is_among, items_fault, message_at_most, message_fault, numbered_fault}
 use Rattle.rlp_messages.specs.Message.{Fits, Table, bytes_of, item_of, message_of, number_of, numbered_of, read_of, seen_of}

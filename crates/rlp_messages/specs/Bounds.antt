@@ -1,9 +1,7 @@
 -- Bounds on messages: why the bytes of a message are refused before its body is read, and what they give within the bounds.
 use Rattle.std.specs.Prelude.{ℕ, ◌≤◌, ◌==◌, ◌||◌, nat_lt, if◌then◌else◌, Bool, false, List, [], ◌∷◌, length, codes, Option, Some, None, Result, Ok, Err}
-use Rattle.rlp.specs.Form.{Answer, Fault, custom}
-use Rattle.rlp.specs.Format.Encoding.{Item}
-use Rattle.rlp_messages.specs.declared.bounds.MessageBounds.{MessageBounds}
-use Rattle.rlp_messages.specs.Message.{Seen, Table, message_of, numbered_of}
+use Rattle.rlp.specs.{Form.{Answer, Fault, custom}, Format.Encoding.Item}
+use Rattle.rlp_messages.specs.{declared.bounds.MessageBounds.MessageBounds, Message.{Seen, Table, message_of, numbered_of}}
 use Rattle.rlp_records.specs.Bounded.{IsBounded, bound_fault, unless_fault}
 
 -- the fault of bytes that have more than this number of items or aren't the encoding of an item, if there is a number

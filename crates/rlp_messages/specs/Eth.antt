@@ -4,8 +4,9 @@
 pub mod Status
 -- new blocks and transactions, and the blocks that a client has
 pub mod Announcements
--- a block's hash or number
+-- a block's hash or number, and how it is read back
 pub mod HashOrNumber
+pub mod HashOrNumberLaws
 -- requests and their answers
 pub mod Requests
 -- answers with receipts

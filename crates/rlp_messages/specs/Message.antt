@@ -1,11 +1,8 @@
 -- How the messages of a capability are written and read: the id, and then the body. `offset` is the id of the message with the number 0.
 use Rattle.std.specs.Prelude.{ℕ, ◌≡◌, ◌+◌, ◌-◌, ◌<◌, ◌⊎◌, if◌then◌else◌, nat_lt, true, List, [], ◌∷◌, ◌++◌, codes, drop, length, Result, Ok, Err}
 use Rattle.std.proofs.Common.{inl, inr, ltb-true}
-use Rattle.rlp.specs.Codec.{Cases, Codec, and_case, last_case}
-use Rattle.rlp.specs.Format.Encoding.{Item, encoding}
-use Rattle.rlp.specs.Form.{Answer, Fault, and_then, custom, go_on, here, number}
-use Rattle.rlp.specs.Values.Sums.{sum_tag}
-use Rattle.rlp.specs.Values.Value.{number_item}
+use Rattle.rlp.specs.{Codec.{Cases, Codec, and_case, last_case}, Format.Encoding.{Item, encoding}}
+use Rattle.rlp.specs.{Form.{Answer, Fault, and_then, custom, go_on, here, number}, Values.Sums.sum_tag, Values.Value.number_item}
 use Rattle.rlp.specs.Views.View.{strict_view_of, view_of}
 
 -- the text of the fault of an id that no message has

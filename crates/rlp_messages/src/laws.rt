@@ -1,8 +1,7 @@
 //! What holds of messages: their bytes tell them apart, and both ends find the same offsets.
 
 ghost use Rattle.std.specs.Prelude.{◌≡◌, ◌<◌, ◌^◌, ℕ, List, length, true};
-ghost use Rattle.rlp_messages.specs.Message.{Fits, bytes_of, seen_of};
-ghost use Rattle.rlp_messages.specs.P2p.Offsets.{Known, announced, know_same_ids, lists_each_once, shared_offset};
+ghost use Rattle.rlp_messages.specs.{Message.{Fits, bytes_of, seen_of}, P2p.Offsets.{Known, announced, know_same_ids, lists_each_once, shared_offset}};
 
 use crate::Message;
 

@@ -2,10 +2,7 @@
 //! body.
 
 ghost use Rattle.std.specs.Prelude.{◌≡◌, ◌⊎◌, Err, IfErr, IfOk, None, Ok, OnErr, OnOk, Some};
-ghost use Rattle.rlp.specs.DecoderError.TheVariants.{OutOfMemory};
-ghost use Rattle.rlp.specs.Form.{fault_of};
-ghost use Rattle.rlp.specs.Streams.Growth.{GrowsTo};
-ghost use Rattle.rlp.specs.Streams.Stream.{MovedGrows, put_item};
+ghost use Rattle.rlp.specs.{DecoderError.TheVariants.OutOfMemory, Form.fault_of, Streams.Growth.GrowsTo, Streams.Stream.{MovedGrows, put_item}};
 ghost use Rattle.rlp_messages.specs.Bounds.{IsWithin, body_fault, message_at_most, message_fault};
 ghost use Rattle.rlp_messages.specs.Message.{Fits, Table, bytes_of, item_of, message_of, number_of, read_of, seen_of};
 

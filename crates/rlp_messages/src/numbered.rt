@@ -1,13 +1,9 @@
 //! Messages whose ids are read, and how their bodies are read.
 
 ghost use Rattle.std.specs.Prelude.{◌≡◌, ◌+◌, ◌++◌, ◌⊎◌, Err, IfErr, IfOk, None, Ok, OnOk, Some};
-ghost use Rattle.rlp.specs.DecoderError.TheVariants.{OutOfMemory};
-ghost use Rattle.rlp.specs.Format.Encoding.{encoding};
-ghost use Rattle.rlp.specs.Values.Value.{number_item};
-ghost use Rattle.rlp.specs.Form.{Gives, fault_of, number};
+ghost use Rattle.rlp.specs.{DecoderError.TheVariants.OutOfMemory, Format.Encoding.encoding, Values.Value.number_item, Form.{Gives, fault_of, number}};
 ghost use Rattle.rlp.specs.Views.View.{strict_view_of, view_of};
-ghost use Rattle.rlp_messages.specs.Bounds.{items_fault};
-ghost use Rattle.rlp_messages.specs.Message.{numbered_of};
+ghost use Rattle.rlp_messages.specs.{Bounds.items_fault, Message.numbered_of};
 
 use rlp::{DecoderError, Rlp, StrictRead};
 use rlp_records::decode_at_most;
@@ -42,13 +38,11 @@ impl<'a> Numbered<'a> {
         if id < first {
             return Err(DecoderError::Custom("unknown message"));
         }
-        match view.split_first() {
-            Ok((_, body)) => Ok(Numbered {
-                number: id - first,
-                body,
-            }),
-            Err(fault) => Err(fault),
-        }
+        let (_, body) = view.split_first()?;
+        Ok(Numbered {
+            number: id - first,
+            body,
+        })
     }
 }
 
@@ -86,10 +80,7 @@ pub fn decode_within<R: StrictRead>(
 macro_rules! decode_numbered {
     ($alloc:expr, $message:expr, $most:expr, $($number:literal => $variant:path),+ $(,)?) => {
         match $message.number {
-            $($number => match $crate::decode_within($alloc, $message.body, $most) {
-                Ok(body) => Ok($variant(body)),
-                Err(fault) => Err(fault),
-            },)+
+            $($number => Ok($variant($crate::decode_within($alloc, $message.body, $most)?)),)+
             _ => Err(DecoderError::Custom("unknown message")),
         }
     };

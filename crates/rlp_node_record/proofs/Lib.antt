@@ -1,1 +1,3 @@
+pub mod Clones
+pub mod Keys
 pub mod Texts

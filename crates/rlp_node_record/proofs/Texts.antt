@@ -1,20 +1,14 @@
 -- The text of a record tells the record.
 use Rattle.std.proofs.Common.{◌≡◌, ◌<◌, ◌^◌, ℕ, zero, suc, List, [], ◌∷◌, ◌++◌, ◌⊎◌, inl, inr, Ok, sym, ap, ◌∙◌, codes, length, refl, subst, true, arith}
-use Rattle.base64.specs.Engines.{url_safe_no_pad}
-use Rattle.base64.specs.GeneralPurpose.{IsBytes, decode_of}
+use Rattle.base64.specs.{Engines.url_safe_no_pad, GeneralPurpose.{IsBytes, decode_of}}
 use Rattle.base64.proofs.EngineFacts.{decode_of-encode_of}
-use Rattle.rlp.specs.DecoderError.{DecoderError}
-use Rattle.rlp.specs.DecoderError.TheVariants.{OutOfMemory}
-use Rattle.rlp.specs.Format.Encoding.{encoding, AreBytes}
-use Rattle.rlp_reading.proofs.Lemmas.Reading.{bytes_held}
-use Rattle.rlp.specs.Views.View.{strict_view_of}
-use Rattle.rlp.specs.Form.{Faults, custom, fault_of}
-use Rattle.rlp_codec.proofs.Corollaries.{not_both}
-use Rattle.rlp_node_record.specs.NodeFields.{node_fields}
-use Rattle.rlp_node_record.specs.NodeRecord.{IsNodeRecord}
-use Rattle.rlp_node_record.specs.NodeLaws.{node_record, records_tell}
+use Rattle.rlp.specs.{DecoderError.DecoderError, DecoderError.TheVariants.OutOfMemory, Format.Encoding.{encoding, AreBytes}}
+use Rattle.rlp.specs.{Views.View.strict_view_of, Form.{Faults, custom, fault_of}}
+use Rattle.rlp_reading.proofs.{Lemmas.Reading.bytes_held, Corollaries.not_both}
+use Rattle.rlp_node_record.specs.{NodeFields.node_fields, NodeRecord.IsNodeRecord, NodeLaws.node_record}
 use Rattle.rlp_node_record.specs.NodeText.{HasPrefix, IsNodeTextFault, IsNotBase64, base64_of, faulty_bytes, no_prefix, node_text, not_base64}
 use Rattle.rlp_node_record.specs.declared.node_fields.NodeFields.{NodeFields}
+use Rattle.rlp_node_record.proofs.Keys.{records_tell}
 
 -- bytes, by their places
 each_byte : (b : List ℕ) → AreBytes b → IsBytes b

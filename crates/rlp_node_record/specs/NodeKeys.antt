@@ -1,15 +1,9 @@
 -- The keys of a node record, and what a key gives.
 use Rattle.std.specs.Prelude.{ℕ, ◌≡◌, ◌≢◌, ◌⊎◌, ◌||◌, ⊤, if◌then◌else◌, Bool, false, IsSome, IsTrue, List, [], ◌∷◌, length, codes, Option, Some, None, Result, Ok, Err}
-use Rattle.std.specs.Str.{bytes_eq}
-use Rattle.std.specs.Vec.{vec_items}
-use Rattle.rlp.specs.DecoderError.{DecoderError}
-use Rattle.rlp.specs.DecoderError.TheVariants.{OutOfMemory}
-use Rattle.rlp.specs.Format.Encoding.{Item, string, encoding}
-use Rattle.rlp.specs.Values.Value.{FitsBytes, number_item}
-use Rattle.rlp.specs.Views.View.{strict_view_of}
-use Rattle.rlp.specs.Form.{Faults, Gives, Reading}
-use Rattle.rlp_node_record.specs.declared.node_fields.NodeFields.{NodeFields}
-use Rattle.rlp_node_record.specs.declared.node_fields.NodePair.{NodePair}
+use Rattle.std.specs.{Str.bytes_eq, Vec.vec_items}
+use Rattle.rlp.specs.{DecoderError.DecoderError, DecoderError.TheVariants.OutOfMemory, Format.Encoding.{Item, string, encoding}}
+use Rattle.rlp.specs.{Values.Value.{FitsBytes, number_item}, Views.View.strict_view_of, Form.{Faults, Gives, Reading}}
+use Rattle.rlp_node_record.specs.{declared.node_fields.NodeFields.NodeFields, declared.node_fields.NodePair.NodePair}
 
 -- the value of a key among pairs, as the bytes of its item: that of the first pair with the key, if there is one
 abbrev pub value_among : List ℕ → List NodePair → Option (List ℕ)

@@ -1,55 +1,28 @@
 -- Node records are read back, and are read from nothing but their encodings.
 use Rattle.std.proofs.Common.{◌≡◌, ◌≤◌, ◌<◌, ◌^◌, ℕ, List, [], ◌∷◌, length, map, refl, sym, ap, ◌∙◌, subst, arith, Result, Ok, Err, ltb, ltb-false, le-ltb}
-use Rattle.std.proofs.Common.{◌||◌, Bool, true, false, if◌then◌else◌, codes, Option, Some, is_some}
-use Rattle.std.proofs.lemmas.Bool.{cond-true, cond-false, lt-ltb}
-use Rattle.std.specs.Str.{bytes_eq}
-use Rattle.std.specs.Bool.{⊤}
-use Rattle.std.specs.Vec.{vec_items}
-use Rattle.rlp.specs.Format.Encoding.{encoding, AreBytes}
-use Rattle.rlp.specs.Views.View.{strict_view_of}
-use Rattle.rlp_codec.specs.FirstItems.{item_type}
-use Rattle.rlp.specs.Form.{Answer, Fault, and_then, custom, is_too_big, map_value}
-use Rattle.rlp_codec.proofs.FirstItemLaws.{ReadsItems, items_lawful}
-use Rattle.rlp_codec.proofs.ListLaws.{goes_on, is_mapped}
+use Rattle.std.proofs.{Common.{◌||◌, Bool, true, false, if◌then◌else◌, codes, Option, Some, is_some}, lemmas.Bool.{cond-true, cond-false}}
+use Rattle.std.specs.{Str.bytes_eq, Bool.⊤, Vec.vec_items}
+use Rattle.rlp.specs.{Format.Encoding.{encoding, AreBytes}, Views.View.strict_view_of, Form.{Fault, and_then, custom, is_too_big, map_value}}
 use Rattle.rlp.specs.Codec.{Codec, lawful}
-use Rattle.rlp_node_record.specs.NodeFields.{node_fields}
-use Rattle.rlp_node_record.specs.NodeKeys.{HasId, has_key, value_among}
-use Rattle.rlp_node_record.specs.NodeRecord.{AreInOrder, AreRecordKeys, IsNodeRecord, keys_of, keys_rise, keys_seen, longest_record, read_record, test_fields, test_keys}
-use Rattle.rlp_node_record.specs.declared.node_fields.NodeFields.{NodeFields}
-use Rattle.rlp_node_record.specs.declared.node_fields.NodePair.{NodePair}
-
--- equal answers have equal results
-result_same : {M : Type 0} {a b : Answer M Fault} → a ≡ b → a.result ≡ b.result
-result_same {M} same = ap (λ (a : Answer M Fault). a.result) same
+use Rattle.rlp_reading.specs.FirstItems.{item_type}
+use Rattle.rlp_reading.proofs.{FirstItemLaws.{ReadsItems, items_lawful}, ListLaws.{goes_on, is_mapped}}
+use Rattle.rlp_records.proofs.Alone.{result_same}
+use Rattle.rlp_node_record.specs.{NodeFields.node_fields, NodeKeys.{HasId, has_key, value_among}}
+use Rattle.rlp_node_record.specs.NodeRecord.{AreInOrder, AreRecordKeys, IsNodeRecord, keys_of, keys_rise, keys_seen, longest_record, read_record, test_keys}
+use Rattle.rlp_node_record.specs.{declared.node_fields.NodeFields.NodeFields, declared.node_fields.NodePair.NodePair}
 
 -- ---- the test of the keys
-
-not_true : (b : Bool) → ¬ (b ≡ true) → b ≡ false
-not_true true not = absurd (not refl)
-not_true false not = refl
 
 some_key : (b : Bool) (x : List ℕ) (o : Option (List ℕ)) → is_some (if b then Some x else o) ≡ (b || is_some o)
 some_key true x o = refl
 some_key false x o = refl
 
 -- a key has a value among pairs if it is one of their keys
-key_found : (key : List ℕ) (pairs : List NodePair) → is_some (value_among key pairs) ≡ has_key key (keys_of pairs)
+pub key_found : (key : List ℕ) (pairs : List NodePair) → is_some (value_among key pairs) ≡ has_key key (keys_of pairs)
 key_found key [] = refl
 key_found key (pair ∷ pairs) =
     some_key (bytes_eq (vec_items pair.key) key) pair.value (value_among key pairs)
     ∙ ap (λ found. bytes_eq (vec_items pair.key) key || found) (key_found key pairs)
-
--- keys that aren't in order
-pub not_rising : (pairs : List NodePair) → ¬ AreInOrder pairs → test_keys (keys_of pairs) ≡ Err (custom (codes "keys are not in order"))
-unfolding AreInOrder
-not_rising pairs not = cond-false (keys_rise (keys_of pairs)) _ _ (not_true (keys_rise (keys_of pairs)) not)
-
--- keys in order, without `id`
-pub no_id : (pairs : List NodePair) → AreInOrder pairs → ¬ HasId pairs → test_keys (keys_of pairs) ≡ Err (custom (codes "key id is missing"))
-unfolding AreInOrder HasId
-no_id pairs rising not =
-    cond-true (keys_rise (keys_of pairs)) _ _ rising
-    ∙ cond-false (has_key (codes "id") (keys_of pairs)) _ _ (sym (key_found (codes "id") pairs) ∙ not_true (is_some (value_among (codes "id") pairs)) not)
 
 -- the keys of a node record
 pub keys_pass : (pairs : List NodePair) → AreInOrder pairs → HasId pairs → test_keys (keys_of pairs) ≡ Ok tt
@@ -78,13 +51,6 @@ seen_keys (pair ∷ pairs) = ap (λ keys. vec_items pair.key ∷ keys) (seen_key
 record_keys : (f : NodeFields) → keys_seen (node_fields.reading.seen f) ≡ keys_of (vec_items f.pairs)
 record_keys f = seen_keys (vec_items f.pairs)
 
--- fields with the keys of a record and too long an encoding
-pub fields_long : (f : NodeFields) → AreRecordKeys (vec_items f.pairs) → longest_record < length (encoding (node_fields.item f)) → test_fields f ≡ Err is_too_big
-fields_long f keys long =
-    ap (λ r. and_then r (λ t. if ltb longest_record (length (encoding (node_fields.item f))) then Err is_too_big else Ok t))
-    (keys_pass (vec_items f.pairs) keys.0 keys.1)
-    ∙ cond-true (ltb longest_record (length (encoding (node_fields.item f)))) _ _ (lt-ltb _ _ long)
-
 -- ---- what bytes give
 
 -- fields are those of a record, if the keys are a record's and the encoding is of few bytes
@@ -100,20 +66,11 @@ record_made b f fit whole keys bytes short = record {
 }
 
 -- what fields that were read give, by the test of their keys
-abbrev tested : node_fields.reading.M → Result node_fields.reading.M Fault
+abbrev pub tested : node_fields.reading.M → Result node_fields.reading.M Fault
 tested m = map_value (λ t. m) (test_keys (keys_seen m))
 
--- bytes that are too many
-pub read_long : (b : List ℕ) → longest_record < length b → (read_record b).result ≡ Err is_too_big
-read_long b long = result_same (cond-true (ltb longest_record (length b)) _ _ (lt-ltb _ _ long))
-
-read_short : (b : List ℕ) → length b ≤ longest_record → (read_record b).result ≡ and_then (node_fields.reading.read (strict_view_of b)).result tested
+pub read_short : (b : List ℕ) → length b ≤ longest_record → (read_record b).result ≡ and_then (node_fields.reading.read (strict_view_of b)).result tested
 read_short b short = result_same (cond-false (ltb longest_record (length b)) _ _ (le-ltb _ _ short))
-
--- fields that aren't read
-pub read_faulty : (b : List ℕ) (e : Fault) → length b ≤ longest_record → (node_fields.reading.read (strict_view_of b)).result ≡ Err e
-    → (read_record b).result ≡ Err e
-read_faulty b e short bad = read_short b short ∙ ap (λ r. and_then r tested) bad
 
 -- fields that are read, and the test of their keys
 pub read_tested : (b : List ℕ) (f : NodeFields) (r : Result ⊤ Fault) → length b ≤ longest_record
@@ -123,7 +80,7 @@ read_tested b f r short given is =
     read_short b short ∙ ap (λ r. and_then r tested) given
     ∙ ap (λ r. map_value (λ t. node_fields.reading.seen f) r) (ap test_keys (record_keys f) ∙ is)
 
-record_back : (f : NodeFields) → IsNodeRecord f → (read_record (encoding (node_fields.item f))).result ≡ Ok (node_fields.reading.seen f)
+pub record_back : (f : NodeFields) → IsNodeRecord f → (read_record (encoding (node_fields.item f))).result ≡ Ok (node_fields.reading.seen f)
 record_back f is =
     let b = encoding (node_fields.item f) in
     let few : length (encoding (node_fields.item f)) < 2 ^ 64 = omega (arith, is.short) in
@@ -148,7 +105,7 @@ pub record_only : (b : List ℕ) (f : NodeFields) → AreBytes b → (read_recor
     → IsNodeRecord f × (b ≡ encoding (node_fields.item f))
 record_only b f bytes is = only_by b f (ltb longest_record (length b)) bytes refl is
 
-record_fits : (f g : NodeFields) → node_fields.reading.seen f ≡ node_fields.reading.seen g → IsNodeRecord f → IsNodeRecord g
+pub record_fits : (f g : NodeFields) → node_fields.reading.seen f ≡ node_fields.reading.seen g → IsNodeRecord f → IsNodeRecord g
 record_fits f g same is = (record_only (encoding (node_fields.item f)) g is.bytes (record_back f is ∙ ap Ok same)).0
 
 -- the bytes of a record are read back, and no other bytes are read
@@ -165,18 +122,3 @@ abbrev pub node_record : Codec NodeFields
 node_record =
     lawful (item_type IsNodeRecord node_fields.item node_fields.reading.seen node_fields.reading.item read_record node_fields.reading.takes_memory)
     (items_lawful _ _ _ _ _ node_fields.reading.takes_memory record_items)
-
--- two records with the same encoding have the same fields
-pub records_tell : (f g : NodeFields) → IsNodeRecord f → IsNodeRecord g → encoding (node_fields.item f) ≡ encoding (node_fields.item g)
-    → node_fields.reading.seen f ≡ node_fields.reading.seen g
-records_tell f g is other same =
-    let both : (let r : Result node_fields.reading.M Fault = Ok (node_fields.reading.seen f) in r) ≡ Ok (node_fields.reading.seen g) =
-    sym (record_back f is) ∙ ap (λ b. (read_record b).result) same ∙ record_back g other in
-    cc
-
--- ---- for bodies
-
-pub ruleset keys_tested = (not_rising, no_id, keys_pass)
-
--- for a body that reads the fields first
-pub ruleset record_reading = (read_long, read_faulty, read_tested)

@@ -1,14 +1,8 @@
 -- Node records as text, as in the section "Text Encoding" of EIP-778.
 use Rattle.std.specs.Prelude.{ℕ, ◌≡◌, ◌≢◌, List, ◌++◌, codes}
-use Rattle.base64.specs.Engines.{url_safe_no_pad}
-use Rattle.base64.specs.GeneralPurpose.{encode_of}
-use Rattle.rlp.specs.DecoderError.{DecoderError}
-use Rattle.rlp.specs.Format.Encoding.{encoding, AreBytes}
-use Rattle.rlp.specs.Views.View.{strict_view_of}
-use Rattle.rlp.specs.Form.{Faults, custom, fault_of}
-use Rattle.rlp_node_record.specs.NodeFields.{node_fields}
-use Rattle.rlp_node_record.specs.NodeLaws.{node_record}
-use Rattle.rlp_node_record.specs.declared.node_fields.NodeFields.{NodeFields}
+use Rattle.base64.specs.{Engines.url_safe_no_pad, GeneralPurpose.encode_of}
+use Rattle.rlp.specs.{DecoderError.DecoderError, Format.Encoding.{encoding, AreBytes}, Views.View.strict_view_of, Form.{Faults, custom, fault_of}}
+use Rattle.rlp_node_record.specs.{NodeFields.node_fields, NodeLaws.node_record, declared.node_fields.NodeFields.NodeFields}
 
 -- bytes in the URL-safe base64 of section 5 of RFC 4648, without padding
 unfoldable pub base64_of : List ℕ → List ℕ

@@ -3,14 +3,11 @@
 
 ghost use Rattle.std.specs.Prelude.{◌≡◌, IfErr, IfOk};
 ghost use Rattle.rlp.specs.DecoderError.TheVariants.{OutOfMemory};
-ghost use Rattle.rlp_node_record.specs.NodeFields.{node_fields};
-ghost use Rattle.rlp_node_record.specs.NodeRecord.{IsNodeRecord};
-ghost use Rattle.rlp_node_record.specs.NodeText.{node_text};
-ghost use Rattle.rlp_node_record.specs.declared.node_fields.NodeFields.{NodeFields};
+ghost use Rattle.rlp_node_record.specs.{NodeFields.node_fields, NodeRecord.IsNodeRecord, NodeText.node_text, declared.node_fields.NodeFields.NodeFields};
 
 use crate::NodeRecord;
 use rlp::DecoderError;
-use std::alloc::{AllocError, Global};
+use std::alloc::Global;
 
 /// The node record that is read from the text of a node record: it has the same fields. The call
 /// fails only if memory runs out. `only` says that any other record has another text, so a text
@@ -23,8 +20,6 @@ pub fn node_text_round_trips(alloc: Global, node: &NodeRecord) -> Result<NodeRec
         → node_fields.reading.seen other ≡ node_fields.reading.seen node.now }
 {
     let _fields = node.fields();
-    match node.to_text(alloc) {
-        Ok(text) => NodeRecord::from_text(alloc, text.as_str()),
-        Err(AllocError) => Err(DecoderError::OutOfMemory),
-    }
+    let text = node.to_text(alloc)?;
+    NodeRecord::from_text(alloc, text.as_str())
 }

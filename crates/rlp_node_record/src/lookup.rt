@@ -1,7 +1,6 @@
 //! Which pair of a node record has a key.
 
-ghost use Rattle.std.specs.Option.{option_copied};
-ghost use Rattle.std.specs.Prelude.{◌≡◌, ◌↔◌, IsTrue};
+ghost use Rattle.std.specs.{Option.option_copied, Prelude.{◌≡◌, ◌↔◌, IsTrue}};
 ghost use Rattle.rlp_node_record.specs.NodeKeys.{HasId, value_among};
 
 use crate::node_fields::NodePair;

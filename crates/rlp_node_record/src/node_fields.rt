@@ -1,8 +1,7 @@
 //! The fields of a node record.
 
-ghost use Rattle.std.specs.Prelude.{◌≡◌, OnOk, IfOk};
+ghost use Rattle.std.specs.{Prelude.{◌≡◌, OnOk, IfOk}, Prelude.refl};
 ghost use Rattle.rlp.specs.Format.Encoding.{encoding};
-ghost use Rattle.std.specs.Prelude.{refl};
 ghost use Rattle.rlp_node_record.specs.NodeFields.{pair_fields, node_fields};
 
 use bytes::BytesMut;
@@ -14,7 +13,7 @@ use rlp::{
 use std::alloc::{AllocError, Global};
 
 /// A key of a node record and its value, as in EIP-778.
-#[derive(Debug, PartialEq, Eq, Drop)]
+#[derive(Debug, Clone, PartialEq, Eq, Drop)]
 pub struct NodePair {
     /// The key, mostly ASCII text such as `ip` or `secp256k1`.
     pub key: Vec<u8>,
@@ -27,7 +26,7 @@ pub struct NodePair {
 ///
 /// The order of the keys, the key `id` and the size aren't tested:
 /// [`NodeRecord`](crate::NodeRecord) has fields that passed these tests.
-#[derive(Debug, PartialEq, Eq, Drop)]
+#[derive(Debug, Clone, PartialEq, Eq, Drop)]
 pub struct NodeFields {
     /// The signature of the other fields.
     pub signature: Vec<u8>,

@@ -1,10 +1,7 @@
 //! Node records, whose keys are in order, with `id` among them, and whose size is within the limit.
 
-ghost use Rattle.std.specs.Prelude.{◌≡◌, ◌⊎◌, ◌↔◌, Ok, Err, IfOk, IfErr, OnOk, IsTrue};
-ghost use Rattle.std.specs.Vec.{vec_items};
-ghost use Rattle.rlp.specs.DecoderError.TheVariants.{OutOfMemory};
-ghost use Rattle.rlp.specs.Format.Encoding.{encoding};
-ghost use Rattle.rlp.specs.Form.{IsPlaced, fault_of};
+ghost use Rattle.std.specs.{Prelude.{◌≡◌, ◌⊎◌, ◌↔◌, Ok, Err, IfOk, IfErr, OnOk, IsTrue}, Vec.vec_items};
+ghost use Rattle.rlp.specs.{DecoderError.TheVariants.OutOfMemory, Format.Encoding.encoding, Form.{IsPlaced, fault_of}};
 ghost use Rattle.rlp_node_record.specs.NodeFields.{node_fields, signed_item};
 ghost use Rattle.rlp_node_record.specs.NodeRecord.{AreInOrder, AreRecordKeys, IsNodeRecord, keys_of, keys_rise, read_record, test_fields, test_keys};
 ghost use Rattle.rlp_node_record.specs.NodeLaws.{node_record};
@@ -33,8 +30,7 @@ pub struct NodeRecord {
 }
 
 impl Model for NodeRecord {
-    ghost use Rattle.rlp_node_record.specs.declared.node_fields.NodeFields.{NodeFields};
-    ghost use Rattle.rlp_node_record.specs.NodeRecord.{IsNodeRecord};
+    ghost use Rattle.rlp_node_record.specs.{declared.node_fields.NodeFields.NodeFields, NodeRecord.IsNodeRecord};
 
     ghost Value = { NodeFields };
 
@@ -53,17 +49,14 @@ impl NodeRecord {
     /// order of their bytes, or else with `Custom("key id is missing")`. Else it fails with
     /// `RlpIsTooBig` if the encoding has more than [`NodeRecord::MAX_LEN`] bytes, and with
     /// `OutOfMemory` if memory is refused.
-    #[tactic(auto, using(crate::specs::NodeLaws::keys_tested))]
+    #[tactic(auto, using(crate::proofs::Keys::keys_tested))]
     pub fn new(alloc: Global, fields: NodeFields) -> Result<NodeRecord, DecoderError>
         ensures value { IfOk result (λ r. (r ≡ fields) × IsNodeRecord fields) }
         ensures fault { IfErr result (λ e. (test_fields fields ≡ Err (fault_of e))
             ⊎ ((e ≡ OutOfMemory) × AreRecordKeys (vec_items fields.pairs))) }
     {
         test_keys(fields.pairs.as_slice())?;
-        let bytes = match rlp::encode(alloc, &fields) {
-            Ok(bytes) => bytes,
-            Err(_) => return Err(DecoderError::OutOfMemory),
-        };
+        let bytes = rlp::encode(alloc, &fields)?;
         let written = bytes.as_slice();
         if written.len() > NodeRecord::MAX_LEN {
             return Err(DecoderError::RlpIsTooBig);
@@ -91,8 +84,19 @@ impl NodeRecord {
     }
 }
 
+/// A clone has the same fields, as contracts see them.
+impl Clone for NodeRecord {
+    ghost is_clone = { λ r copy. node_fields.reading.seen copy ≡ node_fields.reading.seen r };
+
+    #[tactic(auto, using(crate::proofs::Clones::clones))]
+    fn clone(&self) -> Result<NodeRecord, AllocError> {
+        let fields = self.fields.clone()?;
+        Ok(NodeRecord { fields })
+    }
+}
+
 /// Tests that the keys are in order, and that `id` is one of them.
-#[tactic(auto, using(crate::specs::NodeLaws::keys_tested))]
+#[tactic(auto, using(crate::proofs::Keys::keys_tested))]
 fn test_keys(pairs: &[NodePair]) -> Result<(), DecoderError>
     ensures keys { OnOk result (AreRecordKeys pairs.now) }
     ensures fault { IfErr result (λ e. test_keys (keys_of pairs.now) ≡ Err (fault_of e)) }
@@ -131,7 +135,7 @@ fn keys_rise(pairs: &[NodePair]) -> bool
 }
 
 /// Reads the fields of a record from bytes that are one item.
-#[tactic(auto, using(crate::specs::NodeLaws::record_reading))]
+#[tactic(auto, using(crate::proofs::Keys::record_reading))]
 fn record_fields(alloc: Global, bytes: &[u8]) -> Result<NodeFields, DecoderError>
     ensures record { IfOk result (λ f. IsNodeRecord f) }
     ensures value { IfOk result

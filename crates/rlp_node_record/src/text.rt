@@ -1,12 +1,9 @@
 //! Node records as text.
 
-ghost use Rattle.std.specs.Prelude.{◌≡◌, ◌⊎◌, ◌++◌, IfErr, IfOk, MatchOption, codes};
-ghost use Rattle.std.specs.String.{string_bytes};
+ghost use Rattle.std.specs.{Prelude.{◌≡◌, ◌⊎◌, ◌++◌, IfErr, IfOk, MatchOption, codes}, String.string_bytes};
 ghost use Rattle.base64.specs.GeneralPurpose.{IsBytes};
-ghost use Rattle.rlp.specs.DecoderError.TheVariants.{OutOfMemory};
-ghost use Rattle.rlp_node_record.specs.NodeRecord.{IsNodeRecord};
-ghost use Rattle.rlp.specs.Form.{custom, fault_of};
-ghost use Rattle.rlp_node_record.specs.NodeText.{HasPrefix, IsNodeTextFault, IsNotBase64, base64_of, node_text, text_of};
+ghost use Rattle.rlp.specs.{DecoderError.TheVariants.OutOfMemory, Form.{custom, fault_of}};
+ghost use Rattle.rlp_node_record.specs.{NodeRecord.IsNodeRecord, NodeText.{HasPrefix, IsNodeTextFault, IsNotBase64, base64_of, node_text, text_of}};
 
 use crate::NodeRecord;
 use base64::DecodeAllocError;
@@ -38,10 +35,7 @@ impl NodeRecord {
         let Some(digits) = digits_of(text.as_bytes()) else {
             return Err(DecoderError::Custom("text does not begin with enr:"));
         };
-        let bytes = match bytes_of(alloc, digits) {
-            Ok(bytes) => bytes,
-            Err(fault) => return Err(fault),
-        };
+        let bytes = bytes_of(alloc, digits)?;
         rlp::decode_whole(alloc, bytes.as_slice())
     }
 }

@@ -1,7 +1,6 @@
 //! The values of the keys of a node record.
 
-ghost use Rattle.std.specs.Option.{option_copied};
-ghost use Rattle.std.specs.Prelude.{◌≡◌, codes, false};
+ghost use Rattle.std.specs.{Option.option_copied, Prelude.{◌≡◌, codes, false}};
 ghost use Rattle.rlp_node_record.specs.NodeKeys.{GivesArray, GivesKnown, GivesPort, GivesString, ReadsKey, value_of};
 
 use crate::NodeRecord;

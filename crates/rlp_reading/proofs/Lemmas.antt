@@ -48,3 +48,5 @@ pub mod Sums
 pub mod Groups
 -- values with equal items: they agree
 pub mod Told
+-- errors that `?` returns
+pub mod Propagated

@@ -12,5 +12,3 @@ pub mod SplitOff
 pub mod InOrder
 -- text and depth of each kind of bytes
 pub mod Printing
--- hexadecimal digits
-pub mod HexDigits

@@ -61,10 +61,7 @@ pub fn first_framed<'a>(bytes: &'a [u8]) -> Result<(Framed<'a>, &'a [u8]), Decod
         (λ e. e ≡ fault bytes.now) }
     ensures shorter { IfOk result (λ r. length r.1.now < length bytes.now) }
 {
-    let header = match framing_of(bytes) {
-        Ok(header) => header,
-        Err(fault) => return Err(fault),
-    };
+    let header = framing_of(bytes)?;
     let (item, others) = bytes.split_at(header.header_len + header.value_len);
     let content = &item[header.header_len..];
     Ok((
@@ -134,15 +131,11 @@ pub fn whole_framed<'a>(bytes: &'a [u8]) -> Result<Framed<'a>, DecoderError>
     ensures value { IfOk result (λ f. value bytes.now ≡ Ok f.content.now) }
     ensures whole { IfOk result (λ f. IsFramedItem bytes.now × (f.item.now ≡ bytes.now)) }
 {
-    match first_framed(bytes) {
-        Ok((framed, others)) => {
-            if others.is_empty() {
-                return Ok(framed);
-            }
-            Err(DecoderError::RlpIsTooBig)
-        }
-        Err(fault) => Err(fault),
+    let (framed, others) = first_framed(bytes)?;
+    if others.is_empty() {
+        return Ok(framed);
     }
+    Err(DecoderError::RlpIsTooBig)
 }
 
 /// Returns whether other bytes follow the framed item that the bytes begin with.

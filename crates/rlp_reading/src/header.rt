@@ -1,7 +1,6 @@
 //! Headers: the lengths before a value.
 
-ghost use Rattle.std.specs.Prelude.{◌≡◌, ◌<◌, ◌≤◌, ◌^◌};
-ghost use Rattle.std.specs.Option.{SomeIff};
+ghost use Rattle.std.specs.{Prelude.{◌≡◌, ◌<◌, ◌≤◌, ◌^◌}, Option.SomeIff};
 ghost use Rattle.rlp_reading.specs.Format.Framing.{ReadsHeader, header, long_header, total_len};
 
 use crate::error::DecoderError;

@@ -1,8 +1,7 @@
 //! The walk over items, one by one.
 
 ghost use Rattle.std.specs.Prelude.{◌≡◌, ◌∷◌, ◌++◌, [], ◌+◌, ◌<◌, ◌≤◌, ◌^◌, length, true, false, Ok, Err, IsOk, IsTrue, None, Some, IfOk, MatchResult};
-ghost use Rattle.rlp_reading.specs.Format.Framing.{fault, framing, value, begins_as_list, payload, split, after_items, fault_of_some};
-ghost use Rattle.rlp_reading.specs.Views.View.{Reading};
+ghost use Rattle.rlp_reading.specs.{Format.Framing.{fault, framing, value, begins_as_list, payload, split, after_items, fault_of_some}, Views.View.Reading};
 
 use crate::error::DecoderError;
 use crate::framed::{Framed, begins_as_list, first_framed, short_framed};
@@ -63,13 +62,9 @@ impl<'a> ItemReader<'a> {
         ensures counted { self.new.headers ≡ self.old.headers + 1 }
     {
         self.headers.add(1);
-        match first_framed(self.rest) {
-            Ok((framed, others)) => {
-                self.rest = others;
-                Ok(framed)
-            }
-            Err(fault) => Err(fault),
-        }
+        let (framed, others) = first_framed(self.rest)?;
+        self.rest = others;
+        Ok(framed)
     }
 
     /// The bytes of the next item, or why the bytes aren't framed. It is the same as
@@ -145,10 +140,8 @@ pub fn try_count_items(payload: &[u8]) -> Result<usize, DecoderError>
     let mut count = 0;
     let mut items = ItemReader::new(payload);
     while !items.rest().is_empty() {
-        match items.next_item() {
-            Ok(_) => count += 1,
-            Err(fault) => return Err(fault),
-        }
+        items.next_item()?;
+        count += 1;
     }
     Ok(count)
 }

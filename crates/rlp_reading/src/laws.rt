@@ -2,13 +2,11 @@
 //! law. `rlp::laws` re-exports them.
 
 ghost use Rattle.std.specs.Prelude.{◌≡◌, ℕ, ◌^◌, ◌<◌, ◌≤◌, ◌+◌, ◌↔◌, ◌⊎◌, List, [], ◌++◌, length, map, All, get_or, take, drop, ◌∷◌, Ok, Err, IsTrue, is_ok};
-ghost use Rattle.std.specs.List.{concat};
-ghost use Rattle.std.specs.Int.Digits.{number_from_digits};
+ghost use Rattle.std.specs.{List.concat, Int.Digits.number_from_digits};
 ghost use Rattle.rlp_format.specs.Format.Encoding.{Item, list_of, item_depth, big_endian, written_header, IsBase, AreBytes, encoding, join, IsSized, BeginsWith};
 ghost use Rattle.rlp_reading.specs.declared.error.DecoderError.{DecoderError};
 ghost use Rattle.rlp_reading.specs.Format.Framing.{HasHeader, ReadsHeader, header, payload_info, IsFramed, IsFramedItem, IsFault, fault, framing, value, frame, IsCut, IsSplit, split, items, rest};
-ghost use Rattle.rlp_reading.specs.Views.Text.{text, text_by};
-ghost use Rattle.rlp_reading.specs.Views.Depth.{depth, depth_by};
+ghost use Rattle.rlp_reading.specs.{Views.Text.{text, text_by}, Views.Depth.{depth, depth_by}};
 
 /// The digits of a number are below 256, have no leading zero, and belong to no other number.
 pub fn digits_are_canonical()

@@ -1,10 +1,7 @@
 //! The digits of numbers, the most significant first.
 
-ghost use Rattle.std.specs.Prelude.{◌≡◌, ◌≤◌, length, IfOk, IfErr};
-ghost use Rattle.std.specs.Option.{SomeIff};
-ghost use Rattle.std.specs.Int.Digits.{number_from_digits};
-ghost use Rattle.rlp_format.specs.Format.Encoding.{big_endian};
-ghost use Rattle.rlp_format.specs.Values.Value.{FitsBytes};
+ghost use Rattle.std.specs.{Prelude.{◌≡◌, ◌≤◌, length, IfOk, IfErr}, Option.SomeIff, Int.Digits.number_from_digits};
+ghost use Rattle.rlp_format.specs.{Format.Encoding.big_endian, Values.Value.FitsBytes};
 ghost use Rattle.rlp_reading.specs.Values.ValueReading.{IsDigitsFault};
 
 use crate::error::DecoderError;

@@ -1,11 +1,12 @@
 //! The printed text of bytes.
 
-ghost use Rattle.std.specs.Prelude.{◌≡◌, ◌<◌, ◌≤◌, ◌*◌, ◌∷◌, ◌++◌, [], length, codes};
-ghost use Rattle.std.specs.Fmt.{WritesStyledOnOk};
-ghost use Rattle.rlp_reading.specs.Views.Text.{hex, hex_digit, text};
+ghost use Rattle.std.specs.{Prelude.{◌≤◌, ◌∷◌, ◌++◌, [], length, codes}, Fmt.WritesStyledOnOk};
+ghost use Rattle.hex.specs.Hex.{encode_lower};
+ghost use Rattle.rlp_reading.specs.Views.Text.{text};
 
 use crate::framed::{Framed, first_framed, is_null};
 use crate::items::ItemReader;
+use rlp_format::hex_digits::{digit_char, put_digits};
 use std::fmt;
 use std::fmt::Display;
 use std::str::from_utf8;
@@ -47,7 +48,7 @@ fn write_framed<W: fmt::Write>(f: &mut fmt::Formatter<W>, framed: &Framed<'_>) -
 /// Writes the text of a string.
 fn write_string<W: fmt::Write>(f: &mut fmt::Formatter<W>, value: &[u8]) -> fmt::Result
     ensures { WritesStyledOnOk W.write_str_gives f.old result
-        (codes "\"0x" ++ hex value.now ++ codes "\"") f.new }
+        (codes "\"0x" ++ encode_lower value.now ++ codes "\"") f.new }
 {
     if let [byte] = value {
         return write_byte(f, *byte);
@@ -58,9 +59,10 @@ fn write_string<W: fmt::Write>(f: &mut fmt::Formatter<W>, value: &[u8]) -> fmt::
 }
 
 /// Writes the text of a string of one byte, in one piece.
+#[tactic(auto, using(rlp_format::proofs::HexDigits::digits_of_byte))]
 fn write_byte<W: fmt::Write>(f: &mut fmt::Formatter<W>, byte: u8) -> fmt::Result
     ensures { WritesStyledOnOk W.write_str_gives f.old result
-        (codes "\"0x" ++ hex (byte ∷ []) ++ codes "\"") f.new }
+        (codes "\"0x" ++ encode_lower (byte ∷ []) ++ codes "\"") f.new }
 {
     let text = [
         b'"',
@@ -78,7 +80,7 @@ fn write_byte<W: fmt::Write>(f: &mut fmt::Formatter<W>, byte: u8) -> fmt::Result
 
 /// Writes each byte as two digits.
 fn write_hex<W: fmt::Write>(f: &mut fmt::Formatter<W>, bytes: &[u8]) -> fmt::Result
-    ensures { WritesStyledOnOk W.write_str_gives f.old result (hex bytes.now) f.new }
+    ensures { WritesStyledOnOk W.write_str_gives f.old result (encode_lower bytes.now) f.new }
 {
     let mut rest = bytes;
     while rest.len() > AT_ONCE {
@@ -92,7 +94,7 @@ fn write_hex<W: fmt::Write>(f: &mut fmt::Formatter<W>, bytes: &[u8]) -> fmt::Res
 /// Writes a few bytes in one piece, each as two digits.
 fn write_few<W: fmt::Write>(f: &mut fmt::Formatter<W>, bytes: &[u8]) -> fmt::Result
     requires { length bytes.now ≤ 64 }
-    ensures { WritesStyledOnOk W.write_str_gives f.old result (hex bytes.now) f.new }
+    ensures { WritesStyledOnOk W.write_str_gives f.old result (encode_lower bytes.now) f.new }
 {
     let mut room = [0u8; 2 * AT_ONCE];
     let digits = &mut room[..2 * bytes.len()];
@@ -100,29 +102,5 @@ fn write_few<W: fmt::Write>(f: &mut fmt::Formatter<W>, bytes: &[u8]) -> fmt::Res
     match from_utf8(digits) {
         Ok(digits) => f.write_str(digits),
         Err(_) => Err(fmt::Error),
-    }
-}
-
-/// Fills the room with each byte as two digits.
-fn put_digits(bytes: &[u8], digits: &mut [u8])
-    requires { length digits.old ≡ 2 * length bytes.now }
-    ensures { digits.new ≡ hex bytes.now }
-{
-    'bytes: for i in 0..bytes.len() {
-        let byte = bytes[i];
-        digits[2 * i] = digit_char(byte / 16);
-        digits[2 * i + 1] = digit_char(byte % 16);
-    }
-}
-
-/// The character of a digit, in lower case.
-fn digit_char(digit: u8) -> u8
-    requires { digit < 16 }
-    ensures { result ≡ hex_digit digit }
-{
-    if digit < 10 {
-        b'0' + digit
-    } else {
-        b'a' - 10 + digit
     }
 }

@@ -1,8 +1,7 @@
 //! One walk over the bytes of a tree, which reads each header once.
 
 ghost use Rattle.std.specs.Prelude.{◌≡◌, ◌↔◌, ◌≤◌, ◌<◌, ◌+◌, ◌^◌, [], ◌∷◌, length, false, Ok, None, Some, IsTrue, IfOk, IfErr, MatchResult};
-ghost use Rattle.rlp_reading.specs.Format.Flat.{IsFlat};
-ghost use Rattle.rlp_reading.specs.Format.Framing.{IsFramedItem, framing, begins_as_list, IsCanonicalWithin};
+ghost use Rattle.rlp_reading.specs.{Format.Flat.IsFlat, Format.Framing.{IsFramedItem, framing, begins_as_list, IsCanonicalWithin}};
 ghost use Rattle.rlp_reading.specs.Format.TreeFaults.{IsFlatFault, is_needless, needless_fault, tree_fault, walk_fault};
 ghost use Rattle.rlp_reading.specs.Format.Walk.{Extends, IsNeverCanonical, IsWalked};
 

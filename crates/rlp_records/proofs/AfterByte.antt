@@ -1,16 +1,9 @@
 -- For bodies that read a value after a byte that says what it is.
 use Rattle.std.proofs.Common.{◌≡◌, ◌≢◌, ◌≤◌, ◌-◌, ◌^◌, ◌<◌, ℕ, Bool, true, false, List, [], ◌∷◌, ◌==◌, length, take, drop, take_all, get_or, refl, sym, ap, ◌∙◌}
-use Rattle.std.proofs.Common.{◌⊎◌, inl, inr, arith, eq-eqb, Result, Ok, Err, IfOk, IfErr, IsOkAnd}
-use Rattle.std.proofs.lemmas.Bool.{cond-true, cond-false, eqb-true}
-use Rattle.rlp.specs.DecoderError.{DecoderError}
-use Rattle.rlp.specs.Format.Encoding.{Item, encoding, AreBytes}
-use Rattle.rlp.specs.Values.Value.{AreAlike}
-use Rattle.rlp.specs.Views.View.{View, strict_view_of}
-use Rattle.rlp_codec.specs.Form.{Answer, Fault, Form, custom, fault_of}
-use Rattle.rlp_codec.specs.Laws.{IsLawful}
-use Rattle.rlp_codec.specs.Sums.{last_case}
-use Rattle.rlp_codec.proofs.StringLaws.{ReadsStrings}
-use Rattle.rlp_codec.proofs.SumLaws.{envelope_strings, last_case_lawful}
+use Rattle.std.proofs.{Common.{◌⊎◌, inl, inr, arith, eq-eqb, Result, Ok, Err, IfOk, IfErr, IsOkAnd}, lemmas.Bool.{cond-true, cond-false, eqb-true}}
+use Rattle.rlp.specs.{DecoderError.DecoderError, Format.Encoding.{Item, encoding, AreBytes}, Values.Value.AreAlike, Views.View.{View, strict_view_of}}
+use Rattle.rlp_reading.specs.{Form.{Answer, Fault, Form, custom, fault_of}, Laws.IsLawful, Sums.last_case}
+use Rattle.rlp_reading.proofs.{StringLaws.ReadsStrings, SumLaws.{envelope_strings, last_case_lawful}}
 use Rattle.rlp_records.specs.Envelope.{read_after}
 
 module _ {M : Type 0} (kind : ℕ) (other : List ℕ) (read : View → Answer M Fault) where

@@ -1,15 +1,10 @@
 -- Values of several types by themselves, as in EIP-2718: the bytes of a value are read back, and no other bytes are read.
 use Rattle.std.proofs.Common.{◌≡◌, ℕ, ◌^◌, ◌<◌, ◌⊎◌, inl, inr, Bool, true, false, List, [], length, refl, sym, ap, ◌∙◌, append-nil, Result, Ok, Err}
 use Rattle.std.proofs.lemmas.Bool.{cond-true, cond-false, lt-leb}
-use Rattle.rlp.specs.Format.Encoding.{Item, is_list, list, string, encoding, AreBytes}
-use Rattle.rlp.specs.Format.Framing.{begins_as_list}
-use Rattle.rlp.specs.Values.Sums.{OnSum, sum_item}
-use Rattle.rlp_reading.proofs.Lemmas.Sums.{list_first}
-use Rattle.rlp_codec.specs.Form.{Answer, Fault, Form, map_value}
-use Rattle.rlp_codec.specs.Laws.{CasesAreLawful, IsLawful}
-use Rattle.rlp_codec.specs.Sums.{CasesForm, envelope, seen_envelope, sum_map}
-use Rattle.rlp_codec.proofs.StringLaws.{ReadsStrings}
-use Rattle.rlp_codec.proofs.SumLaws.{envelope_strings, sums_fit, sums_written}
+use Rattle.rlp.specs.{Format.Encoding.{Item, is_list, list, string, encoding, AreBytes}, Format.Framing.begins_as_list, Values.Sums.{OnSum, sum_item}}
+use Rattle.rlp_reading.proofs.{Lemmas.Sums.list_first, StringLaws.ReadsStrings, SumLaws.{envelope_strings, sums_fit, sums_written}}
+use Rattle.rlp_reading.specs.{Form.{Answer, Fault, Form, map_value}, Laws.{CasesAreLawful, IsLawful}}
+use Rattle.rlp_reading.specs.Sums.{CasesForm, envelope, seen_envelope, sum_map}
 use Rattle.rlp_records.specs.Alone.{bytes_alone, read_alone}
 
 -- a list by itself is its encoding
@@ -23,24 +18,24 @@ list_alone_begins x kind short =
     list_first x (bytes_alone x) short ([], list_alone x kind ∙ sym (append-nil (encoding x))) kind
 
 -- equal answers have equal results
-result_same : {M : Type 0} {a b : Answer M Fault} → a ≡ b → a.result ≡ b.result
+pub result_same : {M : Type 0} {a b : Answer M Fault} → a ≡ b → a.result ≡ b.result
 result_same {M} same = ap (λ (a : Answer M Fault). a.result) same
 
 -- ---- a value that was put on one side
 
-left_only : {M N : Type 0} (r : Result M Fault) (x : M) → map_value {B = M ⊎ N} inl r ≡ Ok (inl x) → r ≡ Ok x
+pub left_only : {M N : Type 0} (r : Result M Fault) (x : M) → map_value {B = M ⊎ N} inl r ≡ Ok (inl x) → r ≡ Ok x
 left_only (Ok y) x is = cc
 left_only (Err e) x is = absurd (let no : ⊥ = cc in no)
 
-right_only : {M N : Type 0} (r : Result N Fault) (y : N) → map_value {B = M ⊎ N} inr r ≡ Ok (inr y) → r ≡ Ok y
+pub right_only : {M N : Type 0} (r : Result N Fault) (y : N) → map_value {B = M ⊎ N} inr r ≡ Ok (inr y) → r ≡ Ok y
 right_only (Ok x) y is = cc
 right_only (Err e) y is = absurd (let no : ⊥ = cc in no)
 
-not_left : {M N : Type 0} (r : Result M Fault) (y : N) → map_value {B = M ⊎ N} inl r ≡ Ok (inr y) → ⊥
+pub not_left : {M N : Type 0} (r : Result M Fault) (y : N) → map_value {B = M ⊎ N} inl r ≡ Ok (inr y) → ⊥
 not_left (Ok x) y is = cc
 not_left (Err e) y is = cc
 
-not_right : {M N : Type 0} (r : Result N Fault) (x : M) → map_value {B = M ⊎ N} inr r ≡ Ok (inl x) → ⊥
+pub not_right : {M N : Type 0} (r : Result N Fault) (x : M) → map_value {B = M ⊎ N} inr r ≡ Ok (inl x) → ⊥
 not_right (Ok y) x is = cc
 not_right (Err e) x is = cc
 

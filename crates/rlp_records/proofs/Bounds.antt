@@ -1,24 +1,14 @@
 -- What the walk over bytes, and the count of what is in their envelopes, say of the items in them.
 use Rattle.std.specs.Prelude.{codes}
 use Rattle.std.proofs.Common.{◌≡◌, ℕ, ◌+◌, ◌-◌, ◌^◌, ◌<◌, ◌≤◌, ◌⊎◌, inl, inr, Bool, true, false, ltb, Option, None, Some, List, length, refl, sym, ap, subst, ◌∙◌}
-use Rattle.std.proofs.Common.{arith, le-ltb, lt-ltb, Result, Ok, Err, IfOk, IfErr}
-use Rattle.std.proofs.lemmas.Bool.{cond-false, cond-true}
+use Rattle.std.proofs.{Common.{arith, le-ltb, lt-ltb, Result, Ok, Err, IfOk, IfErr}, lemmas.Bool.{cond-false, cond-true}}
 use Rattle.std.proofs.lemmas.Slice.Eq.{bytes_eq-Decides}
-use Rattle.rlp.specs.DecoderError.{DecoderError}
-use Rattle.rlp.specs.DecoderError.TheVariants.{OutOfMemory}
-use Rattle.rlp.specs.Format.Encoding.{Item, encoding}
-use Rattle.rlp.specs.Format.Framing.{IsCanonicalWithin}
-use Rattle.rlp.specs.Format.TreeFaults.{tree_fault}
+use Rattle.rlp.specs.{DecoderError.DecoderError, DecoderError.TheVariants.OutOfMemory, Format.Encoding.{Item, encoding}}
+use Rattle.rlp.specs.{Format.Framing.IsCanonicalWithin, Format.TreeFaults.tree_fault, Values.RawItem.raw_item_of, Views.View.{View, strict_view_of}}
 use Rattle.rlp_format.proofs.Lemmas.Encodings.{encoding_same}
 use Rattle.rlp_reading.proofs.Lemmas.RawItems.{raw_item_of-encoding, shallow_within}
-use Rattle.rlp.specs.Values.RawItem.{raw_item_of}
-use Rattle.rlp.specs.Views.View.{View, strict_view_of}
-use Rattle.rlp_reading.specs.Format.Walk.{IsWalked}
-use Rattle.rlp_reading.specs.declared.flat.FlatItem.{FlatItem}
-use Rattle.rlp_reading.specs.declared.flat.TreeFault.{TreeFault}
-use Rattle.rlp_reading.specs.declared.flat.TreeFault.TheVariants.{Decoding, TooDeep}
-use Rattle.rlp_codec.specs.Form.{Answer, Fault, Form, custom, fault_of}
-use Rattle.rlp_codec.specs.Laws.{IsLawful}
+use Rattle.rlp_reading.specs.{Format.Walk.IsWalked, declared.flat.FlatItem.FlatItem, declared.flat.TreeFault.TreeFault}
+use Rattle.rlp_reading.specs.{declared.flat.TreeFault.TheVariants.{Decoding, TooDeep}, Form.{Answer, Fault, Form, custom, fault_of}, Laws.IsLawful}
 use Rattle.rlp_records.specs.Bounded.{IsBounded, IsWithinBounds, bound_fault, count_fault, depth_fault, is_encoding, items_in, items_in_envelopes, read_bounded, unless_fault}
 
 -- bytes are the encoding of one item

@@ -4,7 +4,10 @@ pub mod AfterByte
 pub mod Alone
 pub mod Bounds
 pub mod Bytes
+pub mod Clones
 pub mod OtherTypes
 pub mod Placed
+pub mod RoundConstants
 pub mod Scanning
+pub mod Sponge
 pub mod TypedSums

@@ -1,22 +1,12 @@
 -- Values of every type by themselves, also of the types that aren't known: the bytes of a value are read back, and no other bytes are read.
 use Rattle.std.proofs.Common.{◌≡◌, ℕ, ◌^◌, ◌<◌, ◌≤◌, ◌⊎◌, inl, inr, Bool, true, false, IsTrue, List, [], ◌∷◌, length, refl, sym, ap, ◌∙◌, subst}
-use Rattle.std.proofs.Common.{Result, Ok, Err, arith, le-ltb, leb-true, ltb}
-use Rattle.std.proofs.lemmas.Bool.{cond-true, cond-false}
-use Rattle.rlp.specs.Format.Encoding.{AreBytes, Item, is_list, string}
-use Rattle.rlp.specs.Format.Framing.{begins_as_list}
-use Rattle.rlp.specs.Values.Sums.{OnSum, sum_item}
-use Rattle.rlp_codec.specs.Form.{Answer, Fault, map_value}
-use Rattle.rlp_codec.specs.Sums.{CasesForm, envelope, sum_map}
-use Rattle.rlp_codec.proofs.StringLaws.{ReadsStrings}
-use Rattle.rlp_codec.proofs.SumLaws.{sums_fit}
-use Rattle.rlp_records.proofs.Alone.{list_alone_begins}
-use Rattle.rlp_records.specs.Alone.{bytes_alone}
-use Rattle.rlp_records.specs.OtherEnvelope.{is_other, is_other_type}
-use Rattle.rlp_records.specs.OtherStrings.{is_known, string_or}
-use Rattle.rlp_records.specs.Eip2718.{TypedSum, typed, typed_alone}
-use Rattle.rlp_records.specs.KnownOrOther.{any_alone, value_or_bytes, with_others}
-use Rattle.rlp_records.proofs.Bytes.{strings_held}
-use Rattle.rlp_records.proofs.TypedSums.{typed_strings}
+use Rattle.std.proofs.{Common.{Result, Ok, Err, arith, le-ltb, leb-true, ltb}, lemmas.Bool.{cond-true, cond-false}}
+use Rattle.rlp.specs.{Format.Encoding.{AreBytes, Item, is_list, string}, Format.Framing.begins_as_list, Values.Sums.{OnSum, sum_item}}
+use Rattle.rlp_reading.specs.{Form.{Answer, Fault, map_value}, Sums.{CasesForm, envelope, sum_map}}
+use Rattle.rlp_reading.proofs.{StringLaws.ReadsStrings, SumLaws.sums_fit}
+use Rattle.rlp_records.proofs.{Alone.list_alone_begins, Bytes.strings_held, TypedSums.typed_strings}
+use Rattle.rlp_records.specs.{Alone.bytes_alone, OtherEnvelope.{is_other, is_other_type}, OtherStrings.{is_known, string_or}}
+use Rattle.rlp_records.specs.{Eip2718.{TypedSum, typed, typed_alone}, KnownOrOther.{any_alone, value_or_bytes, with_others}}
 
 -- a list isn't the bytes of another type
 pub list_known : (d : List ℕ) → begins_as_list d ≡ true → is_other d ≡ false

@@ -1,8 +1,7 @@
 -- Where a value of a type, or a string of another, can't be read.
 use Rattle.std.specs.Prelude.{ℕ, ◌≡◌, ◌⊎◌, ◌++◌, Bool, true, false, List, IfSome, OnOk, Result, Ok, Err}
-use Rattle.std.proofs.Common.{inl, refl, sym, subst}
-use Rattle.std.proofs.lemmas.Bool.{cond-true, cond-false}
-use Rattle.rlp_codec.specs.Form.{Answer, Fault, IsPlaced, Path, map_value, path_unless}
+use Rattle.std.proofs.{Common.{inl, refl, sym, subst}, lemmas.Bool.{cond-true, cond-false}}
+use Rattle.rlp_reading.specs.Form.{Answer, Fault, IsPlaced, Path, map_value, path_unless}
 use Rattle.rlp_records.specs.OtherStrings.{string_or}
 
 -- f applied to the value leaves the fault where it was

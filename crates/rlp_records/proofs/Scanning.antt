@@ -2,19 +2,14 @@
 use Rattle.std.proofs.Common.{◌≡◌, ℕ, ◌+◌, ◌-◌, ◌^◌, ◌<◌, ◌≤◌, ⊎_elim, true, false, if◌then◌else◌, List, [], ◌∷◌, ◌++◌, length, take, drop, get_or}
 use Rattle.std.proofs.Common.{refl, sym, ap, ◌∙◌, subst, arith, length-append, append_assoc, append-nil, take_at, drop_at, zero-add, Some, None, Ok, Err}
 use Rattle.std.proofs.lemmas.Bool.{cond-false, cond-true}
-use Rattle.rlp.specs.DecoderError.{DecoderError}
-use Rattle.rlp.specs.FlatItem.{FlatItem}
-use Rattle.rlp.specs.PayloadInfo.{PayloadInfo}
+use Rattle.rlp.specs.{DecoderError.DecoderError, FlatItem.FlatItem, PayloadInfo.PayloadInfo}
 use Rattle.rlp.specs.Format.Encoding.{Item, Items, item_and, list, listed, no_items, string, IsSized, encoding, join, join_items, written_header}
 use Rattle.rlp.specs.Format.Framing.{IsFramedItem, frame, framing, total_len, value, HasHeader, lone, payload_info, written, begins_as_list}
-use Rattle.rlp.specs.Format.Framing.{IsCanonical, IsCanonicalWithin, strict_fault}
-use Rattle.rlp.specs.Format.Walk.{IsWalked}
+use Rattle.rlp.specs.{Format.Framing.{IsCanonical, IsCanonicalWithin, strict_fault}, Format.Walk.IsWalked, Values.RawItem.raw_item_of}
 use Rattle.rlp_format.proofs.Lemmas.Encodings.{first_of_header, list_written, string_cases}
 use Rattle.rlp_reading.proofs.Lemmas.Frames.{encoding_item, frame_front, framed_same, framing_is, item_some, value_is}
 use Rattle.rlp_reading.proofs.Lemmas.RawItems.{list_by, raw_item_of-encoding}
-use Rattle.rlp.specs.Values.RawItem.{raw_item_of}
-use Rattle.rlp_records.proofs.AfterByte.{with_first}
-use Rattle.rlp_records.proofs.Bounds.{one_item, told_encoding, told_no_encoding}
+use Rattle.rlp_records.proofs.{AfterByte.with_first, Bounds.{one_item, told_encoding, told_no_encoding}}
 use Rattle.rlp_records.specs.Bounded.{bytes_counted, is_encoding, is_read_type, items_in, items_in_all_envelopes, items_in_envelopes, items_in_string, payload_items}
 
 -- ---- payloads

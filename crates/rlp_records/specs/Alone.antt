@@ -2,11 +2,8 @@
 -- number is an envelope.
 use Rattle.std.specs.Prelude.{ℕ, List, ◌⊎◌, if◌then◌else◌, codes}
 use Rattle.std.proofs.Common.{inl, inr}
-use Rattle.rlp.specs.Format.Encoding.{Item, list, string, encoding}
-use Rattle.rlp.specs.Format.Framing.{begins_as_list}
-use Rattle.rlp.specs.Views.View.{View, strict_view_of}
-use Rattle.rlp_codec.specs.Form.{Answer, Fault, map_answer}
-use Rattle.rlp_codec.specs.Sums.{envelope_of}
+use Rattle.rlp.specs.{Format.Encoding.{Item, list, string, encoding}, Format.Framing.begins_as_list, Views.View.{View, strict_view_of}}
+use Rattle.rlp_reading.specs.{Form.{Answer, Fault, map_answer}, Sums.envelope_of}
 
 -- the text of the fault of a type of transaction that isn't in a table
 abbrev pub unknown_type : List ℕ

@@ -1,13 +1,10 @@
 -- Values of the types of EIP-2718: transactions or receipts. A value of the type without a number is a list, and a value of a type with a number an envelope.
 use Rattle.std.specs.Prelude.{ℕ, ◌≡◌, ◌<◌, ◌⊎◌, true, List, Option, Some, None, refl}
 use Rattle.std.proofs.Common.{arith, inl, inr}
-use Rattle.rlp.specs.Codec.{Cases, Codec, and_case, enveloped, last_case, list_or_string, newtype}
-use Rattle.rlp.specs.Format.Encoding.{Item, is_list}
-use Rattle.rlp.specs.Values.Sums.{sum_item}
-use Rattle.rlp.specs.Views.View.{View}
-use Rattle.rlp_codec.specs.Form.{Answer, Fault, map_answer}
-use Rattle.rlp_records.specs.Alone.{read_alone, unknown_type}
-use Rattle.rlp_records.specs.OtherEnvelope.{authorization_magic}
+use Rattle.rlp.specs.{Codec.{Cases, Codec, and_case, enveloped, last_case, list_or_string, newtype}, Format.Encoding.{Item, is_list}}
+use Rattle.rlp.specs.{Values.Sums.sum_item, Views.View.View}
+use Rattle.rlp_reading.specs.Form.{Answer, Fault, map_answer}
+use Rattle.rlp_records.specs.{Alone.{read_alone, unknown_type}, OtherEnvelope.authorization_magic}
 
 -- The types that a value may have: the codec of the type without a number, whose values are lists, and those of the types with a number, each below the MAGIC of
 -- EIP-7702.

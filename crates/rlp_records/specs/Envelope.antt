@@ -1,8 +1,7 @@
 -- Values after a byte that says what they are, as in EIP-2718 and EIP-7702.
 use Rattle.std.specs.Prelude.{ℕ, List, [], ◌∷◌, Err, codes}
 use Rattle.rlp.specs.Views.View.{View, strict_view_of}
-use Rattle.rlp_codec.specs.Form.{Answer, Fault, custom, here}
-use Rattle.rlp_codec.specs.Sums.{read_last}
+use Rattle.rlp_reading.specs.{Form.{Answer, Fault, custom, here}, Sums.read_last}
 
 -- What bytes give that are the byte `kind` and then an encoding, which `read` reads strictly. Bytes that are empty or begin with another byte have a custom
 -- fault with the text `other`.

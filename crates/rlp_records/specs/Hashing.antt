@@ -1,7 +1,6 @@
 -- Hashes of records.
 use Rattle.std.specs.Prelude.{◌≡◌, ℕ, List}
-use Rattle.keccak.specs.Keccak.{keccak256}
-use Rattle.rlp_records.specs.declared.hash.Hash.{Hash}
+use Rattle.rlp_records.specs.{Keccak.keccak256, declared.hash.Hash.Hash}
 
 -- h is the Keccak-256 hash of these bytes
 abbrev pub IsHashOf : Hash → List ℕ → Type 0

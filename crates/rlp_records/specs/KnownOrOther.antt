@@ -2,11 +2,9 @@
 use Rattle.std.specs.Prelude.{ℕ, ◌≡◌, ◌⊎◌, List}
 use Rattle.std.proofs.Common.{inl, inr}
 use Rattle.rlp.specs.Codec.{Codec, newtype}
-use Rattle.rlp_codec.specs.Form.{Answer, Fault}
-use Rattle.rlp_records.specs.Eip2718.{TypedSum, type_of, typed, typed_alone}
-use Rattle.rlp_records.specs.OtherEnvelope.{other_type}
-use Rattle.rlp_records.specs.OtherStrings.{is_known, kept, kept_alone, known_apart}
-use Rattle.rlp_records.specs.declared.known_or_other.KnownOrOther.{KnownOrOther}
+use Rattle.rlp_reading.specs.Form.{Answer, Fault}
+use Rattle.rlp_records.specs.{Eip2718.{TypedSum, type_of, typed, typed_alone}, OtherEnvelope.other_type}
+use Rattle.rlp_records.specs.{OtherStrings.{is_known, kept, kept_alone, known_apart}, declared.known_or_other.KnownOrOther.KnownOrOther}
 use Rattle.rlp_records.specs.declared.known_or_other.KnownOrOther.TheVariants.{Known, Other}
 
 -- the value, or the bytes of another type

@@ -5,6 +5,8 @@ pub mod Eip2718
 pub mod Envelope
 pub mod Hash
 pub mod Hashing
+pub mod Keccak
 pub mod KnownOrOther
 pub mod OtherEnvelope
 pub mod OtherStrings
+pub mod Tested

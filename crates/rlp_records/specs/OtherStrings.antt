@@ -1,22 +1,13 @@
 -- Values of a type beside strings that are none of the items of the type.
 use Rattle.std.proofs.Common.{◌≡◌, ℕ, ◌^◌, ◌<◌, ◌⊎◌, inl, inr, Bool, true, false, IsTrue, if◌then◌else◌, List, [], ◌∷◌, length, refl, sym, ap, ◌∙◌, subst}
-use Rattle.std.proofs.Common.{arith, le-ltb, leb-true, lt-ltb, ltb, Result, Ok, Err}
-use Rattle.std.proofs.lemmas.Bool.{cond-true, cond-false}
-use Rattle.rlp.specs.Codec.{Codec, lawful, plain}
-use Rattle.rlp.specs.DecoderError.{DecoderError}
-use Rattle.rlp.specs.DecoderError.TheVariants.{RlpExpectedToBeData}
-use Rattle.rlp.specs.Format.Encoding.{Item, is_list, list, string, encoding, AreBytes}
-use Rattle.rlp.specs.Format.Framing.{begins_as_list}
-use Rattle.rlp.specs.Values.Sums.{OnSum, sum_item}
+use Rattle.std.proofs.{Common.{arith, le-ltb, leb-true, lt-ltb, ltb, Result, Ok, Err}, lemmas.Bool.{cond-true, cond-false}}
+use Rattle.rlp.specs.{Codec.{Codec, lawful, plain}, DecoderError.DecoderError, DecoderError.TheVariants.RlpExpectedToBeData}
+use Rattle.rlp.specs.{Format.Encoding.{Item, is_list, list, string, encoding, AreBytes}, Format.Framing.begins_as_list, Values.Sums.{OnSum, sum_item}}
 use Rattle.rlp.specs.Views.View.{View, Holds, HoldsItem, strict_view_of, view_string}
-use Rattle.rlp_reading.specs.Format.Framing.{read_string}
-use Rattle.rlp_reading.proofs.Lemmas.Strings.{string_list}
-use Rattle.rlp_reading.proofs.Lemmas.StringsHeld.{ReadsHeld, held_begins, held_fault, held_only, held_reads}
-use Rattle.rlp_reading.proofs.Lemmas.Sums.{list_first}
-use Rattle.rlp_codec.specs.Form.{Answer, Fault, Form, here, map_answer, map_value, seen_fault, string_of}
-use Rattle.rlp_codec.specs.Laws.{GivesOnly, IsLawful, viewed}
-use Rattle.rlp_codec.specs.Sums.{CasesForm, envelope, sum_map}
-use Rattle.rlp_codec.proofs.SumLaws.{sums_fit, sums_written}
+use Rattle.rlp_reading.specs.{Format.Framing.read_string, Form.{Answer, Fault, Form, here, map_answer, map_value, seen_fault, string_of}}
+use Rattle.rlp_reading.specs.{Laws.{GivesOnly, IsLawful, viewed}, Sums.{CasesForm, envelope, sum_map}}
+use Rattle.rlp_reading.proofs.{Lemmas.Strings.string_list, Lemmas.StringsHeld.{ReadsHeld, held_begins, held_fault, held_only, held_reads}}
+use Rattle.rlp_reading.proofs.{Lemmas.Sums.list_first, SumLaws.{sums_fit, sums_written}}
 use Rattle.rlp_records.specs.OtherEnvelope.{IsOther, authorization_magic, is_other, is_other_type}
 
 -- What a view gives whose string is r: the string if it is one that `is` tells, and else what the type gives.

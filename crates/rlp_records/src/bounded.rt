@@ -1,10 +1,8 @@
 //! Reading with a bound on the number of items, for bytes of strangers.
 
 ghost use Rattle.std.specs.Prelude.{◌≡◌, ◌⊎◌, Err, IfErr, IfOk, IsTrue, MatchResult, None, Ok, Some};
-ghost use Rattle.rlp.specs.DecoderError.TheVariants.{OutOfMemory};
-ghost use Rattle.rlp.specs.Format.Encoding.{encoding};
-ghost use Rattle.rlp.specs.Values.Value.{AreAlike};
-ghost use Rattle.rlp_codec.specs.Form.{fault_of};
+ghost use Rattle.rlp.specs.{DecoderError.TheVariants.OutOfMemory, Format.Encoding.encoding, Values.Value.AreAlike};
+ghost use Rattle.rlp_reading.specs.Form.{fault_of};
 ghost use Rattle.rlp_records.specs.Bounded.{IsBounded, IsWithinBounds, bound_fault, read_bounded};
 
 use crate::envelope_items::{GREATEST_DEPTH, items_in_envelopes};

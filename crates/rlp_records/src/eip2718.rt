@@ -1,12 +1,9 @@
 //! Values of the types of EIP-2718.
 
 ghost use Rattle.std.specs.Prelude.{◌≡◌, ◌⊎◌, Err, IfErr, IfOk, IsTrue, Ok, OnErr, OnOk};
-ghost use Rattle.rlp.specs.DecoderError.TheVariants.{OutOfMemory};
-ghost use Rattle.rlp.specs.Streams.Growth.{GrowsTo};
-ghost use Rattle.rlp.specs.Streams.Stream.{MovedGrows, put_item};
-ghost use Rattle.rlp_codec.specs.Form.{IsPlaced, fault_of};
-ghost use Rattle.rlp_records.specs.Alone.{bytes_alone};
-ghost use Rattle.rlp_records.specs.Eip2718.{TypedSum, payload_item, read_payload, type_number, type_of, typed, typed_alone};
+ghost use Rattle.rlp.specs.{DecoderError.TheVariants.OutOfMemory, Streams.Growth.GrowsTo, Streams.Stream.{MovedGrows, put_item}};
+ghost use Rattle.rlp_reading.specs.Form.{IsPlaced, fault_of};
+ghost use Rattle.rlp_records.specs.{Alone.bytes_alone, Eip2718.{TypedSum, payload_item, read_payload, type_number, type_of, typed, typed_alone}};
 
 use crate::envelope::to_envelope;
 use bytes::BytesMut;

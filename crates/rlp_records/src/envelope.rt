@@ -2,11 +2,8 @@
 //! encoding of the payload. An envelope isn't an item.
 
 ghost use Rattle.std.specs.Prelude.{◌≡◌, ◌∷◌, ◌⊎◌, [], Err, IfErr, IfOk, IsTrue, Ok, OnOk};
-ghost use Rattle.rlp.specs.DecoderError.TheVariants.{OutOfMemory};
-ghost use Rattle.rlp.specs.Format.Encoding.{encoding, list_of};
-ghost use Rattle.rlp.specs.Streams.Stream.{initial_state};
-ghost use Rattle.rlp.specs.Values.Value.{AreAlike};
-ghost use Rattle.rlp_codec.specs.Form.{fault_of};
+ghost use Rattle.rlp.specs.{DecoderError.TheVariants.OutOfMemory, Format.Encoding.{encoding, list_of}, Streams.Stream.initial_state, Values.Value.AreAlike};
+ghost use Rattle.rlp_reading.specs.Form.{fault_of};
 ghost use Rattle.rlp_records.specs.Envelope.{another_type, read_after};
 
 use bytes::{BufMut, BytesMut};

@@ -1,8 +1,7 @@
 //! How many items are in the envelopes in an item.
 
 ghost use Rattle.std.specs.Prelude.{◌≡◌, ◌≤◌, length};
-ghost use Rattle.rlp.specs.Format.Encoding.{encoding, Item};
-ghost use Rattle.rlp.specs.Format.Framing.{IsCanonical};
+ghost use Rattle.rlp.specs.{Format.Encoding.{encoding, Item}, Format.Framing.IsCanonical};
 ghost use Rattle.rlp_records.specs.Bounded.{is_read_type, items_in_envelopes, items_in_string, payload_items};
 
 use crate::{ACCESS_LIST_TYPE, SET_CODE_TYPE};

@@ -1,9 +1,8 @@
 //! Values that are sent after a byte that says their type.
 
 ghost use Rattle.std.specs.Prelude.{◌≡◌, ◌∷◌, ◌⊎◌, ℕ, Err, IfErr, IfOk, IsTrue, Ok, OnOk};
-ghost use Rattle.rlp.specs.DecoderError.TheVariants.{OutOfMemory};
-ghost use Rattle.rlp.specs.Format.Encoding.{encoding};
-ghost use Rattle.rlp_codec.specs.Form.{fault_of};
+ghost use Rattle.rlp.specs.{DecoderError.TheVariants.OutOfMemory, Format.Encoding.encoding};
+ghost use Rattle.rlp_reading.specs.Form.{fault_of};
 ghost use Rattle.rlp_records.specs.Envelope.{another_type, read_after};
 
 use crate::envelope::{from_envelope, to_envelope};

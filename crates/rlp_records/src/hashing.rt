@@ -4,8 +4,7 @@ ghost use Rattle.std.specs.Prelude.{IfOk, OnOk};
 ghost use Rattle.rlp.specs.Format.Encoding.{encoding};
 ghost use Rattle.rlp_records.specs.Hashing.{IsHashOf};
 
-use crate::Hash;
-use keccak::keccak256;
+use crate::{Hash, keccak256};
 use rlp::Encodable;
 use std::alloc::{AllocError, Global};
 

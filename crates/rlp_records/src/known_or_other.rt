@@ -2,15 +2,12 @@
 
 ghost use Rattle.std.specs.Prelude.{◌≡◌, ◌⊎◌, Err, IfErr, IfOk, IsTrue, Ok, OnOk};
 ghost use Rattle.rlp.specs.DecoderError.TheVariants.{OutOfMemory};
-ghost use Rattle.rlp_codec.specs.Form.{IsPlaced, fault_of};
-ghost use Rattle.rlp_records.specs.Alone.{bytes_alone};
-ghost use Rattle.rlp_records.specs.Hashing.{IsHashOf};
-ghost use Rattle.rlp_records.specs.KnownOrOther.{any_alone, any_type, with_others};
+ghost use Rattle.rlp_reading.specs.Form.{IsPlaced, fault_of};
+ghost use Rattle.rlp_records.specs.{Alone.bytes_alone, Hashing.IsHashOf, KnownOrOther.{any_alone, any_type, with_others}};
 ghost use Rattle.rlp_records.specs.declared.known_or_other.KnownOrOther.{KnownOrOther};
 
-use crate::{Eip2718, Hash, OtherEnvelope};
+use crate::{Eip2718, Hash, OtherEnvelope, keccak256};
 use bytes::BytesMut;
-use keccak::keccak256;
 use rlp::{
     Decodable, DecodePlaced, DecoderError, Encodable, Rlp, RlpStream, RoundTrip, StrictRead,
 };

@@ -3,11 +3,8 @@
 //! see two values with equal encodings as the same.
 
 ghost use Rattle.std.specs.Prelude.{◌≡◌, ◌↔◌, false, IfErr, IfOk, IsOkAnd, IsTrue, OnOk};
-ghost use Rattle.rlp.specs.DecoderError.TheVariants.{OutOfMemory};
-ghost use Rattle.rlp.specs.Format.Encoding.{encoding, IsSized};
-ghost use Rattle.rlp.specs.Values.Value.{AreAlike};
-ghost use Rattle.rlp.specs.Views.View.{strict_view_of};
-ghost use Rattle.rlp_codec.specs.Form.{Faults};
+ghost use Rattle.rlp.specs.{DecoderError.TheVariants.OutOfMemory, Format.Encoding.{encoding, IsSized}, Values.Value.AreAlike, Views.View.strict_view_of};
+ghost use Rattle.rlp_reading.specs.Form.{Faults};
 
 use bytes::BytesMut;
 use rlp::{DecoderError, Encodable, StrictRead};
@@ -43,10 +40,8 @@ pub fn record_round_trips<R: StrictRead>(alloc: Global, value: &R) -> Result<R, 
     ensures same { IfOk result (λ w. R.fits w × (R.reading.seen w ≡ R.reading.seen value.now)) }
     ensures memory { IfErr result (λ e. e ≡ OutOfMemory) }
 {
-    match record_is_written(alloc, value) {
-        Ok(bytes) => record_is_read(alloc, bytes.as_slice()),
-        Err(AllocError) => Err(DecoderError::OutOfMemory),
-    }
+    let bytes = record_is_written(alloc, value)?;
+    record_is_read(alloc, bytes.as_slice())
 }
 
 /// The record that bytes are, read strictly, for a type whose reading doesn't allocate, such as a

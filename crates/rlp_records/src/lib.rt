@@ -1,4 +1,5 @@
-//! What all records of Ethereum have in common: hashes, addresses, envelopes and the laws of records.
+//! What all records of Ethereum have in common: hashes by Keccak-256, addresses, envelopes and the laws of
+//! records.
 #![tactic(auto)]
 
 mod address;
@@ -9,6 +10,7 @@ mod envelope_items;
 mod enveloped;
 mod hash;
 mod hashing;
+mod keccak;
 mod known_or_other;
 pub mod laws;
 mod other_envelope;
@@ -23,5 +25,6 @@ pub use envelope::{
 pub use enveloped::Enveloped;
 pub use hash::Hash;
 pub use hashing::encoding_hash;
+pub use keccak::keccak256;
 pub use known_or_other::KnownOrOther;
 pub use other_envelope::OtherEnvelope;

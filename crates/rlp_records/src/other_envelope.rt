@@ -1,10 +1,8 @@
 //! Envelopes of types that these crates don't know.
 
-ghost use Rattle.std.specs.Prelude.{◌≡◌, ◌⊎◌, drop, nat_eq, IfErr, IfOk};
-ghost use Rattle.std.specs.Cmp.{partial_equiv_from_equiv};
-ghost use Rattle.std.specs.Cmp.Lexicographic.{nat_list_eq_equiv, pointwise};
+ghost use Rattle.std.specs.{Prelude.{◌≡◌, ◌⊎◌, drop, nat_eq, IfErr, IfOk}, Cmp.partial_equiv_from_equiv, Cmp.Lexicographic.{nat_list_eq_equiv, pointwise}};
 ghost use Rattle.rlp.specs.DecoderError.TheVariants.{OutOfMemory};
-ghost use Rattle.rlp_codec.specs.Form.{custom, fault_of};
+ghost use Rattle.rlp_reading.specs.Form.{custom, fault_of};
 ghost use Rattle.rlp_records.specs.OtherEnvelope.{IsOther, is_other, is_other_type, not_other, other_type};
 
 use crate::AUTHORIZATION_MAGIC;
@@ -47,10 +45,8 @@ impl OtherEnvelope {
         if !OtherEnvelope::is_other(bytes) {
             return Err(DecoderError::Custom("not an envelope of another type"));
         }
-        match Vec::from_slice(alloc, bytes) {
-            Ok(bytes) => Ok(OtherEnvelope { bytes }),
-            Err(_) => Err(DecoderError::OutOfMemory),
-        }
+        let bytes = Vec::from_slice(alloc, bytes)?;
+        Ok(OtherEnvelope { bytes })
     }
 
     /// Whether the bytes begin with the byte of another type, which is 6 to 0x7f.

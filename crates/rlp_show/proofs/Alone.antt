@@ -1,29 +1,18 @@
 -- Bytes that stand by themselves give what they give as an item.
-use Rattle.std.proofs.Common.{◌≡◌, ◌≢◌, ◌<◌, ◌≤◌, ◌^◌, ◌⊎◌, inl, inr, ℕ, Bool, true, false, List, [], ◌∷◌, length, refl, sym, ap, ◌∙◌, Ok, Err}
-use Rattle.std.proofs.Common.{arith, leb-true}
-use Rattle.std.proofs.lemmas.Bool.{cond-true, cond-false}
-use Rattle.rlp.specs.DecoderError.{DecoderError}
-use Rattle.rlp.specs.DecoderError.TheVariants.{OutOfMemory, RlpExpectedToBeData}
-use Rattle.rlp.specs.Format.{Encoding.encoding, Encoding.string, Framing.begins_as_list, Framing.read_string}
-use Rattle.rlp.specs.Views.View.{View, strict_view_of}
-use Rattle.rlp_reading.proofs.Lemmas.Strings.{string_list}
-use Rattle.rlp_reading.proofs.Lemmas.StringsHeld.{held_fault, held_only}
-use Rattle.rlp_reading.proofs.Lemmas.Depths.{not_list}
-use Rattle.std.proofs.lemmas.List.{append-nil}
-use Rattle.rlp_codec.specs.Form.{Answer, Fault, fault_of, go_on, here, map_answer, seen_fault, string_of}
-use Rattle.rlp_codec.specs.Sums.{envelope_of, read_either}
-use Rattle.rlp_records.specs.Alone.{read_alone}
-use Rattle.rlp_records.specs.OtherEnvelope.{is_other}
-use Rattle.rlp_records.specs.OtherStrings.{kept_alone, string_or}
+use Rattle.std.proofs.Common.{◌≡◌, ◌≢◌, ◌<◌, ◌^◌, ◌⊎◌, inl, inr, ℕ, Bool, true, false, List, [], ◌∷◌, length, refl, sym, ap, ◌∙◌, Ok, Err, arith, leb-true}
+use Rattle.std.proofs.{lemmas.Bool.cond-true, lemmas.Bool.cond-false, lemmas.List.append-nil}
+use Rattle.rlp.specs.{DecoderError.DecoderError, DecoderError.TheVariants.OutOfMemory, DecoderError.TheVariants.RlpExpectedToBeData, Format.Encoding.encoding}
+use Rattle.rlp.specs.{Format.Encoding.string, Format.Framing.begins_as_list, Format.Framing.read_string, Views.View.View, Views.View.strict_view_of}
+use Rattle.rlp_reading.proofs.{Lemmas.Strings.string_list, Lemmas.StringsHeld.held_fault, Lemmas.StringsHeld.held_only, Lemmas.Depths.not_list}
+use Rattle.rlp_reading.specs.Form.{Answer, Fault, fault_of, go_on, here, map_answer, seen_fault, string_of}
+use Rattle.rlp_reading.specs.Sums.{envelope_of, read_either}
+use Rattle.rlp_records.specs.{Alone.read_alone, OtherEnvelope.is_other, OtherStrings.kept_alone, OtherStrings.string_or, Eip2718.TypedSum, Eip2718.typed}
+use Rattle.rlp_records.specs.{Eip2718.typed_alone, KnownOrOther.any_alone, KnownOrOther.with_others}
 use Rattle.rlp_records.proofs.OtherTypes.{list_known}
-use Rattle.rlp_records.specs.Eip2718.{TypedSum, typed, typed_alone}
-use Rattle.rlp_records.specs.KnownOrOther.{any_alone, with_others}
 use Rattle.rlp_headers.specs.TypedReceipt.{any_receipt, receipt_types}
-use Rattle.rlp_transactions.specs.Transaction.{any_transaction, transaction_types}
-use Rattle.rlp_transactions.specs.UnsignedTransaction.{unsigned_types}
-use Rattle.rlp_print.specs.Records.{any_receipt_display}
-use Rattle.rlp_print.specs.Transactions.{any_transaction_display}
+use Rattle.rlp_transactions.specs.{Transaction.any_transaction, Transaction.transaction_types, UnsignedTransaction.unsigned_types}
 use Rattle.rlp_show.specs.Shown.{item_alone, receipt_shown, transaction_shown, unsigned_or, signed_shown}
+use Rattle.rlp_show.specs.{Records.any_receipt_display, Transactions.any_transaction_display}
 
 -- a list is its own item, and other bytes are the string of their item
 pub list_item : (b : List ℕ) → begins_as_list b ≡ true → b ≡ item_alone b

@@ -1,5 +1,9 @@
 -- Lemmas, in a file for each subject.
 
+-- words, items and hashes that are shown
+pub mod TextLemmas
+pub mod ItemLemmas
+pub mod Hashes
 -- what bytes give
 pub mod Readings
 -- bytes that stand by themselves

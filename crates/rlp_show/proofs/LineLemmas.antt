@@ -1,24 +1,15 @@
 -- Lines whose digits are shown without a fault.
-use Rattle.std.proofs.Common.{◌≡◌, ◌^◌, ◌<◌, ◌≤◌, ◌==◌, ◌-◌, if◌then◌else◌, ℕ, Bool, true, false, Some, Result, Ok, Err, List, drop, length, take, codes}
-use Rattle.std.proofs.Common.{refl, sym, ap, ◌∙◌, arith, length-drop, length-take, nat_eq, slice_index}
-use Rattle.std.specs.List.{starts_with}
-use Rattle.std.specs.Result.{result_ok}
-use Rattle.std.specs.Str.Lines.{strip_carriage_return}
+use Rattle.std.proofs.Common.{◌≡◌, ◌^◌, ◌<◌, ◌≤◌, ◌==◌, ◌-◌, if◌then◌else◌, ℕ, Bool, true, false, Some, Result, Ok, Err, List, drop, length, take, codes, refl, sym, ap, ◌∙◌, arith, length-drop, length-take, nat_eq, slice_index}
 use Rattle.std.proofs.lemmas.List.Elements.{All-from_get_or}
+use Rattle.std.specs.{List.starts_with, Result.result_ok, Str.Lines.strip_carriage_return}
 use Rattle.hex.proofs.HexLemmas.{decode_of-ok}
-use Rattle.hex.specs.Hex.{decode_of}
-use Rattle.hex.specs.declared.error.FromHexError.{FromHexError}
-use Rattle.rlp.specs.Format.Encoding.{AreBytes, encoding, Item}
-use Rattle.rlp.specs.Views.View.{strict_view_of}
-use Rattle.rlp_codec.specs.Form.{Fault, Reading, map_value}
-use Rattle.rlp_codec.specs.Laws.{GivesOnly, form_of}
-use Rattle.rlp_codec.proofs.ListLaws.{is_mapped}
+use Rattle.hex.specs.{Hex.decode_of, declared.error.FromHexError.FromHexError}
+use Rattle.rlp.specs.{Format.Encoding.AreBytes, Format.Encoding.encoding, Format.Encoding.Item, Views.View.strict_view_of}
+use Rattle.rlp_reading.specs.{Form.Fault, Form.Reading, Form.map_value, Laws.GivesOnly, Laws.form_of}
+use Rattle.rlp_reading.proofs.ListLaws.{is_mapped}
 use Rattle.rlp_lines.specs.Digits.{bytes_in, digits_of}
-use Rattle.rlp_print.specs.Value.{Value}
 use Rattle.rlp_show.specs.Answers.{IsAnswered, IsRead, own_name, shown_text, text_answer}
-use Rattle.rlp_show.specs.Input.{bytes_or_node}
-use Rattle.rlp_show.specs.Shown.{ShowsAs, kind_shown}
-use Rattle.rlp_show.specs.declared.kind.Kind.{Kind}
+use Rattle.rlp_show.specs.{Value.Value, Input.bytes_or_node, Shown.ShowsAs, Shown.kind_shown, declared.kind.Kind.Kind}
 
 length-if : (t : Bool) (x y : List ℕ) (n : ℕ) → length x ≤ n → length y ≤ n → length (if t then x else y) ≤ n
 length-if true x y n h k = h

@@ -1,18 +1,14 @@
 -- Transactions and receipts by themselves that are shown without a fault.
 use Rattle.std.proofs.Common.{◌≡◌, ◌<◌, ◌^◌, ◌⊎◌, inl, inr, ℕ, List, length, refl, ◌∙◌, Result, Ok, Err}
 use Rattle.rlp.specs.Format.Encoding.{AreBytes}
-use Rattle.rlp_codec.specs.Form.{Fault}
-use Rattle.rlp_records.specs.Alone.{bytes_alone}
-use Rattle.rlp_records.specs.{Eip2718.typed_alone, KnownOrOther.any_alone}
+use Rattle.rlp_reading.specs.Form.{Fault}
+use Rattle.rlp_records.specs.{Alone.bytes_alone, Eip2718.typed_alone, KnownOrOther.any_alone}
 use Rattle.rlp_records.proofs.{TypedSums.typed_strings, OtherTypes.any_strings}
 use Rattle.rlp_headers.specs.TypedReceipt.{any_receipt, receipt_types}
-use Rattle.rlp_transactions.specs.Transaction.{any_transaction, transaction_types}
-use Rattle.rlp_transactions.specs.UnsignedTransaction.{unsigned_transaction, unsigned_types}
-use Rattle.rlp_print.specs.Records.{any_receipt_display}
-use Rattle.rlp_print.specs.Transactions.{any_transaction_display, unsigned_display}
-use Rattle.rlp_print.specs.Value.{Value}
-use Rattle.rlp_show.specs.Answers.{IsRead}
+use Rattle.rlp_transactions.specs.{Transaction.any_transaction, Transaction.transaction_types, UnsignedTransaction.unsigned_transaction}
+use Rattle.rlp_transactions.specs.UnsignedTransaction.{unsigned_types}
 use Rattle.rlp_show.specs.Shown.{receipt_shown, signed_shown, transaction_shown, unsigned_or}
+use Rattle.rlp_show.specs.{Records.any_receipt_display, Transactions.any_transaction_display, Transactions.unsigned_display, Value.Value, Answers.IsRead}
 use Rattle.rlp_show.proofs.LineLemmas.{read_by}
 
 pub receipt_only : (b : List ℕ) (v : Value) → AreBytes b × (length b < 2 ^ 64) → (receipt_shown b).result ≡ Ok v

@@ -1,15 +1,8 @@
 -- What bytes give is what was read of them.
 use Rattle.std.proofs.Common.{◌≡◌, ◌≢◌, ◌++◌, ◌⊎◌, inl, inr, ℕ, List, sym, ap, ◌∙◌, subst, Result, Ok, Err, OnOk}
-use Rattle.rlp.specs.DecoderError.{DecoderError}
-use Rattle.rlp.specs.DecoderError.TheVariants.{OutOfMemory}
-use Rattle.rlp_codec.specs.Form.{Answer, Fault, Path, fault_of, map_answer, map_value}
-use Rattle.std.specs.Prelude.{codes}
-use Rattle.rlp.specs.Views.View.{View, strict_view_of}
-use Rattle.rlp_show.specs.Shown.{Shown}
-use Rattle.rlp_print.specs.Display.{a_number}
-use Rattle.rlp_print.specs.Value.{Value, both, entry, object}
-use Rattle.rlp_show.specs.Answers.{kind_text, shown_text, value_text}
-use Rattle.rlp_show.specs.declared.answers.Form.{Form}
+use Rattle.rlp.specs.{DecoderError.DecoderError, DecoderError.TheVariants.OutOfMemory, Views.View.View, Views.View.strict_view_of}
+use Rattle.rlp_reading.specs.Form.{Answer, Fault, Path, fault_of, map_answer, map_value}
+use Rattle.rlp_show.specs.{Shown.Shown, Value.Value, Answers.kind_text, Answers.shown_text, Answers.value_text, declared.answers.Form.Form}
 use Rattle.rlp_show.specs.declared.kind.Kind.{Kind}
 
 module _ (form : Form) (kind : Kind) (name b : List ℕ) {M : Type 0} (a : Answer M Fault) (shown : M → Value) where
@@ -36,13 +29,6 @@ module _ (form : Form) (kind : Kind) (name b : List ℕ) {M : Type 0} (a : Answe
         by : (r : Result T E) → OnOk r (e ≢ OutOfMemory) → OnOk r (new ≡ old ++ kind_text form kind name b (map_answer shown a))
         by (Ok done) memory = absurd (memory full)
         by (Err e) memory = tt
-
--- what is shown after the number of a request
-pub after_same : (n : ℕ) (v w : Value) → v ≡ w
-    → object (both (entry (codes "request_id") (codes "requestId") (a_number.shown n)) (entry (codes "content") (codes "content") v))
-    ≡ object (both (entry (codes "request_id") (codes "requestId") (a_number.shown n)) (entry (codes "content") (codes "content") w))
-after_same n v w same =
-    ap (λ v. object (both (entry (codes "request_id") (codes "requestId") (a_number.shown n)) (entry (codes "content") (codes "content") v))) same
 
 -- the same bytes give the same
 pub read_at : (form : Form) (kind : Kind) (name b : List ℕ) {M : Type 0} (read : View → Answer M Fault) (shown : M → Value) {T E : Type 0} (r : Result T E)

@@ -1,24 +1,13 @@
 -- The answers to lines.
 use Rattle.std.specs.Prelude.{ℕ, ◌≡◌, Bool, true, false, ◌==◌, List, [], ◌∷◌, ◌++◌, codes, decimal, encode_utf8, if◌then◌else◌, Option, Some, None, Result, Ok, Err}
-use Rattle.std.specs.Char.{to_ascii_uppercase}
-use Rattle.std.specs.Str.Lines.{strip_carriage_return}
-use Rattle.rlp.specs.DecoderError.{DecoderError}
-use Rattle.rlp.specs.Views.View.{strict_view_of}
-use Rattle.rlp_codec.specs.Form.{Fault, Path, Reading, custom, data_len_with_zero, expected_data, expected_list, fault_of, inconsistent_len, incorrect_list_len, invalid_indirection, invalid_len}
-use Rattle.rlp_codec.specs.Form.{is_too_big, is_too_short, list_len_with_zero, out_of_memory}
-use Rattle.rlp_lines.specs.Status.{status_of}
-use Rattle.rlp_lines.specs.declared.serving.RunFault.{RunFault}
-use Rattle.rlp_print.specs.{Dump.dump_of, Json.json_of, Lines.lines, Records.fault_display}
-use Rattle.rlp_print.specs.Value.{Value, entry, object}
-use Rattle.rlp_show.specs.Guess.{guess}
-use Rattle.rlp_show.specs.Input.{is_node_text, record_bytes}
-use Rattle.rlp_show.specs.Kinds.{kind_name}
-use Rattle.rlp_show.specs.Names.{is_list, kind_part, naming}
-use Rattle.rlp_show.specs.Shown.{Shown, kind_shown}
-use Rattle.rlp_show.specs.declared.answers.Answers.{Answers}
-use Rattle.rlp_show.specs.declared.answers.Form.{Form}
-use Rattle.rlp_show.specs.declared.answers.Form.TheVariants.{Bytes, Json, Text}
-use Rattle.rlp_show.specs.declared.kind.Kind.{Kind}
+use Rattle.std.specs.{Char.to_ascii_uppercase, Str.Lines.strip_carriage_return}
+use Rattle.rlp.specs.{DecoderError.DecoderError, Views.View.strict_view_of}
+use Rattle.rlp_reading.specs.Form.{Fault, Path, Reading, custom, data_len_with_zero, expected_data, expected_list, fault_of, inconsistent_len, incorrect_list_len, invalid_indirection, invalid_len, is_too_big, is_too_short, list_len_with_zero, out_of_memory}
+use Rattle.rlp_lines.specs.{Status.status_of, declared.serving.RunFault.RunFault}
+use Rattle.rlp_show.specs.{Dump.dump_of, Json.json_of, Lines.lines, Records.fault_display, Value.Value, Value.entry, Value.object, Guess.guess}
+use Rattle.rlp_show.specs.{Input.is_node_text, Input.record_bytes, Kinds.kind_name, Names.is_list, Names.kind_part, Names.naming, Shown.Shown, Shown.kind_shown}
+use Rattle.rlp_show.specs.{declared.answers.Answers.Answers, declared.answers.Form.Form, declared.answers.Form.TheVariants.Bytes}
+use Rattle.rlp_show.specs.{declared.answers.Form.TheVariants.Json, declared.answers.Form.TheVariants.Text, declared.kind.Kind.Kind}
 
 -- ---- values
 

@@ -1,9 +1,6 @@
 -- The bytes of a record that is given as text.
-use Rattle.std.specs.Prelude.{ℕ, Bool, nat_eq, ◌||◌, List, drop, codes, if◌then◌else◌, Option, Some, None}
-use Rattle.std.specs.List.{starts_with}
-use Rattle.std.specs.Result.{result_ok}
-use Rattle.base64.specs.Engines.{url_safe_no_pad}
-use Rattle.base64.specs.GeneralPurpose.{decode_of}
+use Rattle.std.specs.{Prelude.{ℕ, Bool, nat_eq, ◌||◌, List, drop, codes, if◌then◌else◌, Option, Some, None}, List.starts_with, Result.result_ok}
+use Rattle.base64.specs.{Engines.url_safe_no_pad, GeneralPurpose.decode_of}
 use Rattle.rlp_lines.specs.Digits.{bytes_in}
 
 -- the bytes that have this URL-safe base64 without padding, if there are any

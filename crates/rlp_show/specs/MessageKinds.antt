@@ -1,8 +1,7 @@
 -- The kinds of messages, by their names.
 use Rattle.std.specs.Prelude.{ℕ, List, codes, bytes_eq, if◌then◌else◌, Option, Some, None}
-use Rattle.rlp_show.specs.declared.messages.kind.MessageKind.{MessageKind}
-use Rattle.rlp_show.specs.declared.messages.kind.MessageKind.TheVariants.{BlockHeaders, Disconnect, GetBlockHeaders, Hello, NewBlockHashes, Ping, Pong, Status68, Status69, Transactions}
-use Rattle.rlp_show.specs.declared.messages.kind.MessageKind.TheVariants.{BlockBodies, BlockRangeUpdate, GetBlockBodies, GetPooledTransactions, GetReceipts, NewBlock, NewPooledTransactionHashes, PooledTransactions, Receipts68, Receipts69}
+use Rattle.rlp_show.specs.declared.message_kind.MessageKind.TheVariants.{BlockHeaders, Disconnect, GetBlockHeaders, Hello, NewBlockHashes, Ping, Pong, Status68, Status69, Transactions, BlockBodies, BlockRangeUpdate, GetBlockBodies, GetPooledTransactions, GetReceipts, NewBlock, NewPooledTransactionHashes, PooledTransactions, Receipts68, Receipts69}
+use Rattle.rlp_show.specs.declared.message_kind.MessageKind.{MessageKind}
 
 -- the kind of a name
 unfoldable pub message_named : List ℕ → Option MessageKind

@@ -1,17 +1,13 @@
 -- The names of the parts of records, by the path to a part.
 use Rattle.std.specs.Prelude.{ℕ, Bool, true, false, if◌then◌else◌, ◌==◌, ◌-◌, ◌/◌, ◌%◌, nat_lt, List, [], ◌∷◌, drop, map, slice_get, slice_index_or, Option, Some, None}
 use Rattle.std.specs.Result.{result_unwrap_or}
-use Rattle.rlp.specs.Format.Framing.{begins_as_list}
-use Rattle.rlp.specs.Views.View.{View, item_at, item_count, strict_view_of, view_string}
-use Rattle.rlp_print.specs.Value.{inside, item_name}
+use Rattle.rlp.specs.{Views.View.{View, item_at, item_count, strict_view_of, view_string}, Format.Framing.begins_as_list}
+use Rattle.rlp_show.specs.{Value.inside, Value.item_name, declared.kind.Kind.Kind, declared.message_kind.MessageKind.MessageKind}
+use Rattle.rlp_show.specs.{declared.names.Part.Part, declared.names.Record.Record}
 use Rattle.rlp_trie.specs.HexPrefix.{is_leaf_path}
-use Rattle.rlp_show.specs.declared.kind.Kind.{Kind}
 use Rattle.rlp_show.specs.declared.kind.Kind.TheVariants as kind
-use Rattle.rlp_show.specs.declared.messages.kind.MessageKind.{MessageKind}
-use Rattle.rlp_show.specs.declared.messages.kind.MessageKind.TheVariants as message
-use Rattle.rlp_show.specs.declared.names.Part.{Part}
+use Rattle.rlp_show.specs.declared.message_kind.MessageKind.TheVariants as message
 use Rattle.rlp_show.specs.declared.names.Part.TheVariants as part
-use Rattle.rlp_show.specs.declared.names.Record.{Record}
 use Rattle.rlp_show.specs.declared.names.Record.TheVariants as named
 use Rattle.rlp_show.specs.declared.names.TheConstants as table
 

@@ -1,14 +1,13 @@
 //! The answers to what is no record.
 
 ghost use Rattle.std.specs.Prelude.{◌≡◌, ◌++◌, None, codes, string_bytes, IfOk, OnOk};
-ghost use Rattle.rlp_codec.specs.Form.{fault_of};
-ghost use Rattle.rlp_print.specs.Json.{json_of};
-ghost use Rattle.rlp_print.specs.Records.{fault_display};
-ghost use Rattle.rlp_show.specs.Answers.{error_answer, fault_answer, fault_name, fault_text, fault_word};
+ghost use Rattle.rlp_reading.specs.Form.{fault_of};
+ghost use Rattle.rlp_show.specs.{Answers.{error_answer, fault_answer, fault_name, fault_text, fault_word}, Json.json_of, Records.fault_display};
 
 use crate::answers::Form;
+use crate::json::json_of;
+use crate::records::Fault;
 use rlp::DecoderError;
-use rlp_print::{Fault, json_of};
 use std::alloc::{AllocError, Global};
 use std::fmt::Write;
 

@@ -2,18 +2,18 @@
 
 ghost use Rattle.std.specs.Prelude.{◌≡◌, ◌≢◌, ◌++◌, [], false, string_bytes, IfOk, OnOk, Err};
 ghost use Rattle.rlp.specs.DecoderError.TheVariants.{OutOfMemory};
-ghost use Rattle.rlp_codec.specs.Form.{fault_of};
-ghost use Rattle.rlp_print.specs.Display.{shown_of};
-ghost use Rattle.rlp_print.specs.Value.{entry, object};
-ghost use Rattle.rlp_print.specs.Json.{json_of};
-ghost use Rattle.rlp_show.specs.Answers.{camel, field_at, letter_text, shown_text, value_text};
+ghost use Rattle.rlp_reading.specs.Form.{fault_of};
+ghost use Rattle.rlp_show.specs.{Answers.{camel, field_at, letter_text, shown_text, value_text}, Display.shown_of, Value.entry, Value.object, Json.json_of};
 
 use crate::answers::Form;
+use crate::dump::dump_of;
 use crate::faults::put_error;
+use crate::json::json_of;
 use crate::kind::Kind;
+use crate::lines::lines_of;
 use crate::names::put_part_name;
+use crate::show::{Named, Object, Show};
 use rlp::{DecoderError, PlacedFault, Rlp};
-use rlp_print::{Named, Object, Show, dump_of, json_of, lines_of};
 use std::alloc::{AllocError, Global};
 
 /// The bytes of a record, and how they are answered.

@@ -1,9 +1,8 @@
 //! The kind of a record that isn't named.
 
 ghost use Rattle.std.specs.Prelude.{◌≡◌, drop};
-ghost use Rattle.rlp.specs.Format.Framing.{map_ok};
 ghost use Rattle.rlp.specs.Views.View.{item_count, item_views, strict_view_of};
-ghost use Rattle.rlp_show.specs.Guess.{envelope_kind, first_byte, first_of, four_kind, guess, inner_of, list_kind, lists_kind, strings_kind};
+ghost use Rattle.rlp_show.specs.Guess.{envelope_kind, first_of, guess, inner_of, list_kind, lists_kind, strings_kind};
 
 use crate::kind::Kind;
 use rlp::{DecoderError, Rlp, RlpIterator};
@@ -32,7 +31,10 @@ pub fn guess(item: &Rlp<'_>) -> Result<Option<Kind>, DecoderError>
         [] => Ok(None),
         [kind, payload @ ..] if *kind < 0x80 => Ok(Some(envelope_kind(payload))),
         [0x80, ..] => Ok(Some(Kind::Node)),
-        [first, ..] if *first >= LIST => guess_list(item),
+        [first, ..] if *first >= LIST => {
+            let count = item.item_count()?;
+            Ok(list_kind(item, count))
+        }
         _ => Ok(None),
     }
 }
@@ -44,16 +46,6 @@ fn envelope_kind(payload: &[u8]) -> Kind
     match Rlp::new_strict(payload).item_count() {
         Ok(4) => Kind::Receipt,
         _ => Kind::Transaction,
-    }
-}
-
-/// The kind of a list.
-fn guess_list(list: &Rlp<'_>) -> Result<Option<Kind>, DecoderError>
-    ensures { result ≡ map_ok (list_kind (item_views list.now)) (item_count list.now) }
-{
-    match list.item_count() {
-        Ok(count) => Ok(list_kind(list, count)),
-        Err(fault) => Err(fault),
     }
 }
 
@@ -79,18 +71,8 @@ fn first_of_next(items: &mut RlpIterator<'_, '_>) -> u8
     ensures left { items.new.left ≡ drop 1 items.old.left }
 {
     match items.next() {
-        Some(item) => first_byte(item.as_raw()),
+        Some(item) => item.as_raw().first().copied().unwrap_or(0),
         None => 0,
-    }
-}
-
-/// The first byte of an item, or 0 if there is none.
-fn first_byte(item: &[u8]) -> u8
-    ensures { result ≡ first_byte item.now }
-{
-    match item {
-        [] => 0,
-        [first, ..] => *first,
     }
 }
 
@@ -109,54 +91,32 @@ fn inner_of(list: &Rlp<'_>) -> u8
 fn lists_kind(count: usize, inner: u8) -> Option<Kind>
     ensures { result ≡ lists_kind count inner }
 {
-    if inner == ADDRESS {
-        Some(Kind::AccessList)
-    } else if count == 17 {
-        Some(Kind::Node)
-    } else if inner == HASH && (count == 3 || count == 4) {
-        Some(Kind::Block)
-    } else if count == 2 || count == 3 {
-        Some(Kind::Body)
-    } else {
-        None
+    match count {
+        _ if inner == ADDRESS => Some(Kind::AccessList),
+        17 => Some(Kind::Node),
+        3 | 4 if inner == HASH => Some(Kind::Block),
+        2 | 3 => Some(Kind::Body),
+        _ => None,
     }
 }
 
 /// The kind of a list of this many items, of which the first is a string. The other two are the first
-/// bytes of the second and the third item.
+/// bytes of the second and the third item. A bloom is longer than a key.
+#[tactic(auto, unfolding(crate::specs::Guess::strings_kind))]
 fn strings_kind(count: usize, second: u8, third: u8) -> Option<Kind>
     ensures { result ≡ strings_kind count second third }
 {
-    if count == 2 {
-        Some(Kind::Node)
-    } else if count == 4 {
-        Some(four_kind(third))
-    } else if count == 6 && second == ADDRESS {
-        Some(Kind::Authorization)
-    } else if count == 9 {
-        Some(Kind::Transaction)
-    } else if count >= 15 && count <= 23 && third == ADDRESS {
-        Some(Kind::Header)
-    } else if count == 17 {
-        Some(Kind::Node)
-    } else if count >= 6 && count % 2 == 0 {
-        Some(Kind::NodeRecord)
-    } else {
-        None
-    }
-}
-
-/// The kind of a list of four items, of which the first is a string.
-fn four_kind(third: u8) -> Kind
-    ensures { result ≡ four_kind third }
-{
-    if third == HASH {
-        Kind::Account
-    } else if third == ADDRESS {
-        Kind::Withdrawal
-    } else if third < LONG {
-        Kind::NodeRecord
-    } else {
-        Kind::Receipt
+    match count {
+        2 => Some(Kind::Node),
+        4 if third == HASH => Some(Kind::Account),
+        4 if third == ADDRESS => Some(Kind::Withdrawal),
+        4 if third < LONG => Some(Kind::NodeRecord),
+        4 => Some(Kind::Receipt),
+        6 if second == ADDRESS => Some(Kind::Authorization),
+        9 => Some(Kind::Transaction),
+        15..=23 if third == ADDRESS => Some(Kind::Header),
+        17 => Some(Kind::Node),
+        _ if count >= 6 && count % 2 == 0 => Some(Kind::NodeRecord),
+        _ => None,
     }
 }

@@ -2,7 +2,7 @@
 
 ghost use Rattle.std.specs.Prelude.{◌≡◌, Some};
 
-use crate::messages::MessageKind;
+use crate::message_kind::MessageKind;
 
 /// A kind of records that the program shows.
 #[derive(Debug, Clone, Copy, PartialEq, Eq)]
@@ -41,6 +41,9 @@ impl Kind {
     pub fn named(name: &str) -> Option<Kind>
         ensures { result ≡ kind_named name.now }
     {
+        if let Some(kind) = MessageKind::named(name) {
+            return Some(Kind::Message(kind));
+        }
         match name {
             "access_list" => Some(Kind::AccessList),
             "account" => Some(Kind::Account),
@@ -53,15 +56,12 @@ impl Kind {
             "record" => Some(Kind::NodeRecord),
             "transaction" => Some(Kind::Transaction),
             "withdrawal" => Some(Kind::Withdrawal),
-            _ => match MessageKind::named(name) {
-                Some(kind) => Some(Kind::Message(kind)),
-                None => None,
-            },
+            _ => None,
         }
     }
 
     /// The name of the kind.
-    #[tactic(auto, using(crate::specs::Kinds::message_kind), unfolding(crate::specs::Kinds::kind_named))]
+    #[tactic(auto, unfolding(crate::specs::Kinds::kind_named, crate::specs::MessageKinds::message_named))]
     pub fn name(self) -> &'static str
         ensures name { result.now ≡ kind_name self }
         ensures named { kind_named result.now ≡ Some self }

@@ -2,18 +2,16 @@
 
 ghost use Rattle.std.specs.Prelude.{◌≡◌, ◌<◌, ◌^◌, ◌++◌, length, string_bytes, OnOk};
 ghost use Rattle.rlp.specs.Views.View.{strict_view_of};
-ghost use Rattle.rlp_codec.specs.Form.{map_answer};
+ghost use Rattle.rlp_reading.specs.Form.{map_answer};
 ghost use Rattle.rlp_node_record.specs.NodeLaws.{node_record};
-ghost use Rattle.rlp_print.specs.NodeRecords.{node_fields_display};
-ghost use Rattle.rlp_print.specs.Display.{shown_of};
-ghost use Rattle.rlp_print.specs.Value.{Value};
-ghost use Rattle.rlp_show.specs.Answers.{kind_text};
 ghost use Rattle.rlp_show.specs.Shown.{item_alone, kind_shown, message_shown, numbered_as, shown_as, transaction_shown, whole};
+ghost use Rattle.rlp_show.specs.{NodeRecords.node_fields_display, Display.shown_of, Value.Value, Answers.kind_text};
 
 use crate::given::Given;
 use crate::kind::Kind;
 use crate::listed::ListOf;
-use crate::messages::MessageKind;
+use crate::message_kind::MessageKind;
+use crate::show::Show;
 use rlp::{DecodePlaced, DecoderError, Rlp, decode_placed};
 use rlp_blocks::{Block, Body};
 use rlp_headers::{Account, AnyReceipt, Header, Withdrawal};
@@ -22,7 +20,6 @@ use rlp_messages::{
     NewBlockHash, NewPooledTransactionHashes, Ping, Pong, Status68, Status69, WithRequestId,
 };
 use rlp_node_record::NodeRecord;
-use rlp_print::Show;
 use rlp_records::{Eip2718, Hash};
 use rlp_transactions::{
     AccessListItem, AnyTransaction, PooledTransaction, SignedAuthorization, UnsignedTransaction,

@@ -1,37 +1,32 @@
-//! Laws about the answers to lines, as public functions. Their contracts are the laws, and they have
-//! no effect.
+//! Laws about values that are shown and about the answers to lines, as public functions. Their
+//! contracts are the laws, and they have no effect.
 
 ghost use Rattle.std.specs.Prelude.{◌≡◌, ◌<◌, ◌^◌, ◌⊎◌, ℕ, List, [], Some, Ok, Err, false, length};
 ghost use Rattle.std.specs.Str.Lines.{strip_carriage_return};
 ghost use Rattle.rlp.specs.Format.Encoding.{IsSized, encoding};
-ghost use Rattle.rlp_codec.specs.Form.{Fault};
+ghost use Rattle.rlp_reading.specs.Form.{Fault};
 ghost use Rattle.rlp_lines.specs.Digits.{bytes_in};
-ghost use Rattle.rlp_headers.specs.TypedReceipt.{any_receipt};
-ghost use Rattle.rlp_headers.specs.declared.typed_receipt.TypedReceipt.{TypedReceipt};
-ghost use Rattle.rlp_records.specs.Alone.{bytes_alone};
-ghost use Rattle.rlp_records.specs.Eip2718.{typed_alone};
-ghost use Rattle.rlp_records.specs.declared.known_or_other.KnownOrOther.{KnownOrOther};
-ghost use Rattle.rlp_transactions.specs.Transaction.{any_transaction};
-ghost use Rattle.rlp_transactions.specs.UnsignedTransaction.{unsigned_transaction, unsigned_types};
-ghost use Rattle.rlp_transactions.specs.declared.transaction.Transaction.{Transaction};
-ghost use Rattle.rlp_transactions.specs.declared.unsigned_transaction.UnsignedTransaction.{UnsignedTransaction};
-ghost use Rattle.rlp_trie.specs.TrieNode.{IsTrieNode, node_item, seen_node};
-ghost use Rattle.rlp_trie.specs.TrieNodeLaws.{trie_node};
-ghost use Rattle.rlp_trie.specs.declared.trie_node.TrieNode.{TrieNode};
-ghost use Rattle.rlp_print.specs.Items.{node_display};
-ghost use Rattle.rlp_print.specs.Json.{json_of};
-ghost use Rattle.rlp_print.specs.Records.{any_receipt_display};
-ghost use Rattle.rlp_print.specs.Transactions.{any_transaction_display, unsigned_display};
-ghost use Rattle.rlp_print.specs.Value.{Value, entry, object};
+ghost use Rattle.rlp_headers.specs.{TypedReceipt.any_receipt, declared.typed_receipt.TypedReceipt.TypedReceipt};
+ghost use Rattle.rlp_records.specs.{Alone.bytes_alone, Eip2718.typed_alone, declared.known_or_other.KnownOrOther.KnownOrOther};
+ghost use Rattle.rlp_transactions.specs.{Transaction.any_transaction, UnsignedTransaction.unsigned_transaction, UnsignedTransaction.unsigned_types};
+ghost use Rattle.rlp_transactions.specs.{declared.transaction.Transaction.Transaction, declared.unsigned_transaction.UnsignedTransaction.UnsignedTransaction};
+ghost use Rattle.rlp_trie.specs.{TrieNode.IsTrieNode, TrieNode.node_item, TrieNode.seen_node, TrieNodeLaws.trie_node, declared.trie_node.TrieNode.TrieNode};
 ghost use Rattle.rlp_show.specs.Answers.{IsAnswered, IsRead, answer_of, camel};
-ghost use Rattle.rlp_show.specs.Kinds.{kind_name};
-ghost use Rattle.rlp_show.specs.Request.{answers};
-ghost use Rattle.rlp_show.specs.Shown.{ShowsAs, kind_shown};
-ghost use Rattle.rlp_show.specs.declared.answers.Form.TheVariants.{Json};
-ghost use Rattle.rlp_show.specs.declared.kind.Kind.{Kind};
+ghost use Rattle.rlp_show.specs.{Display.shown_of, Display.told_of, Items.node_display, Json.json_of, Records.any_receipt_display};
+ghost use Rattle.rlp_show.specs.{Transactions.any_transaction_display, Transactions.unsigned_display, Value.Value, Value.entry, Value.object, Kinds.kind_name};
+ghost use Rattle.rlp_show.specs.{Request.answers, Shown.ShowsAs, Shown.kind_shown, declared.answers.Form.TheVariants.Json, declared.kind.Kind.Kind};
 ghost use Rattle.rlp_show.specs.declared.kind.Kind.TheVariants as kind;
 
+use crate::show::Show;
 use rlp::StrictRead;
+
+/// Values that are shown alike have in common what is told of them. Contracts see nothing else of
+/// most values: what is told is what they see, and the items that the values are written as are
+/// equal too.
+pub fn shown_values_are_told_apart<T: Show>()
+    ensures { (x y : T) → shown_of T.display x ≡ shown_of T.display y
+        → told_of T.display x ≡ told_of T.display y }
+{}
 
 /// If the digits of a line are the encoding of a value that fits, the answer is what is shown of the
 /// value. The kind is one that shows such values.

@@ -1,12 +1,12 @@
 //! Records that are lists of values alone.
 
-ghost use Rattle.std.specs.Prelude.{map};
-ghost use Rattle.std.specs.Vec.{vec_items};
-ghost use Rattle.rlp_codec.specs.Form.{list_reading};
-ghost use Rattle.rlp_print.specs.Display.{a_list, seen_as};
+ghost use Rattle.std.specs.{Prelude.map, Vec.vec_items};
+ghost use Rattle.rlp_reading.specs.Form.{list_reading};
+ghost use Rattle.rlp_show.specs.Display.{a_list, seen_as};
 
+use crate::show::{Items, Show};
+use crate::sink::Sink;
 use rlp::{Decodable, DecodePlaced, DecoderError, Rlp, put_list_path};
-use rlp_print::{Items, Show, Sink};
 use std::alloc::{AllocError, Global};
 
 /// A list of values.

@@ -1,5 +1,235 @@
-//! Messages between Ethereum's clients.
+//! Messages between clients: bodies of messages of `eth`, and messages of `p2p`.
 
-mod kind;
+ghost use Rattle.std.specs.{Prelude.map, Vec.vec_items};
+ghost use Rattle.rlp_messages.specs.P2p.{Disconnect.disconnect, Hello.capability, Hello.further_fields, Hello.hello};
+ghost use Rattle.rlp_messages.specs.Eth.Announcements.{block_range_update, new_block, new_block_hash, new_pooled_transaction_hashes};
+ghost use Rattle.rlp_messages.specs.Eth.{HashOrNumberLaws.hash_or_number, Receipts.block_receipts, Receipts69.block_receipts69, Receipts69.receipt69, Requests.get_block_headers, Status.fork_id, Status.status68, Status.status69};
+ghost use Rattle.rlp_show.specs.{Display.{a_list, an_object, end, seen_as}, Records.any_receipt_display};
+ghost use Rattle.rlp_show.specs.Messages as shown;
 
-pub use kind::MessageKind;
+use crate::show::{Items, Object, Show, ShowFields, give_fields, show_fields};
+use crate::sink::{BytesKind, Shown, Sink, bytes, number};
+use rlp_messages::{
+    BlockRangeUpdate, BlockReceipts, BlockReceipts69, Capability, Disconnect, ForkId, FurtherItem,
+    GetBlockHeaders, HashOrNumber, Hello, NewBlock, NewBlockHash, NewPooledTransactionHashes, Ping,
+    Pong, Receipt69, Status68, Status69, WithRequestId,
+};
+use std::alloc::{AllocError, Global};
+
+impl Show for ForkId {
+    ghost display = { seen_as fork_id.reading.seen shown.fork_id_display };
+
+    fn show<S: Sink>(&self, alloc: Global, name: &str, sink: &mut S) -> Result<(), AllocError> {
+        show_fields!(alloc, name, sink;
+            "fork_hash" "forkHash" &self.fork_hash.0; self.fork_next "forkNext";
+        )
+    }
+}
+
+impl Show for Status68 {
+    ghost display = { seen_as status68.reading.seen shown.status68_display };
+
+    fn show<S: Sink>(&self, alloc: Global, name: &str, sink: &mut S) -> Result<(), AllocError> {
+        show_fields!(alloc, name, sink;
+            self.version "version"; self.network_id "networkId";
+            self.total_difficulty "totalDifficulty"; self.block_hash "blockHash";
+            self.genesis_hash "genesisHash"; self.fork_id "forkId";
+        )
+    }
+}
+
+impl Show for Status69 {
+    ghost display = { seen_as status69.reading.seen shown.status69_display };
+
+    fn show<S: Sink>(&self, alloc: Global, name: &str, sink: &mut S) -> Result<(), AllocError> {
+        show_fields!(alloc, name, sink;
+            self.version "version"; self.network_id "networkId";
+            self.genesis_hash "genesisHash"; self.fork_id "forkId";
+            self.earliest_block "earliestBlock"; self.latest_block "latestBlock";
+            self.latest_block_hash "latestBlockHash";
+        )
+    }
+}
+
+impl Show for BlockRangeUpdate {
+    ghost display = { seen_as block_range_update.reading.seen (an_object shown.range_display) };
+
+    fn show<S: Sink>(&self, alloc: Global, name: &str, sink: &mut S) -> Result<(), AllocError> {
+        show_fields!(alloc, name, sink;
+            self.earliest_block "earliestBlock"; self.latest_block "latestBlock";
+            self.latest_block_hash "latestBlockHash";
+        )
+    }
+}
+
+impl Show for NewBlockHash {
+    ghost display = { seen_as new_block_hash.reading.seen shown.new_block_hash_display };
+
+    fn show<S: Sink>(&self, alloc: Global, name: &str, sink: &mut S) -> Result<(), AllocError> {
+        show_fields!(alloc, name, sink; self.hash "hash"; self.number "number";)
+    }
+}
+
+impl Show for NewPooledTransactionHashes {
+    ghost display = { seen_as new_pooled_transaction_hashes.reading.seen
+        shown.new_pooled_transaction_hashes_display };
+
+    fn show<S: Sink>(&self, alloc: Global, name: &str, sink: &mut S) -> Result<(), AllocError> {
+        show_fields!(alloc, name, sink;
+            self.types "types"; "sizes" "sizes" Items(&self.sizes);
+            "hashes" "hashes" Items(&self.hashes);
+        )
+    }
+}
+
+impl Show for NewBlock {
+    ghost display = { seen_as new_block.reading.seen shown.new_block_display };
+
+    fn show<S: Sink>(&self, alloc: Global, name: &str, sink: &mut S) -> Result<(), AllocError> {
+        show_fields!(alloc, name, sink;
+            self.block "block"; self.total_difficulty "totalDifficulty";
+        )
+    }
+}
+
+impl<T: Show> Show for WithRequestId<T> {
+    ghost display = { seen_as (λ w. (w.request_id, T.display.seen w.content))
+        (shown.with_request_id_display T.display.form) };
+
+    fn show<S: Sink>(&self, alloc: Global, name: &str, sink: &mut S) -> Result<(), AllocError> {
+        show_fields!(alloc, name, sink; self.request_id "requestId"; self.content "content")
+    }
+}
+
+impl Show for HashOrNumber {
+    ghost display = { seen_as hash_or_number.reading.seen shown.hash_or_number_display };
+
+    fn show<S: Sink>(&self, _alloc: Global, name: &str, sink: &mut S) -> Result<(), AllocError> {
+        match self {
+            HashOrNumber::Hash(hash) => sink.put(name, bytes(&hash.0)),
+            HashOrNumber::Number(n) => sink.put(name, number(*n)),
+        }
+    }
+}
+
+impl Show for GetBlockHeaders {
+    ghost display = { seen_as get_block_headers.reading.seen shown.get_block_headers_display };
+
+    fn show<S: Sink>(&self, alloc: Global, name: &str, sink: &mut S) -> Result<(), AllocError> {
+        show_fields!(alloc, name, sink;
+            self.start_block "startBlock"; self.limit "limit"; self.skip "skip";
+            "reverse" "reverse" number(self.reverse as u64);
+        )
+    }
+}
+
+impl Show for BlockReceipts {
+    ghost display = { seen_as block_receipts.reading.seen (a_list any_receipt_display) };
+
+    fn show<S: Sink>(&self, alloc: Global, name: &str, sink: &mut S) -> Result<(), AllocError> {
+        Items(&self.0).show(alloc, name, sink)
+    }
+}
+
+impl Show for Receipt69 {
+    ghost display = { seen_as receipt69.reading.seen shown.receipt69_display };
+
+    fn show<S: Sink>(&self, alloc: Global, name: &str, sink: &mut S) -> Result<(), AllocError> {
+        let kind = number(self.transaction_type as u64);
+        show_fields!(alloc, name, sink;
+            "transaction_type" "transactionType" kind;
+            &self.status_or_state_root;
+            self.cumulative_gas_used "cumulativeGasUsed";
+            "logs" "logs" Items(&self.logs);
+        )
+    }
+}
+
+impl Show for BlockReceipts69 {
+    ghost display = { seen_as block_receipts69.reading.seen (a_list shown.receipt69_display) };
+
+    fn show<S: Sink>(&self, alloc: Global, name: &str, sink: &mut S) -> Result<(), AllocError> {
+        Items(&self.0).show(alloc, name, sink)
+    }
+}
+
+/// An object without fields.
+impl Show for Ping {
+    ghost display = { seen_as (λ x. x) (an_object end) };
+
+    fn show<S: Sink>(&self, alloc: Global, name: &str, sink: &mut S) -> Result<(), AllocError> {
+        Object(&()).show(alloc, name, sink)
+    }
+}
+
+/// An object without fields.
+impl Show for Pong {
+    ghost display = { seen_as (λ x. x) (an_object end) };
+
+    fn show<S: Sink>(&self, alloc: Global, name: &str, sink: &mut S) -> Result<(), AllocError> {
+        Object(&()).show(alloc, name, sink)
+    }
+}
+
+/// The reason, in either form.
+impl Show for Disconnect {
+    ghost display = { seen_as disconnect.reading.seen shown.disconnect_display };
+
+    fn show<S: Sink>(&self, alloc: Global, name: &str, sink: &mut S) -> Result<(), AllocError> {
+        match self {
+            Disconnect::Listed(reason) | Disconnect::Bare(reason) => {
+                let number = number(u64::from(reason.number()));
+                show_fields!(alloc, name, sink; "reason" "reason" number)
+            }
+        }
+    }
+}
+
+impl Show for Capability {
+    ghost display = { seen_as capability.reading.seen shown.capability_display };
+
+    fn show<S: Sink>(&self, alloc: Global, name: &str, sink: &mut S) -> Result<(), AllocError> {
+        show_fields!(alloc, name, sink;
+            "name" "name" Shown::Bytes(BytesKind::Word, self.name.as_slice());
+            self.version "version";
+        )
+    }
+}
+
+impl Show for FurtherItem {
+    ghost display = { seen_as further_fields.reading.seen shown.further_item_display };
+
+    fn show<S: Sink>(&self, alloc: Global, name: &str, sink: &mut S) -> Result<(), AllocError> {
+        self.item.show(alloc, name, sink)
+    }
+}
+
+/// The items after the fields of a greeting, if there are some.
+#[derive(Clone, Copy)]
+struct Further<'a>(&'a Vec<FurtherItem>);
+
+impl ShowFields for Further<'_> {
+    ghost fields = { seen_as (λ f. map further_fields.reading.seen (vec_items f.0.now))
+        shown.further_display };
+
+    fn give<S: Sink>(&self, alloc: Global, name: &str, sink: &mut S) -> Result<(), AllocError> {
+        match self.0.as_slice() {
+            [] => Ok(()),
+            [_, ..] => give_fields!(alloc, name, sink; "further" "further" Items(self.0);),
+        }
+    }
+}
+
+impl Show for Hello {
+    ghost display = { seen_as hello.reading.seen shown.hello_display };
+
+    fn show<S: Sink>(&self, alloc: Global, name: &str, sink: &mut S) -> Result<(), AllocError> {
+        show_fields!(alloc, name, sink;
+            self.protocol_version "protocolVersion"; self.client_id "clientId";
+            "capabilities" "capabilities" Items(&self.capabilities);
+            self.listen_port "listenPort";
+            "node_id" "nodeId" &self.node_id.0;
+            Further(&self.further)
+        )
+    }
+}

@@ -1,15 +1,14 @@
 //! The names of the parts of records, by the path to a part.
 
 ghost use Rattle.std.specs.Prelude.{◌≡◌, IfOk, OnOk, map, string_bytes};
-ghost use Rattle.rlp_print.specs.Value.{inside, item_name};
 ghost use Rattle.rlp_show.specs.Names.{content, envelope, field_of, fields, in_field, in_list, in_part, is_list, item_in, kind_fields, kind_part, message_fields, naming, node_kind, opened, payload, pooled_kind, transaction_kind};
 
 use crate::kind::Kind;
-use crate::messages::MessageKind;
+use crate::message_kind::MessageKind;
+use crate::show::{put_inside, put_place};
 use rlp::Rlp;
 use rlp_trie::ends_in_leaf;
 use std::alloc::AllocError;
-use std::fmt::Write;
 
 /// Records whose parts have names. The parts of any other item have none.
 #[derive(Clone, Copy)]
@@ -247,7 +246,7 @@ impl Record {
     {
         match self.fields().get(place) {
             Some((own, part)) => {
-                put_own_name(own, name)?;
+                put_inside(own, name)?;
                 Ok(*part)
             }
             None => Ok(Part::One(Record::Other)),
@@ -319,24 +318,6 @@ impl Part {
             part => (part, item.clone()),
         }
     }
-}
-
-/// Appends the name of a field.
-fn put_own_name(own: &str, name: &mut String) -> Result<(), AllocError>
-    ensures { OnOk result (string_bytes name.new ≡ inside (string_bytes name.old) own.now) }
-{
-    if name.is_empty() {
-        return name.push_str(own);
-    }
-    name.push('.')?;
-    name.push_str(own)
-}
-
-/// Appends a place in a list.
-fn put_place(index: usize, name: &mut String) -> Result<(), AllocError>
-    ensures { OnOk result (string_bytes name.new ≡ item_name (string_bytes name.old) index) }
-{
-    write!(name, "[{index}]").map_err(|_| AllocError)
 }
 
 /// Returns the string of an item, or no bytes.

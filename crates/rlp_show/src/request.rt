@@ -22,8 +22,7 @@ pub enum Request {
 }
 
 impl Request {
-    ghost use Rattle.rlp_show.specs.Kinds.{kind_named};
-    ghost use Rattle.rlp_show.specs.Request.{form_request, one_request, request_of, two_request, word_request};
+    ghost use Rattle.rlp_show.specs.Request.{form_request, record_request, request_of, word_request};
 
     /// What these arguments ask for, without the name of the program. They are a kind, a record, or
     /// a kind and then a record, all after `--json` if the answers are to be in JSON, or after
@@ -41,52 +40,38 @@ impl Request {
         }
     }
 
-    /// What arguments ask for, with answers in this form.
+    /// What arguments ask for, with answers in this form. The first may name a kind.
     fn in_form(form: Form, words: &[String]) -> Request
         ensures { result ≡ form_request form (map string_bytes words.now) }
     {
         match words {
+            [first, rest @ ..] => match Kind::named(first.as_str()) {
+                None => Request::of_rest(Answers { kind: None, form }, words),
+                kind => Request::of_rest(Answers { kind, form }, rest),
+            },
             [] => Request::Lines(Answers { kind: None, form }),
-            [word] => Request::of_one(form, word.as_str()),
-            [first, word] => Request::of_two(form, first.as_str(), word.as_str()),
+        }
+    }
+
+    /// What the arguments after those for the answers ask for.
+    fn of_rest(answers: Answers, words: &[String]) -> Request
+        ensures { result ≡ record_request answers (map string_bytes words.now) }
+    {
+        match words {
+            [] => Request::Lines(answers),
+            [word] if is_record(word.as_str()) => Request::Record(answers),
+            [word] if answers.kind.is_none() => Request::of_word(word.as_str()),
             _ => Request::Unknown,
         }
     }
 
-    /// What one argument asks for.
-    fn of_one(form: Form, word: &str) -> Request
-        ensures { result ≡ one_request form (kind_named word.now) word.now }
-    {
-        match Kind::named(word) {
-            Some(kind) => Request::Lines(Answers {
-                kind: Some(kind),
-                form,
-            }),
-            None => Request::of_word(form, word),
-        }
-    }
-
-    /// What one argument asks for, if it isn't the name of a kind.
-    fn of_word(form: Form, word: &str) -> Request
-        ensures { result ≡ word_request form word.now }
+    /// What a word alone asks for that is neither a kind nor a record.
+    fn of_word(word: &str) -> Request
+        ensures { result ≡ word_request word.now }
     {
         match word {
             "--help" | "-h" => Request::Help,
             "--version" | "-V" => Request::Version,
-            _ if is_record(word) => Request::Record(Answers { kind: None, form }),
-            _ => Request::Unknown,
-        }
-    }
-
-    /// What two arguments ask for.
-    fn of_two(form: Form, first: &str, word: &str) -> Request
-        ensures { result ≡ two_request form (kind_named first.now) word.now }
-    {
-        match Kind::named(first) {
-            Some(kind) if is_record(word) => Request::Record(Answers {
-                kind: Some(kind),
-                form,
-            }),
             _ => Request::Unknown,
         }
     }

@@ -1,12 +1,8 @@
 //! The loop over the input, and what the program does for its arguments.
 
-ghost use Rattle.std.specs.Prelude.{◌≡◌, ◌≢◌, false, map, string_bytes, IfOk};
-ghost use Rattle.std.specs.IoError.{error_kind};
-ghost use Rattle.rlp_lines.specs.Lines.{last_of};
-ghost use Rattle.rlp_lines.specs.Run.{RunLeaves, TellsFault};
-ghost use Rattle.rlp_show.specs.Answers.{exit_status};
-ghost use Rattle.rlp_show.specs.Program.{AnswersInput, AnswersWord, Prints, Refuses, Serves, line_answer};
-ghost use Rattle.rlp_show.specs.Request.{request_of};
+ghost use Rattle.std.specs.{Prelude.{◌≡◌, ◌≢◌, false, map, string_bytes, IfOk}, IoError.error_kind};
+ghost use Rattle.rlp_lines.specs.{Lines.last_of, Run.RunLeaves, Run.TellsFault};
+ghost use Rattle.rlp_show.specs.{Program.{AnswersInput, AnswersWord, Prints, Refuses, Serves, line_answer}, Answers.exit_status, Request.request_of};
 
 use crate::answers::Answers;
 use crate::help::{HELP, UNKNOWN_ARGUMENTS, USAGE, VERSION};

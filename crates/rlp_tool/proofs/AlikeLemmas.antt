@@ -1,9 +1,7 @@
 -- Calls that finish, and calls that leave a list open.
 use Rattle.std.proofs.Common.{◌≡◌, ◌↔◌, ◌⊎◌, inr, true, false, refl, ℕ, List, Option, Some, None, IsNone, Result, Ok, Err, IfErr, ap, ◌∙◌}
-use Rattle.rlp.specs.Streams.Stream.{State, Call, after}
-use Rattle.rlp.specs.Streams.Described.{FinishAs}
-use Rattle.rlp_tool.specs.declared.building.BuildFault.{BuildFault}
-use Rattle.rlp_tool.specs.Building.{AreJoined, DescribeItems, IsRefusal, IsRefusalOver, LeaveOpen}
+use Rattle.rlp.specs.{Streams.Stream.{State, Call, after}, Streams.Described.FinishAs}
+use Rattle.rlp_tool.specs.{declared.building.BuildFault.BuildFault, Building.{AreJoined, DescribeItems, IsRefusal, LeaveOpen}}
 use Rattle.rlp_tool.proofs.CallsLemmas.{same_last}
 
 -- calls that finish leave no list open
@@ -28,13 +26,8 @@ described_by front calls bytes done = (done.items, done.shallow)
 
 -- ---- faults
 
-pub refused_over : {T : Type 0} (front : List ℕ) (calls : List Call) (r : Result T BuildFault) → IfErr r (IsRefusal front calls)
-    → IfErr r (IsRefusalOver front calls)
-refused_over front calls (Ok x) told = tt
-refused_over front calls (Err fault) told = inr told
-
 -- the first calls describe items, and the second have a fault
 pub second_refused : {T : Type 0} (front : List ℕ) (ones others : List Call) (r : Result T BuildFault) → DescribeItems front ones
-    → IfErr r (IsRefusalOver front others) → IfErr r (λ fault. IsRefusalOver front ones fault ⊎ (DescribeItems front ones × IsRefusalOver front others fault))
+    → IfErr r (IsRefusal front others) → IfErr r (λ fault. IsRefusal front ones fault ⊎ (DescribeItems front ones × IsRefusal front others fault))
 second_refused front ones others (Ok x) described told = tt
 second_refused front ones others (Err fault) described told = inr (described, told)

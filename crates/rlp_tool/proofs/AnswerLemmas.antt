@@ -1,7 +1,7 @@
 -- The answers to lines of calls.
-use Rattle.std.proofs.Common.{◌≡◌, ℕ, suc, ◌+◌, ◌^◌, ◌<◌, All, subst, Bool, true, false, cond, List, [], ◌∷◌, ◌++◌, length, append-nil, codes}
+use Rattle.std.proofs.Common.{◌≡◌, ℕ, suc, ◌+◌, ◌^◌, ◌<◌, All, subst, false, cond, List, [], ◌∷◌, ◌++◌, length, append-nil, codes}
 use Rattle.std.proofs.Common.{decimal, Result, Ok, Err, OnOk, IsTrue, nat_lt, refl, sym, ap, ◌∙◌, arith}
-use Rattle.std.proofs.lemmas.Bool.Decides.{nat_tests}
+use Rattle.std.proofs.{lemmas.Bool.{cond-true, cond-false, false_from_ne_true}, lemmas.Bool.Decides.nat_tests}
 use Rattle.rlp.specs.Format.Encoding.{Item, join, BeginsWith, IsSized}
 use Rattle.rlp.specs.Streams.Stream.{OpenList, Stack, State, initial_state, closed_size, raw_text}
 use Rattle.rlp.specs.Streams.Stream.{Call, append, append_empty_data, append_raw, append_raw_checked, begin_list, begin_unbounded_list}
@@ -9,33 +9,17 @@ use Rattle.rlp.specs.Streams.Stream.{finalize_unbounded_list, append_internal, e
 use Rattle.rlp.specs.Streams.Described.{Step, DescribesWhere, by_append, by_empty_data, by_raw, by_checked_raw, by_refused_raw, by_empty_list}
 use Rattle.rlp.specs.Streams.Described.{by_list, by_unbounded_list, by_finalize, by_internal_list, by_clear, AreDescribedWhere, IsDescribedWhere}
 use Rattle.rlp.specs.Streams.Described.{FinishAs}
-use Rattle.rlp_tool.specs.declared.making.LineFault.{LineFault}
-use Rattle.rlp_tool.specs.declared.making.LineFault.TheVariants.{Syntax, Failed}
+use Rattle.rlp_tool.specs.{declared.making.LineFault.LineFault, declared.making.LineFault.TheVariants.{Syntax, Failed}}
 use Rattle.rlp_tool.specs.declared.building.BuildFault.TheVariants.{TooManyItems, NothingToFinish, RawNotItems, OutOfMemory}
 use Rattle.rlp_tool.specs.Building.{AreRefused, AreTaken, BringsItems, BringsNoItems, BringsTooMany, HasNothingToFinish, StayOpen, is_raw, is_finish}
-use Rattle.rlp_tool.specs.Making.{AppendsFault, IsLineFault, MakesScript}
-use Rattle.rlp_tool.specs.RawItems.{IsShallow, are_raw_items}
-use Rattle.rlp_tool.specs.Script.{script}
-use Rattle.rlp_lines.specs.Replies.{answer_by}
+use Rattle.rlp_tool.specs.{Making.{AppendsFault, IsLineFault, MakesScript}, RawItems.{IsShallow, are_raw_items}, Script.script}
 use Rattle.rlp_tool.specs.Answer.{SaysCalls, answer, answer_within, long_line, longest_line, brings_items, text_answer, finished_answer, open_answer}
 use Rattle.rlp_tool.specs.Answer.{state_answer, refusal_name, outcome_answer, calls_answer}
-use Rattle.rlp_tool.proofs.CallsLemmas.{Leaves, refused_for}
-use Rattle.rlp_tool.proofs.SaidLemmas.{EndFinished, end_finished, length-stripped, script_said}
+use Rattle.rlp_lines.specs.Replies.{answer_by}
+use Rattle.rlp_tool.proofs.{CallsLemmas.{Leaves, cond_ok}, SaidLemmas.{EndFinished, end_finished, length-stripped, script_said}}
 use Rattle.rlp_tool.proofs.RawLemmas.{are_raw_items-join, are_raw_items-told}
 
-cond-true : {A : Type 0} (b : Bool) (x y : A) → IsTrue b → cond b x y ≡ x
-cond-true true x y h = refl
-cond-true false x y h = absurd (let never : ⊥ = cc in never)
-
-cond-false : {A : Type 0} (b : Bool) (x y : A) → b ≡ false → cond b x y ≡ y
-cond-false true x y h = absurd (let never : ⊥ = cc in never)
-cond-false false x y h = refl
-
 -- ---- calls that aren't refused
-
-cond_ok : (b : Bool) (r : Result State ℕ) (n : ℕ) (s : State) → cond b r (Err n) ≡ Ok s → r ≡ Ok s
-cond_ok true r n s e = e
-cond_ok false r n s e = absurd (let never : ⊥ = cc in never)
 
 -- a call that is a step passes the test of its raw bytes
 step_passes : (c : Call) (m : Step) (s : State) → DescribesWhere IsShallow s c m → IsTrue (brings_items c)
@@ -71,7 +55,7 @@ outcome-taken (c ∷ before) later [] n s t d e = absurd d
 outcome-taken (c ∷ before) later (m ∷ steps) n s t d e =
     let more : n + 1 + length before ≡ n + suc (length before) = omega arith in
     outcome-next n s c (before ++ later) d.0 (step_passes c m s d.1)
-    ∙ outcome-taken before later steps (n + 1) (effect c s) t d.2 (cond_ok (is_admitted c s) (after_from (n + 1) (effect c s) before) n t e)
+    ∙ outcome-taken before later steps (n + 1) (effect c s) t d.2 (cond_ok (is_admitted c s) (after_from (n + 1) (effect c s) before) n t e).1
     ∙ ap (λ (k : ℕ). outcome_answer k t later) more
 
 -- the result of calls, none of which is refused, is that of the state after them
@@ -144,15 +128,11 @@ answer-nothing calls place r =
     (sym (cond-false (is_raw r.call) (codes "error too many items at ") (codes "error nothing to finish at ") (is_raw-finish r.call r.refused.1)))
     ∙ sym (refused-first calls place r ∙ outcome-barred place r.met r.call r.later r.refused.0)
 
-told : (b : Bool) → (IsTrue b → ⊥) → b ≡ false
-told true h = absurd (h refl)
-told false h = refl
-
 -- raw bytes that aren't items fail the test
 fails : (c : Call) → (BringsItems c → ⊥) → brings_items c ≡ false
 fails (append x) h = absurd (h tt)
 fails append_empty_data h = absurd (h tt)
-fails (append_raw bytes k) h = told (are_raw_items bytes k) (λ passed. h (are_raw_items-told bytes k passed))
+fails (append_raw bytes k) h = false_from_ne_true (are_raw_items bytes k) (λ passed. h (are_raw_items-told bytes k passed))
 fails (append_raw_checked bytes k limit) h = absurd (h tt)
 fails (begin_list n) h = absurd (h tt)
 fails begin_unbounded_list h = absurd (h tt)
@@ -173,11 +153,11 @@ answer-no_items calls place r =
 answer-fault : (text old new : List ℕ) (fault : LineFault) → IsLineFault text fault → AppendsFault old new fault → new ≡ old ++ calls_answer (script text)
 answer-fault text old new (Syntax place) is e = e ∙ ap (λ (r : Result (List Call) ℕ). old ++ calls_answer r) (sym is)
 answer-fault text old new (Failed (TooManyItems place)) f e =
-    e ∙ ap (λ (a : List ℕ). old ++ a) (answer-too_many f.calls place (refused_for place f.stops f.stops.refused) ∙ ap calls_answer (sym f.says))
+    e ∙ ap (λ (a : List ℕ). old ++ a) (answer-too_many f.calls place f.stops ∙ ap calls_answer (sym f.says))
 answer-fault text old new (Failed (NothingToFinish place)) f e =
-    e ∙ ap (λ (a : List ℕ). old ++ a) (answer-nothing f.calls place (refused_for place f.stops f.stops.refused) ∙ ap calls_answer (sym f.says))
+    e ∙ ap (λ (a : List ℕ). old ++ a) (answer-nothing f.calls place f.stops ∙ ap calls_answer (sym f.says))
 answer-fault text old new (Failed (RawNotItems place)) f e =
-    e ∙ ap (λ (a : List ℕ). old ++ a) (answer-no_items f.calls place (refused_for place f.stops f.stops.refused) ∙ ap calls_answer (sym f.says))
+    e ∙ ap (λ (a : List ℕ). old ++ a) (answer-no_items f.calls place f.stops ∙ ap calls_answer (sym f.says))
 answer-fault text old new (Failed OutOfMemory) f e = absurd e
 
 -- the same, if it was printed

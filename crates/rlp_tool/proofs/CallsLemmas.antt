@@ -1,29 +1,25 @@
 -- Calls of a stream, one after another.
-use Rattle.std.proofs.Common.{◌≡◌, ℕ, zero, suc, ◌+◌, ◌^◌, ◌<◌, ◌≤◌, Bool, true, false, cond, List, [], ◌∷◌, ◌++◌, length, map, take, drop}
-use Rattle.std.proofs.Common.{take-append-drop, get_or, Option, Some, None, Result, Ok, Err, IfOk, IfErr, OnErr, OnOk, IsTrue, All, Vec, refl, sym}
-use Rattle.std.proofs.Common.{ap, ◌∙◌, nat_le, arith, subst}
-use Rattle.std.specs.declared.alloc.Global.{Global}
-use Rattle.std.specs.List.{AllByRecursion}
-use Rattle.std.proofs.lemmas.List.Elements.{All-from_recursion}
+use Rattle.std.proofs.Common.{◌≡◌, ℕ, zero, suc, ◌+◌, ◌^◌, ◌<◌, Bool, true, false, cond, List, [], ◌∷◌, ◌++◌, length, map}
+use Rattle.std.proofs.Common.{Option, Some, None, Result, Ok, Err, IfErr, OnOk, IsTrue, All, Vec, refl, sym}
+use Rattle.std.proofs.{Common.{ap, ◌∙◌, nat_le, arith, subst}, lemmas.Bool.cond-true}
+use Rattle.std.specs.{declared.alloc.Global.Global}
+use Rattle.rlp.proofs.Streams.Descriptions.{steps_anyhow}
 use Rattle.rlp.specs.Format.Encoding.{Item, string, list, list_of, join, IsSized}
 use Rattle.rlp.specs.Streams.Stream.{OpenList, Stack, empty_stack, has_room, awaited, State, initial_state, IsFinished, put, count, put_item, after_from}
 use Rattle.rlp.specs.Streams.Stream.{Call, append, append_empty_data, append_raw, append_raw_checked, begin_list, begin_unbounded_list}
 use Rattle.rlp.specs.Streams.Stream.{finalize_unbounded_list, append_internal, encode_value, clear, effect, is_admitted, is_within_size, after}
-use Rattle.rlp.specs.Streams.Described.{Step, brings, opens, finishes, clears, DescribesWhere, Describes, by_append, by_empty_data, by_raw}
+use Rattle.rlp.specs.Streams.Described.{Step, brings, opens, finishes, clears, DescribesWhere, by_append, by_empty_data, by_raw}
 use Rattle.rlp.specs.Streams.Described.{by_checked_raw, by_refused_raw, by_empty_list, by_list, by_unbounded_list, by_finalize, by_internal_list}
-use Rattle.rlp.specs.Streams.Described.{by_clear, AreDescribedWhere, AreDescribed, IsDescribed, IsDescribedWhere, IsAny, items_after_all, joined_list}
+use Rattle.rlp.specs.Streams.Described.{by_clear, AreDescribedWhere, AreDescribed, IsDescribedWhere, items_after_all, joined_list}
 use Rattle.rlp.specs.Streams.Described.{joined_stack}
-use Rattle.rlp_tool.specs.declared.building.Built.{Built}
-use Rattle.rlp_tool.specs.declared.building.Built.TheVariants.{Finished, Open}
+use Rattle.rlp_tool.specs.{declared.building.Built.Built, declared.building.Built.TheVariants.{Finished, Open}}
 use Rattle.rlp_tool.specs.declared.building.BuildFault.{BuildFault}
 use Rattle.rlp_tool.specs.declared.building.BuildFault.TheVariants.{TooManyItems, NothingToFinish, RawNotItems, OutOfMemory}
 use Rattle.rlp_tool.specs.declared.calls.StreamCall.{StreamCall}
 use Rattle.rlp_tool.specs.declared.calls.StreamCall.TheVariants.{Value, Values, Raw, Begin, BeginUnbounded, Finish, Clear}
-use Rattle.rlp_tool.specs.RawItems.{AreRawItems, IsShallow}
-use Rattle.rlp_tool.specs.StreamCalls.{call_of}
-use Rattle.rlp_tool.specs.Building.{AreRefused, AreTaken, BringsItems, IsBuilt, IsJoined, IsRefusal}
-use Rattle.rlp_tool.specs.Building.{AreJoined, IsFinishedAs, IsSomeStep, takes_memory}
-use Rattle.rlp_tool.specs.Making.{AreMade, IsHeld, IsUnfit, Stops}
+use Rattle.rlp_tool.specs.{RawItems.{AreRawItems, IsShallow}, StreamCalls.call_of}
+use Rattle.rlp_tool.specs.{Building.{AreRefused, AreTaken, BringsItems, IsBuilt, IsJoined, IsRefusal}, Building.{AreJoined, IsFinishedAs, IsSomeStep}}
+use Rattle.rlp_tool.specs.Making.{AreMade, IsHeld}
 
 -- room for k items, by the number of awaited items
 abbrev pub room_for : ℕ → Option ℕ → Bool
@@ -39,10 +35,6 @@ room k (l ∷ ls) = room_in l.awaits
     room_in (Some n) = refl
 
 -- ---- one call
-
-cond-yes : {A : Type 0} (b : Bool) (x y : A) → IsTrue b → cond b x y ≡ x
-cond-yes true x y h = refl
-cond-yes false x y h = absurd (let no : ⊥ = cc in no)
 
 cond-front : (b : Bool) (x y : State) (f : List ℕ) → x.front ≡ f → y.front ≡ f → (cond b x y).front ≡ f
 cond-front true x y f e g = e
@@ -68,7 +60,7 @@ effect-front clear s = refl
 
 -- ---- the calls so far
 
-cond_ok : (b : Bool) (r : Result State ℕ) (n : ℕ) (s : State) → cond b r (Err n) ≡ Ok s → IsTrue b × (r ≡ Ok s)
+pub cond_ok : (b : Bool) (r : Result State ℕ) (n : ℕ) (s : State) → cond b r (Err n) ≡ Ok s → IsTrue b × (r ≡ Ok s)
 cond_ok true r n s e = (refl, e)
 cond_ok false r n s e = absurd (let no : ⊥ = cc in no)
 
@@ -77,11 +69,11 @@ after-more : (calls : List Call) (c : Call) (n : ℕ) (s t : State) → after_fr
     → after_from n s (calls ++ c ∷ []) ≡ Ok (effect c t)
 after-more [] c n s t e admitted =
     let same : s ≡ t = cc in
-    cond-yes (is_admitted c s) (Ok (effect c s)) (Err n) (subst (λ (u : State). IsTrue (is_admitted c u)) (sym same) admitted)
+    cond-true (is_admitted c s) (Ok (effect c s)) (Err n) (subst (λ (u : State). IsTrue (is_admitted c u)) (sym same) admitted)
     ∙ ap (λ (u : State). Ok (effect c u)) same
 after-more (d ∷ calls) c n s t e admitted =
     let (here, rest) = cond_ok (is_admitted d s) (after_from (n + 1) (effect d s) calls) n t e in
-    cond-yes (is_admitted d s) (after_from (n + 1) (effect d s) (calls ++ c ∷ [])) (Err n) here ∙ after-more calls c (n + 1) (effect d s) t rest admitted
+    cond-true (is_admitted d s) (after_from (n + 1) (effect d s) (calls ++ c ∷ [])) (Err n) here ∙ after-more calls c (n + 1) (effect d s) t rest admitted
 
 described-more : (calls : List Call) (steps : List Step) (c : Call) (m : Step) (n : ℕ) (s t : State) → AreDescribedWhere IsShallow s calls steps
     → after_from n s calls ≡ Ok t → IsTrue (is_admitted c t) → DescribesWhere IsShallow t c m
@@ -114,121 +106,6 @@ made_more front calls c s t made admitted (m, step) moved = record {
   admitted = after-more calls c 1 (initial_state front) s made.admitted admitted ∙ ap (λ (u : State). Ok u) (sym moved);
   same_front = ap (λ (u : State). u.front) moved ∙ effect-front c s ∙ made.same_front;
 }
-
-pub take-next : {E : Type 0} (f : E → Call) (xs : List E) (i : ℕ) (x : E) → i < length xs → x ≡ get_or xs i x
-    → take (i + 1) (map f xs) ≡ take i (map f xs) ++ f x ∷ []
-take-next f [] i x h e = absurd (omega arith)
-take-next f (y ∷ ys) zero x h e = ap (λ z. f z ∷ []) (sym e)
-take-next f (y ∷ ys) (suc i) x h e =
-    let one_more : suc i + 1 ≡ suc (i + 1) = omega arith in
-    ap (λ (k : ℕ). take k (map f (y ∷ ys))) one_more ∙ ap (λ cs. f y ∷ cs) (take-next f ys i x (omega arith) e)
-
-pub take-all : {E : Type 0} (f : E → Call) (xs : List E) (i : ℕ) → length xs ≤ i → take i (map f xs) ≡ map f xs
-take-all f [] zero h = refl
-take-all f [] (suc i) h = refl
-take-all f (y ∷ ys) zero h = absurd (omega arith)
-take-all f (y ∷ ys) (suc i) h = ap (λ cs. f y ∷ cs) (take-all f ys i (omega arith))
-
-pub length-made : {E : Type 0} (f : E → Call) (xs : List E) (i : ℕ) → i ≤ length xs → length (take i (map f xs)) ≡ i
-length-made f xs zero h = refl
-length-made f [] (suc i) h = absurd (omega (arith, h))
-length-made f (y ∷ ys) (suc i) h = ap suc (length-made f ys i (omega (arith, h)))
-
--- the calls that are made, and those behind them
-pub split-next : {E : Type 0} (f : E → Call) (xs : List E) (i : ℕ) (x : E) → i < length xs → x ≡ get_or xs i x
-    → (take i (map f xs) ++ f x ∷ []) ++ drop (i + 1) (map f xs) ≡ map f xs
-split-next f xs i x h e = ap (λ cs. cs ++ drop (i + 1) (map f xs)) (sym (take-next f xs i x h e)) ∙ take-append-drop (i + 1) (map f xs)
-
--- a call fails for this reason
-pub refused_for : {unfit : Call → State → ℕ → BuildFault → Type 0} {reason : Call → State → Type 0} {front : List ℕ} {calls : List Call} {fault : BuildFault} (place : ℕ)
-    (s : Stops unfit front calls fault) → (place ≡ suc (length s.before)) × reason s.call s.met → AreRefused reason front calls place
-refused_for place s (counted, why) = record {
-  before = s.before;
-  call = s.call;
-  later = s.later;
-  in_order = s.in_order;
-  counted = counted;
-  taken = s.made.taken;
-  met = s.met;
-  admitted = s.made.admitted;
-  refused = why;
-}
-
-pub refused : (front : List ℕ) (calls : List Call) (fault : BuildFault) → Stops IsUnfit front calls fault → IsRefusal front calls fault
-refused front calls (TooManyItems place) s = refused_for place s s.refused
-refused front calls (NothingToFinish place) s = refused_for place s s.refused
-refused front calls (RawNotItems place) s = refused_for place s s.refused
-refused front calls OutOfMemory s = record {
-  before = s.before;
-  call = s.call;
-  later = s.later;
-  in_order = s.in_order;
-  taken = (made_more front s.before s.call s.met (effect s.call s.met) s.made s.refused.0.0 s.refused.1 refl).taken;
-  takes = s.refused.0.1;
-}
-
--- ---- memory for what is open in the end
-
--- the first call that takes memory, of calls that are steps from the state s on
-record IsFirstTaking (s : State) (calls : List Call) : Type 0 where
-  before : List Call
-  call : Call
-  later : List Call
-  in_order : calls ≡ before ++ call ∷ later
-  steps : List Step
-  described : AreDescribedWhere IsShallow s (before ++ call ∷ []) steps
-  takes : IsTrue (takes_memory call)
-
--- a call that takes none leaves no list open
-clears_all : (c : Call) (s : State) → takes_memory c ≡ false → (effect c s).stack.lists ≡ []
-clears_all (append x) s none = absurd (let no : ⊥ = cc in no)
-clears_all append_empty_data s none = absurd (let no : ⊥ = cc in no)
-clears_all (append_raw bytes k) s none = absurd (let no : ⊥ = cc in no)
-clears_all (append_raw_checked bytes k limit) s none = absurd (let no : ⊥ = cc in no)
-clears_all (begin_list n) s none = absurd (let no : ⊥ = cc in no)
-clears_all begin_unbounded_list s none = absurd (let no : ⊥ = cc in no)
-clears_all finalize_unbounded_list s none = absurd (let no : ⊥ = cc in no)
-clears_all (append_internal x) s none = absurd (let no : ⊥ = cc in no)
-clears_all (encode_value t) s none = absurd (let no : ⊥ = cc in no)
-clears_all clear s none = refl
-
--- if a list is open at the end, and none was at the beginning, a call took memory
-first_taking : (calls : List Call) (steps : List Step) (n : ℕ) (s t : State) → AreDescribedWhere IsShallow s calls steps → after_from n s calls ≡ Ok t
-    → s.stack.lists ≡ [] → ¬ IsFinished t → IsFirstTaking s calls
-first_taking [] steps n s t d e none unended =
-    let same : s ≡ t = cc in absurd (unended (ap (λ (u : State). u.stack.lists) (sym same) ∙ none))
-first_taking (c ∷ calls) [] n s t d e none unended = absurd d
-first_taking (c ∷ calls) (m ∷ steps) n s t d e none unended =
-    elim (takes_memory c) as (λ test. takes_memory c ≡ test → IsFirstTaking s (c ∷ calls)) [
-      | true ↦ λ takes. record { before = []; call = c; later = calls; in_order = refl; steps = m ∷ []; described = (d.0, d.1, tt); takes = takes }
-      | false ↦ λ free.
-          let f = first_taking calls steps (n + 1) (effect c s) t d.2 (cond_ok (is_admitted c s) (after_from (n + 1) (effect c s) calls) n t e).1
-          (clears_all c s free) unended in
-          record {
-            before = c ∷ f.before;
-            call = f.call;
-            later = f.later;
-            in_order = ap (λ (cs : List Call). c ∷ cs) f.in_order;
-            steps = m ∷ f.steps;
-            described = (d.0, d.1, f.described);
-            takes = f.takes;
-          }
-    ] refl
-
--- memory was refused for what is still open
-pub refused_at_end : (front : List ℕ) (calls : List Call) (s : State) (fault : BuildFault) → AreMade front calls s → fault ≡ OutOfMemory
-    → ¬ IsFinished s → IsRefusal front calls fault
-refused_at_end front calls s fault made is unended =
-    let f = first_taking calls made.taken.steps 1 (initial_state front) s made.taken.described made.admitted refl unended in
-    subst (IsRefusal front calls) (sym is) (record {
-      before = f.before;
-      call = f.call;
-      later = f.later;
-      in_order = f.in_order;
-      taken = record { steps = f.steps; described = f.described };
-      takes
-          = f.takes;
-    })
 
 -- ---- the step that a call is
 
@@ -295,32 +172,6 @@ step_brings _ _ s by_unbounded_list = tt
 step_brings _ _ s by_finalize = tt
 step_brings _ _ s (by_internal_list xs) = tt
 step_brings _ _ s by_clear = tt
-
-any_items : (xs : List Item) → All IsAny xs
-any_items xs = All-from_recursion IsAny xs (any_by xs)
-  where
-    any_by : (ys : List Item) → AllByRecursion IsAny ys
-    any_by [] = tt
-    any_by (y ∷ ys) = (tt, any_by ys)
-
-described_anyhow : (c : Call) (m : Step) (s : State) → DescribesWhere IsShallow s c m → Describes s c m
-described_anyhow _ _ s (by_append x) = by_append x
-described_anyhow _ _ s by_empty_data = by_empty_data
-described_anyhow _ _ s (by_raw xs sized shallow) = by_raw xs sized (any_items xs)
-described_anyhow _ _ s (by_checked_raw xs limit sized shallow within) = by_checked_raw xs limit sized (any_items xs) within
-described_anyhow _ _ s (by_refused_raw bytes k limit beyond) = by_refused_raw bytes k limit beyond
-described_anyhow _ _ s by_empty_list = by_empty_list
-described_anyhow _ _ s (by_list n) = by_list n
-described_anyhow _ _ s by_unbounded_list = by_unbounded_list
-described_anyhow _ _ s by_finalize = by_finalize
-described_anyhow _ _ s (by_internal_list xs) = by_internal_list xs
-described_anyhow _ _ s by_clear = by_clear
-
-all_described_anyhow : (s : State) (calls : List Call) (steps : List Step) → AreDescribedWhere IsShallow s calls steps → AreDescribed s calls steps
-all_described_anyhow s [] [] d = tt
-all_described_anyhow s [] (m ∷ steps) d = absurd d
-all_described_anyhow s (c ∷ calls) [] d = absurd d
-all_described_anyhow s (c ∷ calls) (m ∷ steps) d = (d.0, described_anyhow c m s d.1, all_described_anyhow (effect c s) calls steps d.2)
 
 -- a described call, in the state before it
 described-at : (before : List Call) (c : Call) (later : List Call) (steps : List Step) (n : ℕ) (s t : State)
@@ -391,10 +242,9 @@ pub are_joined : (front : List ℕ) (calls : List Call) (s : State) (bytes : Lis
     → AreJoined front calls bytes
 are_joined front calls s bytes taken law made closed is =
     let k : Stack Item = items_after_all taken.steps empty_stack in
-    let each : AreDescribed (initial_state front) calls taken.steps = all_described_anyhow (initial_state front) calls taken.steps taken.described in
-    let (last, admitted, same_front, stack) = law each in
-    let same : s ≡ last = same_last (after front calls) s last made admitted in
-    let stacks : s.stack ≡ joined_stack k = ap (λ (u : State). u.stack) same ∙ stack in
+    let each : AreDescribed (initial_state front) calls taken.steps = steps_anyhow IsShallow front calls taken.steps taken.described in
+    let (last, admitted, same, stack) = law each in
+    let stacks : s.stack ≡ joined_stack k = ap (λ (u : State). u.stack) (same_last (after front calls) s last made admitted) ∙ stack in
     let none : k.lists ≡ [] = no_lists k.lists (sym (ap (λ (t : Stack ℕ). t.lists) stacks) ∙ closed) in
     let finished : k ≡ record { inner = k.inner; lists = [] } = ap (λ ls. record k { lists = ls }) none in
     record {
@@ -410,20 +260,12 @@ joined_built front calls s (Finished bytes) made law (closed, is) =
     are_joined front calls s bytes.items made.taken law made.admitted closed (is ∙ ap (λ (f : List ℕ). f ++ s.stack.inner) made.same_front)
 joined_built front calls s (Open size raw) made law is = tt
 
--- shallow items are described like all others
-pub described_items : (front : List ℕ) (calls : List Call) (items : List Item) → IsDescribedWhere IsShallow front calls items → IsDescribed front calls items
-described_items front calls items d =
-    record { steps = d.steps; described = all_described_anyhow (initial_state front) calls d.steps d.described; finished = d.finished }
-
 -- ---- through a result
 
-pub IfOk-map : {T E : Type 0} (r : Result T E) {P Q : T → Type 0} → ((x : T) → P x → Q x) → IfOk r P → IfOk r Q
-IfOk-map (Ok x) f p = f x p
-IfOk-map (Err e) f p = tt
-
-pub IfErr-both : {T E : Type 0} (r : Result T E) {P Q : E → Type 0} {R : Type 0} → ((x : E) → P x → R → Q x) → IfErr r P → OnErr r R → IfErr r Q
-IfErr-both (Ok x) f p q = tt
-IfErr-both (Err e) f p q = f e p q
+pub memory_refused : {T : Type 0} (front : List ℕ) (calls : List Call) (r : Result T BuildFault) → IfErr r (λ fault. fault ≡ OutOfMemory)
+    → IfErr r (IsRefusal front calls)
+memory_refused front calls (Ok x) is = tt
+memory_refused front calls (Err fault) is = subst (IsRefusal front calls) (sym is) tt
 
 pub OnOk-all : {T E P : Type 0} (r : Result T E) → P → OnOk r P
 OnOk-all (Ok x) p = p

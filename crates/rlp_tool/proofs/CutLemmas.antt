@@ -1,39 +1,25 @@
 -- Pieces of a text, cut at a byte.
-use Rattle.std.proofs.Common.{◌≡◌, ◌≢◌, IsSome, IsTrue, nat_eq, option_map, ℕ, ◌+◌, ◌-◌, ◌<◌, ◌==◌, ◌&&◌, Bool, true, false, cond, nat_lt, List, []}
+use Rattle.std.proofs.Common.{◌≡◌, ◌≢◌, IsTrue, nat_eq, option_map, ℕ, ◌+◌, ◌-◌, ◌%◌, ◌<◌, ◌==◌, ◌&&◌, Bool, true, false, cond, nat_lt, List, []}
 use Rattle.std.proofs.Common.{◌∷◌, ◌++◌, length, take, drop, get_or, is_some, Option, Some, None, Result, Ok, Err, refl, sym, ap, ◌∙◌}
-use Rattle.std.proofs.Common.{append_assoc, append-nil, length-append, arith, position, filter_map}
-use Rattle.std.specs.List.{slice_split, list_all, prefix_len, position_or_len, cons_option}
-use Rattle.std.proofs.lemmas.List.{drop-drop, take_all, length-drop}
-use Rattle.std.proofs.lemmas.List.Splits.{slice_split_first, slice_split_none}
-use Rattle.std.proofs.lemmas.List.Elements.{All-from_get_or}
-use Rattle.std.proofs.lemmas.List.Sums.{fails_before_first, position_or_len_is}
-use Rattle.std.proofs.lemmas.Bool.{and_parts, eqb-true}
-use Rattle.std.proofs.lemmas.Bool.Decides.{nat_tests}
-use Rattle.std.specs.Borrow.{Bor}
-use Rattle.rlp.specs.Streams.Stream.{Call, append}
-use Rattle.hex.specs.Hex.{is_hex_digit}
-use Rattle.rlp.specs.Format.Encoding.{string}
+use Rattle.std.proofs.{Common.{append_assoc, length-append, subst, arith, position, filter_map}, lemmas.List.{drop-drop, take_all, length-drop}}
+use Rattle.std.proofs.{lemmas.List.Splits.{slice_split_first, slice_split_none}, lemmas.List.Elements.All-from_get_or}
+use Rattle.std.proofs.lemmas.List.Sums.{AllPass-from_list_all, fails_before_first, position_or_len_is}
+use Rattle.std.proofs.{lemmas.Bool.{and_parts, eqb-true, false_from_ne_true}, lemmas.Option.cond_some, lemmas.Bool.Decides.nat_tests}
+use Rattle.std.specs.{List.{slice_split, list_all, prefix_len, position_or_len, cons_option}, Result.{result_ok, result_unwrap_or}, Borrow.Bor}
+use Rattle.rlp.specs.{Streams.Stream.{Call, append}, Format.Encoding.string}
+use Rattle.hex.specs.Hex.{decode_of, is_hex_digit}
+use Rattle.hex.proofs.HexLemmas.{decode_of-digits}
 use Rattle.rlp_lines.specs.Digits.{number_in, bytes_in, digits_of}
-use Rattle.rlp_tool.specs.Pieces.{bytes_of, pieces_left, spaces}
-use Rattle.rlp_tool.specs.Script.{raw_call, raw_parts, call_in, calls_in, is_call, script, AddsCall, IsUnread, IsScriptFault}
-use Rattle.rlp_tool.specs.declared.script.ScriptFault.{ScriptFault}
-use Rattle.rlp_tool.specs.declared.script.ScriptFault.TheVariants.{Syntax, OutOfMemory}
-
-is-false : (b : Bool) → (b ≡ true → ⊥) → b ≡ false
-is-false true other = absurd (other refl)
-is-false false other = refl
+use Rattle.rlp_tool.specs.{declared.script.Piece.Piece, Pieces.{IsRead, bytes_of, left_len, piece_call, pieces_left, spaces}}
+use Rattle.rlp_tool.specs.Script.{raw_call, raw_parts, call_in, calls_in, is_call, prepend}
 
 -- the first such byte that a loop finds
 pub first_near : (a : ℕ) (bytes : List ℕ) (at : ℕ) → at < length bytes → ((k : ℕ) → k < at → get_or bytes k 0 ≢ a) → get_or bytes at 0 ≡ a
     → Some at ≡ position (λ b. b == a) bytes
 first_near a bytes at inside before here =
     let found : position_or_len (λ b. b == a) bytes ≡ at = position_or_len_is (λ b. b == a) bytes at 0 (omega arith)
-    (λ k lt. is-false (get_or bytes k 0 == a) (λ e. before k lt (eqb-true (get_or bytes k 0) a e))) (λ lt. grind (arith, here, nat_tests)) in
+    (λ k lt. false_from_ne_true (get_or bytes k 0 == a) (λ e. before k lt (eqb-true (get_or bytes k 0) a e))) (λ lt. grind (arith, here, nat_tests)) in
     grind (arith, found, inside)
-
-found_is : (test : Bool) (end at : ℕ) → cond test (Some end) None ≡ Some at → (test ≡ true) × (end ≡ at)
-found_is true end at e = (refl, cc)
-found_is false end at e = absurd (let no : ⊥ = cc in no)
 
 none_is : (test : Bool) (end : ℕ) → cond test (Some end) None ≡ None → test ≡ false
 none_is true end e = absurd (let no : ⊥ = cc in no)
@@ -44,7 +30,7 @@ pub cut-there : (a : ℕ) (xs : List ℕ) (at : ℕ) → position (λ b. b == a)
     → slice_split (λ b. b == a) xs ≡ take at xs ∷ slice_split (λ b. b == a) (drop (at + 1) xs)
 cut-there a xs at e =
     let end = position_or_len (λ b. b == a) xs in
-    let found = found_is (nat_lt end (length xs)) end at e in
+    let found = cond_some (nat_lt end (length xs)) end at e in
     let test : nat_lt end (length xs) ≡ true = found.0 in
     let inside : end < length xs = grind (arith, nat_tests) in
     slice_split_first (λ b. b == a) xs 0 inside ∙ ap (λ (n : ℕ). take n xs ∷ slice_split (λ b. b == a) (drop (n + 1) xs)) found.1
@@ -59,67 +45,69 @@ cut-nowhere a xs e =
 
 -- ---- reading piece by piece
 
--- the result of a piece, by its call, and of the pieces after it, after some calls
-abbrev left_by : Option Call → List Call → List (List ℕ) → Result (List Call) ℕ
-left_by o calls pieces =
-    cond (is_some o && list_all is_call pieces) (Ok (calls ++ cons_option o (filter_map call_in pieces)))
-    (Err (length calls + 1 + cond (is_some o) (1 + prefix_len is_call pieces) 0))
+pub prepend-nil : (left : Result (List Call) ℕ) → prepend [] left ≡ left
+prepend-nil (Ok calls) = refl
+prepend-nil (Err place) = let same : 0 + place ≡ place = omega arith in ap (λ n. Err n) same
 
--- the result of the pieces that are left, after some calls
-abbrev pub left : List Call → List (List ℕ) → Result (List Call) ℕ
-left calls pieces = cond (list_all is_call pieces) (Ok (calls ++ filter_map call_in pieces)) (Err (length calls + 1 + prefix_len is_call pieces))
+pub prepend-append : (xs ys : List Call) (left : Result (List Call) ℕ) → prepend (xs ++ ys) left ≡ prepend xs (prepend ys left)
+prepend-append xs ys (Ok calls) = ap (λ cs. Ok cs) (append_assoc xs ys calls)
+prepend-append xs ys (Err place) =
+    let more : length (xs ++ ys) + place ≡ length xs + (length ys + place) = omega (arith, length-append xs ys) in ap (λ n. Err n) more
 
-cond_same : {A : Type 0} (b : Bool) {x y x' y' : A} → x ≡ x' → y ≡ y' → cond b x y ≡ cond b x' y'
-cond_same true e f = e
-cond_same false e f = f
+-- the result of a piece, by its call, and of the pieces after it
+abbrev read_by : Option Call → List (List ℕ) → Result (List Call) ℕ
+read_by o pieces =
+    cond (is_some o && list_all is_call pieces) (Ok (cons_option o (filter_map call_in pieces)))
+    (Err (1 + cond (is_some o) (1 + prefix_len is_call pieces) 0))
 
-left_by-added : (o : Option Call) (old new : List Call) (pieces : List (List ℕ)) → AddsCall old new o → left_by o old pieces ≡ left new pieces
-left_by-added (Some call) old new pieces e =
-    let calls : old ++ call ∷ filter_map call_in pieces ≡ new ++ filter_map call_in pieces = sym
-    (ap (λ (cs : List Call). cs ++ filter_map call_in pieces) e ∙ append_assoc old (call ∷ []) (filter_map call_in pieces)) in
-    let one_more : length new ≡ length old + 1 = ap length e ∙ length-append old (call ∷ []) in
-    let k = prefix_len is_call pieces in
-    let place : length old + 1 + (1 + k) ≡ length new + 1 + k = omega arith in
-    cond_same (list_all is_call pieces) (ap (λ (cs : List Call). Ok cs) calls) (ap (λ (n : ℕ). Err n) place)
-left_by-added None old new pieces e = absurd e
+read_by-some : (o : Option Call) (call : Call) (pieces : List (List ℕ)) → o ≡ Some call → read_by o pieces ≡ prepend (call ∷ []) (calls_in pieces)
+read_by-some None call pieces is = absurd (let no : ⊥ = cc in no)
+read_by-some (Some c) call pieces is = by (list_all is_call pieces) (filter_map call_in pieces) (prefix_len is_call pieces)
+  where
+    same : c ≡ call
+    same = cc
 
-pub left_by-unread : (o : Option Call) (old : List Call) (pieces : List (List ℕ)) → o ≡ None → left_by o old pieces ≡ Err (length old + 1)
-left_by-unread (Some call) old pieces e = absurd (let never : ⊥ = cc in never)
-left_by-unread None old pieces e = let same : length old + 1 + 0 ≡ length old + 1 = omega arith in ap (λ (n : ℕ). Err n) same
+    by : (all : Bool) (calls : List Call) (k : ℕ) → cond all (Ok (c ∷ calls)) (Err (1 + (1 + k))) ≡ prepend (call ∷ []) (cond all (Ok calls) (Err (1 + k)))
+    by true calls k = ap (λ d. Ok (d ∷ calls)) same
+    by false calls k = refl
 
--- at least one call was read, or can be
-begins : (o : Option Call) (old : List Call) (pieces : List (List ℕ)) → IsSome o → left_by o old pieces ≢ Err 1
-begins (Some call) old pieces some =
-    let k = prefix_len is_call pieces in
-    elim (list_all is_call pieces) as (λ test. cond test (Ok (old ++ call ∷ filter_map call_in pieces)) (Err (length old + 1 + (1 + k))) ≢ Err 1) [
-      | true ↦ λ e. cc
-      | false ↦ λ e. let same : length old + 1 + (1 + k) ≡ 1 = cc in absurd (omega arith)
-    ]
-begins None old pieces some = absurd (let no : ⊥ = cc in no)
+read_by-none : (o : Option Call) (pieces : List (List ℕ)) → o ≡ None → read_by o pieces ≡ Err 1
+read_by-none None pieces is = refl
+read_by-none (Some c) pieces is = absurd (let no : ⊥ = cc in no)
 
-unread : (text : List ℕ) (o : Option Call) (old : List Call) (pieces : List (List ℕ)) (fault : ScriptFault) → text ≢ []
-    → script text ≡ left_by o old pieces → IsUnread old o fault → IsScriptFault text fault
-unread text o old pieces (Syntax place) some all (is, at) = all ∙ left_by-unread o old pieces is ∙ ap (λ (n : ℕ). Err n) (sym at)
-unread text o old pieces OutOfMemory some all h = (some, λ e. begins o old pieces h (sym all ∙ e))
+-- the first of the pieces that are left is a call, if it is read as a piece
+pub read-next : (all others : Option (Bor (List ℕ))) (rest : Bor (List ℕ)) (cut : List ℕ) (o : Option Piece) (piece : Piece) → all ≡ Some rest
+    → spaces rest.now ≡ cut ∷ pieces_left others → o ≡ Some piece → IsRead o (call_in cut)
+    → calls_in (pieces_left all) ≡ prepend (piece_call piece ∷ []) (calls_in (pieces_left others))
+read-next all others rest cut o piece is cuts some read =
+    let here : IsRead (Some piece) (call_in cut) = subst (λ p. IsRead p (call_in cut)) some read in
+    ap (λ p. calls_in (pieces_left p)) is ∙ ap calls_in cuts ∙ read_by-some (call_in cut) (piece_call piece) (pieces_left others) here.1
 
--- all pieces of a script are left
-pub reading_begin : (text : List ℕ) (rest : Option (Bor (List ℕ))) → script text ≡ calls_in (pieces_left rest) → script text ≡ left [] (pieces_left rest)
-reading_begin text rest all = all ∙ cond_same (list_all is_call (pieces_left rest)) refl refl
+-- it isn't a call, if it isn't read
+pub read-stray : (all others : Option (Bor (List ℕ))) (rest : Bor (List ℕ)) (cut : List ℕ) (o : Option Piece) → all ≡ Some rest
+    → spaces rest.now ≡ cut ∷ pieces_left others → o ≡ None → IsRead o (call_in cut) → calls_in (pieces_left all) ≡ Err 1
+read-stray all others rest cut o is cuts none read =
+    ap (λ p. calls_in (pieces_left p)) is ∙ ap calls_in cuts ∙ read_by-none (call_in cut) (pieces_left others) (subst (λ p. IsRead p (call_in cut)) none read)
 
--- one more piece is a call
-pub reading_next : (text rest piece : List ℕ) (others : Option (Bor (List ℕ))) (old new : List Call) → spaces rest ≡ piece ∷ pieces_left others
-    → script text ≡ left old (spaces rest) → AddsCall old new (call_in piece) → script text ≡ left new (pieces_left others)
-reading_next text rest piece others old new cut all added = all ∙ ap (left old) cut ∙ left_by-added (call_in piece) old new (pieces_left others) added
+-- behind some pieces that are calls
+pub record AreRead (first place : ℕ) (old new : Result (List Call) ℕ) : Type 0 where
+  pub calls : List Call
+  pub parts : old ≡ prepend calls new
+  pub counted : place ≡ first + length calls
 
-pub reading_unread : (text rest piece : List ℕ) (others : Option (Bor (List ℕ))) (old : List Call) (fault : ScriptFault)
-    → spaces rest ≡ piece ∷ pieces_left others → script text ≡ left old (spaces rest) → IsUnread old (call_in piece) fault
-    → text ≢ [] → IsScriptFault text fault
-reading_unread text rest piece others old fault cut all h some =
-    unread text (call_in piece) old (pieces_left others) fault some (all ∙ ap (left old) cut) h
+pub none_read : (first : ℕ) (left : Result (List Call) ℕ) → AreRead first first left left
+none_read first left = record { calls = []; parts = sym (prepend-nil left); counted = omega arith }
 
--- no piece is left
-pub reading_end : (text : List ℕ) (calls : List Call) → script text ≡ left calls [] → script text ≡ Ok calls
-reading_end text calls all = all ∙ ap (λ (cs : List Call). Ok cs) (append-nil calls)
+pub one_read : (first place : ℕ) (call : Call) (old new newer : Result (List Call) ℕ) → new ≡ prepend (call ∷ []) newer → AreRead first place old new
+    → AreRead first (place + 1) old newer
+one_read first place call old new newer next r = record {
+  calls = r.calls ++ call ∷ [];
+  parts = r.parts ∙ ap (prepend r.calls) next ∙ sym (prepend-append r.calls (call ∷ []) newer);
+  counted = omega (arith, r.counted, length-append r.calls (call ∷ []));
+}
+
+pub left_some : (all : Option (Bor (List ℕ))) (rest : Bor (List ℕ)) → all ≡ Some rest → left_len all ≡ length rest.now + 1
+left_some all rest is = ap left_len is
 
 -- all but the first byte
 whole_rest : (back : List ℕ) → take (length back - 1) (drop 1 back) ≡ drop 1 back
@@ -141,7 +129,7 @@ raw_parts-cut text number rest at count bytes colon front back n b =
     ap (λ (o : Option ℕ). raw_call o bytes) (n ∙ ap number_in front) ∙ ap (raw_call (number_in (take at text))) (b ∙ ap bytes_in behind)
     ∙ ap (raw_parts text) colon
 
--- ---- pieces `d:HEX` of one byte
+-- ---- digits
 
 -- no digit is such a byte
 no_digit : (c a : ℕ) → is_hex_digit a ≡ false → IsTrue (is_hex_digit c) → (c == a) ≡ false
@@ -166,8 +154,15 @@ no_prefix (c ∷ d ∷ digits) all =
       | false ↦ refl
     ]
 
+-- digits, two for each byte, are those of some bytes
+pub bytes_of_pairs : (digits : List ℕ) → length digits % 2 ≡ 0 → IsTrue (list_all is_hex_digit digits) → result_ok (decode_of digits) ≡ Some (bytes_of digits)
+bytes_of_pairs digits even all =
+    let (bytes, is) = decode_of-digits digits even (AllPass-from_list_all is_hex_digit digits all) in
+    ap result_ok is ∙ ap (λ r. Some (result_unwrap_or r [])) (sym is)
+
 -- the call of such a piece
-pub byte_call : (digits : List ℕ) (byte : ℕ) → IsTrue (list_all is_hex_digit digits) → bytes_of digits ≡ Some (byte ∷ [])
+pub byte_call : (digits : List ℕ) (byte : ℕ) → length digits % 2 ≡ 0 → IsTrue (list_all is_hex_digit digits) → bytes_of digits ≡ byte ∷ []
     → call_in (100 ∷ 58 ∷ digits) ≡ Some (append (string (byte ∷ [])))
-byte_call digits byte all is = ap (λ ds. option_map (λ bytes. append (string bytes)) (bytes_of ds)) (no_prefix digits all)
-    ∙ ap (option_map (λ bytes. append (string bytes))) is
+byte_call digits byte even all is =
+    ap (λ ds. option_map (λ bytes. append (string bytes)) (result_ok (decode_of ds))) (no_prefix digits all)
+    ∙ ap (option_map (λ bytes. append (string bytes))) (bytes_of_pairs digits even all ∙ ap (λ bs. Some bs) is)

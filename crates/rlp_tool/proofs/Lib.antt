@@ -6,7 +6,7 @@ pub mod CutLemmas
 pub mod RawLemmas
 -- calls of a stream, one after another
 pub mod CallsLemmas
--- calls that are made one after another, of which some wait
+-- calls that are made one after another
 pub mod MakingLemmas
 -- the calls of a line whose answer is `out`
 pub mod SaidLemmas

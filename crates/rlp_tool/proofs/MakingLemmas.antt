@@ -1,27 +1,41 @@
--- Calls that are made one after another, of which some wait.
-use Rattle.std.proofs.Common.{◌≡◌, ◌≢◌, ℕ, zero, suc, ◌+◌, ◌-◌, ◌<◌, ◌≤◌, nat_eq, true, false, IsTrue, List, [], ◌∷◌, ◌++◌, length, replicate, Option, Some, None, option_map, Result, Ok, Err, IsSome, IfErr, OnOk, refl, sym, ap, subst, ◌∙◌, cond, filter_map, Bool, not, is_some, ◌&&◌}
-use Rattle.std.proofs.Common.{append_assoc, append-nil, length-append, arith}
+-- Calls that are made one after another.
+use Rattle.std.proofs.Common.{◌≡◌, ℕ, zero, suc, ◌+◌, ◌-◌, ◌<◌, ◌≤◌, false, IsTrue, List, [], ◌∷◌, ◌++◌, length, replicate, Some, None, Result, Ok, Err, OnOk}
+use Rattle.std.proofs.Common.{refl, sym, ap, subst, ◌∙◌, append_assoc, append-nil, length-append, arith}
 use Rattle.std.proofs.lemmas.List.{replicate-append-replicate, length-replicate}
-use Rattle.std.specs.Borrow.{Bor}
-use Rattle.std.specs.List.{list_all, prefix_len}
-use Rattle.std.specs.Option.{IsSomeAnd}
-use Rattle.rlp.specs.Format.Encoding.{string}
-use Rattle.rlp.specs.Streams.Stream.{unbounded_count, State, initial_state}
-use Rattle.rlp.specs.Streams.Stream.{Call, append, append_raw, begin_list, begin_unbounded_list, clear, effect, finalize_unbounded_list, finalized, is_admitted}
+use Rattle.rlp.specs.Streams.Stream.{unbounded_count, State, Call, effect, finalize_unbounded_list, finalized, is_admitted, initial_state}
 use Rattle.rlp.specs.Streams.Described.{finishes, by_finalize}
 use Rattle.rlp_tool.specs.declared.building.BuildFault.{BuildFault}
 use Rattle.rlp_tool.specs.declared.building.BuildFault.TheVariants.{TooManyItems, NothingToFinish, RawNotItems, OutOfMemory}
-use Rattle.rlp_tool.specs.Building.{IsSomeStep}
-use Rattle.rlp_tool.specs.Making.{AreMade, AreMadeBut, Goes, IsUnfit, IsUnmade, IsTaken, Stops, StopsScript}
-use Rattle.rlp_tool.specs.declared.script.Piece.{Piece}
-use Rattle.rlp_tool.specs.declared.script.Piece.TheVariants.{Value, Byte, Raw, Begin, BeginUnbounded, Finish, Clear}
-use Rattle.rlp_tool.specs.Pieces.{ArePairs, HasPairs, IsRead, bytes_of, left_len, piece_call, pieces_left, spaces}
-use Rattle.rlp_tool.specs.Script.{AddsCall, call_in, calls_in, is_call, script}
-use Rattle.rlp_lines.proofs.DigitLemmas.{read-nothing, read-some}
-use Rattle.rlp_tool.proofs.CallsLemmas.{made_more, made_none}
-use Rattle.rlp_tool.proofs.CutLemmas.{left, left_by-unread, reading_begin, reading_next}
+use Rattle.rlp_tool.specs.Building.{AreRefused, HasNothingToFinish, IsRefusal}
+use Rattle.rlp_tool.specs.Making.{AreMade, Fails, Goes, IsTaken, MakesScript, MakesSome, NoneIsNext, StopsScript}
+use Rattle.rlp_tool.specs.Script.{IsUnread, prepend, script}
+use Rattle.rlp_tool.proofs.{CallsLemmas.{made_more, made_none}, CutLemmas.{prepend-append, prepend-nil}}
 
--- ---- calls that wait
+-- ---- one call
+
+-- a call fails, and none before it
+fails_for : {reason : Call → State → Type 0} (front : List ℕ) (before : List Call) (c : Call) (place : ℕ) (s : State) (later : List Call) → AreMade front before s
+    → place ≡ length before + 1 → reason c s → AreRefused reason front ((before ++ c ∷ []) ++ later) place
+fails_for front before c place s later made at why = record {
+  before = before;
+  call = c;
+  later = later;
+  in_order = append_assoc before (c ∷ []) later;
+  counted = omega (arith, at);
+  taken = made.taken;
+  met = s;
+  admitted = made.admitted;
+  refused = why;
+}
+
+fails_anyhow : (front : List ℕ) (before : List Call) (c : Call) (place : ℕ) (s : State) (fault : BuildFault) → AreMade front before s → place ≡ length before + 1
+    → Fails c s place fault → (later : List Call) → IsRefusal front ((before ++ c ∷ []) ++ later) fault
+fails_anyhow front before c place s (TooManyItems there) made at why later = fails_for front before c there s later made (why.0 ∙ at) why.1
+fails_anyhow front before c place s (NothingToFinish there) made at why later = fails_for front before c there s later made (why.0 ∙ at) why.1
+fails_anyhow front before c place s (RawNotItems there) made at why later = fails_for front before c there s later made (why.0 ∙ at) why.1
+fails_anyhow front before c place s OutOfMemory made at why later = tt
+
+-- ---- calls `Finish`
 
 -- what the streams' law says: one of some unbounded lists is closed, and the others are unbounded
 abbrev pub InTurn : Type 0
@@ -37,239 +51,154 @@ made_in_turn in_turn (suc n) front calls s many made =
     subst (λ cs. AreMade front cs (finalized (suc n) s)) (append_assoc calls (finalize_unbounded_list ∷ []) (replicate n finalize_unbounded_list))
     (made_in_turn in_turn n front (calls ++ finalize_unbounded_list ∷ []) (effect finalize_unbounded_list s) next.1 one)
 
--- some of those that wait are made
-pub made_some : InTurn → (front : List ℕ) (calls : List Call) (waiting n : ℕ) (s : State) → n ≤ waiting → n ≤ unbounded_count s.stack.lists
-    → AreMadeBut front calls waiting s → AreMadeBut front calls (waiting - n) (finalized n s)
-made_some in_turn front calls waiting n s few many m =
-    let all : n + (waiting - n) ≡ waiting = omega (arith, few) in
-    let split : replicate waiting finalize_unbounded_list ≡ replicate n finalize_unbounded_list ++ replicate (waiting - n) finalize_unbounded_list =
-    ap (λ k. replicate k finalize_unbounded_list) (sym all) ∙ sym (replicate-append-replicate n (waiting - n) finalize_unbounded_list) in
+-- more of them are made
+pub made_finishes : InTurn → (front : List ℕ) (before : List Call) (made n : ℕ) (s t : State) → n ≤ unbounded_count s.stack.lists → t ≡ finalized n s
+    → AreMade front (before ++ replicate made finalize_unbounded_list) s → AreMade front (before ++ replicate (made + n) finalize_unbounded_list) t
+made_finishes in_turn front before made n s t many is so_far =
+    let f = finalize_unbounded_list in
+    let more = made_in_turn in_turn n front (before ++ replicate made f) s many so_far in
+    let parts : (before ++ replicate made f) ++ replicate n f ≡ before ++ replicate (made + n) f = append_assoc before (replicate made f) (replicate n f)
+    ∙ ap (λ cs. before ++ cs) (replicate-append-replicate made n f) in
+    subst (λ u. AreMade front (before ++ replicate (made + n) f) u) (sym is) (subst (λ cs. AreMade front cs (finalized n s)) parts more)
+
+-- one of them fails
+pub finish_fails : (front : List ℕ) (before : List Call) (made count place : ℕ) (s : State) → made < count → place ≡ length before + 1
+    → AreMade front (before ++ replicate made finalize_unbounded_list) s → is_admitted finalize_unbounded_list s ≡ false → (later : List Call)
+    → AreRefused HasNothingToFinish front ((before ++ replicate count finalize_unbounded_list) ++ later) (place + made)
+finish_fails front before made count place s some at so_far barred later =
+    let f = finalize_unbounded_list in
+    let done = before ++ replicate made f in
+    let others = replicate (count - made - 1) f in
+    let number : made + suc (count - made - 1) ≡ count = omega (arith, some) in
+    let parts : (done ++ f ∷ []) ++ others ≡ before ++ replicate count f = append_assoc done (f ∷ []) others
+    ∙ append_assoc before (replicate made f) (f ∷ others)
+    ∙ ap (λ cs. before ++ cs) (replicate-append-replicate made (suc (count - made - 1)) f ∙ ap (λ n. replicate n f) number) in
+    subst (λ cs. AreRefused HasNothingToFinish front cs (place + made))
+    (sym (append_assoc (done ++ f ∷ []) others later) ∙ ap (λ cs. cs ++ later) parts)
+    (fails_for front done f (place + made) s (others ++ later) so_far
+    (omega (arith, at, length-append before (replicate made f), length-replicate made f)) (barred, refl))
+
+-- ---- the next calls of a source
+
+-- there is none
+pub makes_none : {T : Type 0} (end : T) (front : List ℕ) (before : List Call) (left : Result (List Call) ℕ) (place : ℕ) (s : State) → AreMade front before s
+    → place ≡ length before + 1 → MakesSome front before left left place s (Ok end)
+makes_none end front before left place s made at =
+    let same = sym (append-nil before) in
     record {
-      before = m.before ++ replicate n finalize_unbounded_list;
-      in_order = m.in_order ∙ ap (λ cs. m.before ++ cs) split
-          ∙ sym (append_assoc m.before (replicate n finalize_unbounded_list) (replicate (waiting - n) finalize_unbounded_list));
-      made = made_in_turn in_turn n front m.before s many m.made;
+      made = [];
+      parts = sym (prepend-nil left);
+      counted = at ∙ ap (λ cs. length cs + 1) same;
+      goes = subst (λ cs. AreMade front cs s) same made;
     }
 
--- none waits
-pub none_waits : (front : List ℕ) (calls : List Call) (s : State) → AreMade front calls s → AreMadeBut front calls 0 s
-none_waits front calls s made = record { before = calls; in_order = sym (append-nil calls); made = made }
-
-pub all_made : (front : List ℕ) (calls : List Call) (waiting : ℕ) (s : State) → waiting ≡ 0 → AreMadeBut front calls waiting s → AreMade front calls s
-all_made front calls zero s none m = subst (λ cs. AreMade front cs s) (sym (m.in_order ∙ append-nil m.before)) m.made
-all_made front calls (suc k) s none m = absurd (omega (arith, none))
-
--- one more waits
-pub one_waits : (front : List ℕ) (calls : List Call) (c : Call) (waiting : ℕ) (s : State) → c ≡ finalize_unbounded_list → AreMadeBut front calls waiting s
-    → AreMadeBut front (calls ++ c ∷ []) (waiting + 1) s
-one_waits front calls c waiting s is m = record {
-  before = m.before;
-  in_order = ap (λ cs. cs ++ c ∷ []) m.in_order ∙ append_assoc m.before (replicate waiting finalize_unbounded_list) (c ∷ [])
-      ∙ ap (λ d. m.before ++ (replicate waiting finalize_unbounded_list ++ d ∷ [])) is
-      ∙ ap (λ cs. m.before ++ cs) (replicate-append-replicate waiting 1 finalize_unbounded_list);
-  made = m.made;
+-- calls `Finish`
+pub makes_finishes : {T : Type 0} (front : List ℕ) (before : List Call) (old new : Result (List Call) ℕ) (place count : ℕ) (s : State) (r : Result T BuildFault)
+    → place ≡ length before + 1 → old ≡ prepend (replicate count finalize_unbounded_list) new
+    → Goes front (before ++ replicate count finalize_unbounded_list) s r → MakesSome front before old new (place + count) s r
+makes_finishes front before old new place count s r at parts goes = record {
+  made = replicate count finalize_unbounded_list;
+  parts = parts;
+  counted = omega (arith, at, length-append before (replicate count finalize_unbounded_list), length-replicate count finalize_unbounded_list);
+  goes = goes;
 }
 
--- the number of calls
-pub length-waiting : (front : List ℕ) (calls : List Call) (waiting : ℕ) (s : State) (m : AreMadeBut front calls waiting s)
-    → length calls ≡ length m.before + waiting
-length-waiting front calls waiting s m =
-    ap length m.in_order ∙ length-append m.before (replicate waiting finalize_unbounded_list)
-    ∙ ap (λ n. length m.before + n) (length-replicate waiting finalize_unbounded_list)
+-- another call
+makes_another : {T : Type 0} (front : List ℕ) (before : List Call) (c : Call) (old new : Result (List Call) ℕ) (place : ℕ) (s : State) (r : Result T BuildFault)
+    → place ≡ length before + 1 → old ≡ prepend (c ∷ []) new → Goes front (before ++ c ∷ []) s r → MakesSome front before old new (place + 1) s r
+makes_another front before c old new place s r at parts goes =
+    record { made = c ∷ []; parts = parts; counted = omega (arith, at, length-append before (c ∷ [])); goes = goes }
 
--- the first of those that wait fails
-pub stops_waiting : (front : List ℕ) (calls : List Call) (waiting : ℕ) (s : State) (fault : BuildFault) → 0 < waiting
-    → (m : AreMadeBut front calls waiting s) → IsUnfit finalize_unbounded_list s (suc (length m.before)) fault → (later : List Call)
-    → Stops IsUnfit front (calls ++ later) fault
-stops_waiting front calls zero s fault some m why later = absurd (omega (arith, some))
-stops_waiting front calls (suc k) s fault some m why later = record {
-  before = m.before;
-  call = finalize_unbounded_list;
-  later = replicate k finalize_unbounded_list ++ later;
-  in_order = ap (λ cs. cs ++ later) m.in_order ∙ append_assoc m.before (finalize_unbounded_list ∷ replicate k finalize_unbounded_list) later;
-  met = s;
-  made = m.made;
-  refused = why;
+pub makes_one : {T : Type 0} (end : T) (front : List ℕ) (before : List Call) (c : Call) (old new : Result (List Call) ℕ) (place : ℕ) (s t : State)
+    → AreMade front before s → place ≡ length before + 1 → old ≡ prepend (c ∷ []) new → IsTaken c s t → MakesSome front before old new (place + 1) t (Ok end)
+makes_one end front before c old new place s t made at parts taken =
+    makes_another front before c old new place t (Ok end) at parts (made_more front before c s t made taken.0 taken.1 taken.2)
+
+pub fails_at : (T : Type 0) (front : List ℕ) (before : List Call) (c : Call) (old new : Result (List Call) ℕ) (place : ℕ) (s t : State) (fault : BuildFault)
+    → AreMade front before s → place ≡ length before + 1 → old ≡ prepend (c ∷ []) new → Fails c s place fault
+    → MakesSome {T = T} front before old new (place + 1) t (Err fault)
+fails_at T front before c old new place s t fault made at parts why =
+    makes_another front before c old new place t (Err fault) at parts (fails_anyhow front before c place s fault made at why)
+
+-- a call `Finish`, and those after it
+pub one_more : (old mid new : Result (List Call) ℕ) (count : ℕ) → old ≡ prepend (finalize_unbounded_list ∷ []) mid
+    → mid ≡ prepend (replicate count finalize_unbounded_list) new → old ≡ prepend (replicate (1 + count) finalize_unbounded_list) new
+one_more old mid new count first others =
+    let more : suc count ≡ 1 + count = omega arith in
+    let all = finalize_unbounded_list ∷ replicate count finalize_unbounded_list in
+    let both : old ≡ prepend all new =
+    first ∙ ap (prepend (finalize_unbounded_list ∷ [])) others ∙ sym (prepend-append (finalize_unbounded_list ∷ []) (replicate count finalize_unbounded_list) new) in
+    subst (λ n. old ≡ prepend (replicate n finalize_unbounded_list) new) more both
+
+-- no call `Finish` is next
+pub skip_none : (old left : Result (List Call) ℕ) (count : ℕ) → old ≡ prepend (replicate count finalize_unbounded_list) left → count ≤ 0 → old ≡ left
+skip_none old left zero parts none = parts ∙ prepend-nil left
+skip_none old left (suc n) parts none = absurd (omega (arith, none))
+
+-- by another type of the result
+pub makes_as : {T U : Type 0} (end : U) (front : List ℕ) (before : List Call) (old new : Result (List Call) ℕ) (place : ℕ) (s : State) (x : T)
+    → MakesSome front before old new place s (Ok x) → MakesSome front before old new place s (Ok end)
+makes_as end front before old new place s x m = record { made = m.made; parts = m.parts; counted = m.counted; goes = m.goes }
+
+pub fails_as : {T : Type 0} (U : Type 0) (front : List ℕ) (before : List Call) (old new : Result (List Call) ℕ) (place : ℕ) (s : State) (fault : BuildFault)
+    → MakesSome {T = T} front before old new place s (Err fault) → MakesSome {T = U} front before old new place s (Err fault)
+fails_as U front before old new place s fault m = record { made = m.made; parts = m.parts; counted = m.counted; goes = m.goes }
+
+-- ---- all calls
+
+pub makes_first : (front : List ℕ) (left : Result (List Call) ℕ) (place : ℕ) (s : State) → place ≡ 1 → s ≡ initial_state front
+    → MakesSome {T = Unit {0}} front [] left left place s (Ok tt)
+makes_first front left place s first is = makes_none {T = Unit {0}} tt front [] left place s (made_none front s is) first
+
+-- some calls are made, and then more
+pub makes_more : {T : Type 0} (front : List ℕ) (old new newer : Result (List Call) ℕ) (place next : ℕ) (s t : State) (r : Result T BuildFault)
+    (m : MakesSome {T = Unit {0}} front [] old new place s (Ok tt)) → MakesSome front m.made new newer next t r → MakesSome front [] old newer next t r
+makes_more front old new newer place next s t r m n = record {
+  made = m.made ++ n.made;
+  parts = m.parts ∙ ap (prepend m.made) n.parts ∙ sym (prepend-append m.made n.made newer);
+  counted = n.counted;
+  goes = n.goes;
 }
 
--- ---- one more call
+same_calls : (calls others : List Call) → ◌≡◌ {A = Result (List Call) ℕ} (Ok calls) (Ok others) → calls ≡ others
+same_calls calls others e = cc
 
--- a call is made after all before it
-goes_taken : (unfit : Call → State → ℕ → BuildFault → Type 0) (front : List ℕ) (calls : List Call) (c : Call) (place : ℕ) (s t : State)
-    (r : Result (Unit {0}) BuildFault) → AreMade front calls s → place ≡ length calls + 1 → OnOk r (IsTaken c s t) → IfErr r (unfit c s place)
-    → Goes unfit front (calls ++ c ∷ []) 0 t r
-goes_taken unfit front calls c place s t (Ok end) made at taken why =
-    none_waits front (calls ++ c ∷ []) t (made_more front calls c s t made taken.0 taken.1 taken.2)
-goes_taken unfit front calls c place s t (Err fault) made at taken why = λ later. record {
-  before = calls;
-  call = c;
-  later = later;
-  in_order = append_assoc calls (c ∷ []) later;
-  met = s;
-  made = made;
-  refused = let next : place ≡ suc (length calls) = omega (arith, at) in subst (λ n. unfit c s n fault) next why;
-}
+-- all calls that are values are made, or one of them fails
+pub all_made : (front : List ℕ) (all : List Call) (left : Result (List Call) ℕ) (place : ℕ) (s : State) → MakesSome {T = Unit {0}} front [] (Ok all) left place s (Ok tt)
+    → NoneIsNext left → AreMade front all s
+all_made front all (Ok others) place s m ended =
+    let whole : all ≡ m.made = same_calls all (m.made ++ others) m.parts ∙ ap (λ cs. m.made ++ cs) (ended others refl) ∙ append-nil m.made in
+    subst (λ cs. AreMade front cs s) (sym whole) m.goes
+all_made front all (Err at) place s m ended = absurd (let parts = m.parts in let no : ⊥ = cc in no)
 
-pub goes_next : (unfit : Call → State → ℕ → BuildFault → Type 0) (front : List ℕ) (calls : List Call) (c : Call) (place waiting : ℕ) (s t : State)
-    (r : Result (Unit {0}) BuildFault) → waiting ≡ 0 → AreMadeBut front calls waiting s → place ≡ length calls + 1 → OnOk r (IsTaken c s t)
-    → IfErr r (unfit c s place) → Goes unfit front (calls ++ c ∷ []) waiting t r
-goes_next unfit front calls c place waiting s t r none m at taken why =
-    subst (λ w. Goes unfit front (calls ++ c ∷ []) w t r) (sym none)
-    (goes_taken unfit front calls c place s t r (all_made front calls waiting s none m) at taken why)
-
--- what the clauses of a call say
-pub taken_by : (c : Call) (s t : State) (r : Result (Unit {0}) BuildFault) → OnOk r (IsTrue (is_admitted c s)) → OnOk r (t ≡ effect c s)
-    → OnOk r (IsSomeStep c s) → OnOk r (IsTaken c s t)
-taken_by c s t (Ok end) admitted moved step = (admitted, step, moved)
-taken_by c s t (Err fault) admitted moved step = tt
-
--- a call failed before it
-pub stops_before : (unfit : Call → State → ℕ → BuildFault → Type 0) (front : List ℕ) (calls : List Call) (c : Call) (fault : BuildFault)
-    → ((later : List Call) → Stops unfit front (calls ++ later) fault) → (later : List Call) → Stops unfit front ((calls ++ c ∷ []) ++ later) fault
-stops_before unfit front calls c fault stops later =
-    subst (λ cs. Stops unfit front cs fault) (sym (append_assoc calls (c ∷ []) later)) (stops (c ∷ later))
-
--- ---- memory that is refused for raw bytes
-
-unfit_unmade : (c : Call) (s : State) (place : ℕ) (fault : BuildFault) → IsUnfit c s place fault → IsUnmade c s place fault
-unfit_unmade c s place (TooManyItems there) why = why
-unfit_unmade c s place (NothingToFinish there) why = why
-unfit_unmade c s place (RawNotItems there) why = why
-unfit_unmade c s place OutOfMemory why = why.0
-
-stops_anyhow : (front : List ℕ) (calls : List Call) (fault : BuildFault) → Stops IsUnfit front calls fault → Stops IsUnmade front calls fault
-stops_anyhow front calls fault s = record {
-  before = s.before;
-  call = s.call;
-  later = s.later;
-  in_order = s.in_order;
-  met = s.met;
-  made = s.made;
-  refused = unfit_unmade s.call s.met (suc (length s.before)) fault s.refused;
-}
-
-pub goes_anyhow : (front : List ℕ) (calls : List Call) (waiting : ℕ) (s : State) (r : Result (Unit {0}) BuildFault)
-    → Goes IsUnfit front calls waiting s r → Goes IsUnmade front calls waiting s r
-goes_anyhow front calls waiting s (Ok end) m = m
-goes_anyhow front calls waiting s (Err fault) stops = λ later. stops_anyhow front (calls ++ later) fault (stops later)
+pub one_fails : (front : List ℕ) (all : List Call) (left : Result (List Call) ℕ) (place : ℕ) (s : State) (fault : BuildFault)
+    → MakesSome {T = Unit {0}} front [] (Ok all) left place s (Err fault) → IsRefusal front all fault
+one_fails front all (Ok others) place s fault m =
+    subst (λ cs. IsRefusal front cs fault) (sym (same_calls all (m.made ++ others) m.parts)) (m.goes others)
+one_fails front all (Err at) place s fault m = absurd (let parts = m.parts in let no : ⊥ = cc in no)
 
 -- ---- the calls of a script
 
--- some calls are read, and made as far as none fails; the pieces that are left decide after them
-pub record IsReading (text : List ℕ) (rest : Option (Bor (List ℕ))) (place waiting : ℕ) (s : State) (outcome : Result (Unit {0}) BuildFault) : Type 0 where
-  pub calls : List Call
-  pub decide : script text ≡ left calls (pieces_left rest)
-  pub counted : place ≡ length calls + 1
-  pub goes : Goes IsUnmade [] calls waiting s outcome
-
-pub reads_all : (text : List ℕ) (rest : Option (Bor (List ℕ))) (s : State) → script text ≡ calls_in (pieces_left rest) → s ≡ initial_state []
-    → IsReading text rest 1 0 s (Ok tt)
-reads_all text rest s all is = record {
-  calls = [];
-  decide = reading_begin text rest all;
-  counted = refl;
-  goes = none_waits [] [] s (made_none [] s is);
-}
-
-pub left_some : (all : Option (Bor (List ℕ))) (rest : Bor (List ℕ)) → all ≡ Some rest → left_len all ≡ length rest.now + 1
-left_some all rest is = ap left_len is
-
--- the digits of a piece are those of some bytes
-some_bytes : (digits : List ℕ) → ArePairs digits → (bytes : List ℕ) × (Some bytes ≡ bytes_of digits)
-some_bytes digits pairs =
-    elim (nat_eq (length digits) 0) as (λ test. test ≡ nat_eq (length digits) 0 → (bytes : List ℕ) × (Some bytes ≡ bytes_of digits)) [
-      | true ↦ λ none. ([], sym (read-nothing digits none))
-      | false ↦ λ some. read_bytes_of (bytes_of digits) (read-some digits pairs.0 some pairs.1)
-    ] refl
-  where
-    read_bytes_of : (o : Option (List ℕ)) → IsSomeAnd o (λ bytes. bytes ≢ []) → (bytes : List ℕ) × (Some bytes ≡ o)
-    read_bytes_of (Some bytes) some = (bytes, refl)
-    read_bytes_of None some = absurd some
-
--- a piece is a call
-some_call : (piece : Piece) → HasPairs piece → (call : Call) × (Some call ≡ piece_call piece)
-some_call (Value digits) pairs =
-    let (bytes, are) = some_bytes digits.now pairs in (append (string bytes), ap (option_map (λ xs. append (string xs))) are)
-some_call (Byte b) pairs = (append (string (b ∷ [])), refl)
-some_call (Raw digits count) pairs =
-    let (bytes, are) = some_bytes digits.now pairs in (append_raw bytes count, ap (option_map (λ xs. append_raw xs count)) are)
-some_call (Begin count) pairs = (begin_list count, refl)
-some_call BeginUnbounded pairs = (begin_unbounded_list, refl)
-some_call Finish pairs = (finalize_unbounded_list, refl)
-some_call Clear pairs = (clear, refl)
-
-pub some_read : (o : Option Call) (piece : Piece) → HasPairs piece → o ≡ piece_call piece → IsSome o
-some_read o piece pairs read = let (call, called) = some_call piece pairs in subst IsSome (called ∙ sym read) refl
-
--- one more piece is a call
-pub read_is_call : (o : Option Piece) (call : Option Call) (none : Bool) → is_some o ≡ not none → none ≡ false → IsRead o call → IsSome call
-read_is_call (Some piece) call none said is read = some_read call piece read.0 read.1
-read_is_call None call none said is read = let no : false ≡ true = said ∙ ap not is in absurd (let never : ⊥ = cc in never)
-
-pub calls_next : (all others : Option (Bor (List ℕ))) (rest : Bor (List ℕ)) (piece : List ℕ) → all ≡ Some rest → spaces rest.now ≡ piece ∷ pieces_left others
-    → IsSome (call_in piece) → (list_all is_call (pieces_left all) ≡ list_all is_call (pieces_left others))
-    × (prefix_len is_call (pieces_left all) ≡ 1 + prefix_len is_call (pieces_left others))
-calls_next all others rest piece is cuts some =
-    let pieces : pieces_left all ≡ piece ∷ pieces_left others = ap pieces_left is ∙ cuts in (
-      ap (list_all is_call) pieces ∙ ap (λ b. b && list_all is_call (pieces_left others)) some,
-      ap (prefix_len is_call) pieces ∙ ap (λ b. cond b (1 + prefix_len is_call (pieces_left others)) 0) some,
-    )
-
--- one more piece is read, and its call made
-pub reads_next : (text : List ℕ) (all others : Option (Bor (List ℕ))) (rest : Bor (List ℕ)) (cut : List ℕ) (piece : Piece) (place waiting more : ℕ) (s t : State)
-    (outcome : Result (Unit {0}) BuildFault) → all ≡ Some rest → spaces rest.now ≡ cut ∷ pieces_left others → HasPairs piece → call_in cut ≡ piece_call piece
-    → ((calls : List Call) (call : Call) → AreMadeBut [] calls waiting s → place ≡ length calls + 1 → Some call ≡ piece_call piece
-    → Goes IsUnmade [] (calls ++ call ∷ []) more t outcome)
-    → IsReading text all place waiting s (Ok tt) → IsReading text others (place + 1) more t outcome
-reads_next text all others rest cut piece place waiting more s t outcome is cuts pairs read goes r =
-    let (call, called) = some_call piece pairs in
-    let decide : script text ≡ left r.calls (spaces rest.now) = r.decide ∙ ap (λ o. left r.calls (pieces_left o)) is in
-    record {
-      calls = r.calls ++ call ∷ [];
-      decide = reading_next text rest.now cut others r.calls (r.calls ++ call ∷ []) cuts decide
-          (subst (λ o. AddsCall r.calls (r.calls ++ call ∷ []) o) (called ∙ sym read) refl);
-      counted = omega (arith, r.counted, length-append r.calls (call ∷ []));
-      goes = goes r.calls call r.goes r.counted called;
-    }
-
 -- a piece isn't a call
-pub reads_fault : (text : List ℕ) (all others : Option (Bor (List ℕ))) (rest : Bor (List ℕ)) (cut : List ℕ) (place waiting : ℕ) (s : State)
-    (outcome : Result (Unit {0}) BuildFault) → all ≡ Some rest → spaces rest.now ≡ cut ∷ pieces_left others → call_in cut ≡ None
-    → IsReading text all place waiting s outcome → script text ≡ Err place
-reads_fault text all others rest cut place waiting s outcome is cuts none r =
-    r.decide ∙ ap (λ o. left r.calls (pieces_left o)) is ∙ ap (left r.calls) cuts ∙ left_by-unread (call_in cut) r.calls (pieces_left others) none
-    ∙ ap (λ (n : ℕ). Err n) (sym r.counted)
+pub script_unread : (text : List ℕ) (old left : Result (List Call) ℕ) (place there : ℕ) (s : State) (r : Result (Unit {0}) BuildFault) → script text ≡ old
+    → MakesSome [] [] old left place s r → IsUnread place left (Some there) → script text ≡ Err there
+script_unread text old left place there s r whole m (calls, is, at) =
+    let same : length m.made + (length calls + 1) ≡ there = omega (arith, at, m.counted) in
+    whole ∙ m.parts ∙ ap (prepend m.made) is ∙ ap (λ n. Err n) same
 
--- a piece after a call that fails isn't a call
-pub reads_late_fault : (text : List ℕ) (rest : Option (Bor (List ℕ))) (place there waiting : ℕ) (s : State) (outcome : Result (Unit {0}) BuildFault)
-    → list_all is_call (pieces_left rest) ≡ false → there ≡ place + prefix_len is_call (pieces_left rest)
-    → IsReading text rest place waiting s outcome → script text ≡ Err there
-reads_late_fault text rest place there waiting s outcome none at r =
-    let k = prefix_len is_call (pieces_left rest) in
-    let same : length r.calls + 1 + k ≡ there = omega (arith, at, r.counted) in
-    r.decide ∙ ap (λ b. cond b (Ok (r.calls ++ filter_map call_in (pieces_left rest))) (Err (length r.calls + 1 + k))) none ∙ ap (λ (n : ℕ). Err n) same
-
--- all pieces after a call that fails are calls
-pub reads_stopped : (text : List ℕ) (rest : Option (Bor (List ℕ))) (place waiting : ℕ) (s : State) (fault : BuildFault)
-    → IsTrue (list_all is_call (pieces_left rest)) → IsReading text rest place waiting s (Err fault) → StopsScript text fault
-reads_stopped text rest place waiting s fault all r =
-    let later = filter_map call_in (pieces_left rest) in
-    record {
-      calls = r.calls ++ later;
-      says = r.decide ∙ ap (λ b. cond b (Ok (r.calls ++ later)) (Err (length r.calls + 1 + prefix_len is_call (pieces_left rest)))) all;
-      stops = r.goes later;
-    }
-
--- fewer calls wait than were read
-pub waits_within : (front : List ℕ) (calls : List Call) (place waiting : ℕ) (s : State) → place ≡ length calls + 1 → AreMadeBut front calls waiting s
-    → waiting < place
-waits_within front calls place waiting s at m = omega (arith, at, length-waiting front calls waiting s m)
-
--- the calls that wait can't be made
-pub stops_in_end : (text : List ℕ) (calls : List Call) (fault : BuildFault) → script text ≡ Ok calls
-    → ((later : List Call) → Stops IsUnmade [] (calls ++ later) fault) → StopsScript text fault
-stops_in_end text calls fault says stops = record {
-  calls = calls;
-  says = says;
-  stops = subst (λ cs. Stops IsUnmade [] cs fault) (append-nil calls) (stops []);
+-- all pieces are calls, and are made
+pub script_made : (text : List ℕ) (old left : Result (List Call) ℕ) (place : ℕ) (s : State) (r : Result (Unit {0}) BuildFault) (end : Unit {0}) → r ≡ Ok end
+    → script text ≡ old → MakesSome [] [] old left place s r → OnOk r (NoneIsNext left) → IsUnread place left None → MakesScript text s
+script_made text old left place s (Err fault) end is whole m ended unread = absurd (let no : ⊥ = cc in no)
+script_made text old left place s (Ok x) end is whole m ended (calls, all) = record {
+  calls = m.made;
+  says = whole ∙ m.parts ∙ ap (prepend m.made) (all ∙ ap (λ cs. Ok cs) (ended calls all)) ∙ ap (λ cs. Ok cs) (append-nil m.made);
+  made = m.goes;
 }
+
+-- all pieces are calls, and one fails
+pub script_stops : (text : List ℕ) (old left : Result (List Call) ℕ) (place : ℕ) (s : State) (r : Result (Unit {0}) BuildFault) (fault : BuildFault) → r ≡ Err fault
+    → script text ≡ old → MakesSome [] [] old left place s r → IsUnread place left None → StopsScript text fault
+script_stops text old left place s r fault is whole m (calls, all) =
+    let failed : MakesSome {T = Unit {0}} [] [] old left place s (Err fault) = subst (λ e. MakesSome [] [] old left place s e) is m in
+    record { calls = failed.made ++ calls; says = whole ∙ failed.parts ∙ ap (prepend failed.made) all; stops = failed.goes calls }

@@ -1,17 +1,11 @@
 -- Raw bytes that are items.
 use Rattle.std.proofs.Common.{◌≡◌, ℕ, ◌-◌, ◌^◌, ◌<◌, ◌≤◌, ◌↔◌, Bool, true, false, List, [], ◌∷◌, ◌++◌, length, map, All, refl, sym, ap}
-use Rattle.std.proofs.Common.{◌∙◌, subst, arith, length-append, IsTrue, Ok, pos_of_ne-zero, nat_eq, ◌&&◌}
-use Rattle.std.specs.Str.{bytes_eq}
-use Rattle.std.proofs.lemmas.Slice.Eq.{bytes_eq-Decides}
-use Rattle.std.proofs.lemmas.Bool.Decides.{nat_tests, Decides-eqb}
-use Rattle.std.proofs.lemmas.List.{append_cancel_left}
-use Rattle.std.specs.List.{AllByRecursion}
+use Rattle.std.proofs.{Common.{◌∙◌, subst, arith, length-append, IsTrue, Ok, pos_of_ne-zero, nat_eq}, lemmas.Slice.Eq.bytes_eq-Decides}
+use Rattle.std.proofs.{lemmas.Bool.Decides.{nat_tests, Decides-eqb}, lemmas.Bool.and_parts, lemmas.List.append_cancel_left}
 use Rattle.std.proofs.lemmas.List.Elements.{recursion_from_All, All-from_recursion}
-use Rattle.rlp.specs.Format.Encoding.{Item, encoding, join, BeginsWith, IsSized}
-use Rattle.rlp.specs.Format.Framing.{IsFramed, frame, split, IsCanonicalWithin}
-use Rattle.rlp_reading.proofs.Lemmas.Frames.{split_join}
-use Rattle.rlp_reading.proofs.Lemmas.RawItems.{item_within-encoding, shallow_within}
-use Rattle.rlp_reading.proofs.Lemmas.Views.{sized_items}
+use Rattle.std.specs.{Str.bytes_eq, Cmp.Derive.both_true, List.AllByRecursion}
+use Rattle.rlp.specs.{Format.Encoding.{Item, encoding, join, BeginsWith, IsSized}, Format.Framing.{IsFramed, frame, split, IsCanonicalWithin}}
+use Rattle.rlp_reading.proofs.{Lemmas.Frames.split_join, Lemmas.RawItems.{item_within-encoding, shallow_within}, Lemmas.Views.sized_items}
 use Rattle.rlp_tool.specs.RawItems.{AreRawItems, IsShallow, are_raw_items, deepest_raw_item, item_within, raw_items}
 
 -- ---- the rest of raw bytes
@@ -147,9 +141,6 @@ shorter_rest b item others is = omega (arith, ap length is, length-append item o
 pub not_true : {P : Type 0} → (P → IsTrue false) → P → ⊥
 not_true from p = never (from p)
 
-pub zero_test : (n : ℕ) → IsTrue (nat_eq n 0) ↔ (n ≡ 0)
-zero_test n = Decides-eqb n 0
-
 -- ---- raw bytes as the items of a call
 
 -- items that are written are read again
@@ -159,22 +150,12 @@ raw_items-join (x ∷ xs) sized shallow =
     ap (λ y. y ∷ map (item_within deepest_raw_item) (map encoding xs)) (item_within-encoding deepest_raw_item x sized.0 shallow.0)
     ∙ ap (λ ys. x ∷ ys) (raw_items-join xs sized.1 shallow.1)
 
-and_both : (a b : Bool) → IsTrue a → IsTrue b → IsTrue (a && b)
-and_both true true h k = refl
-and_both true false h k = k
-and_both false b h k = h
-
-and_parts : (a b : Bool) → IsTrue (a && b) → IsTrue a × IsTrue b
-and_parts true b h = (refl, h)
-and_parts false b h = absurd (never h)
-
 -- the joined encodings of items pass the test
 pub are_raw_items-join : (xs : List Item) → All IsSized xs → All IsShallow xs → IsTrue (are_raw_items (join xs) (length xs))
 are_raw_items-join xs sized shallow =
     let again : raw_items (join xs) ≡ xs = ap (map (item_within deepest_raw_item)) (split_join xs sized)
     ∙ raw_items-join xs (recursion_from_All IsSized xs sized) (recursion_from_All IsShallow xs shallow) in
-    and_both (bytes_eq (join (raw_items (join xs))) (join xs)) (nat_eq (length (raw_items (join xs))) (length xs))
-    ((bytes_eq-Decides (join (raw_items (join xs))) (join xs)).1 (ap join again))
+    both_true ((bytes_eq-Decides (join (raw_items (join xs))) (join xs)).1 (ap join again))
     ((Decides-eqb (length (raw_items (join xs))) (length xs)).1 (ap length again))
 
 each_shallow : (fs : List (List ℕ)) → AllByRecursion IsShallow (map (item_within deepest_raw_item) fs)

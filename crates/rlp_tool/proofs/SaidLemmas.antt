@@ -1,29 +1,19 @@
 -- The calls of a line whose answer is `out`.
 use Rattle.std.proofs.Common.{◌≡◌, ℕ, suc, ◌+◌, ◌-◌, ◌^◌, ◌<◌, ◌≤◌, ◌==◌, Bool, true, false, cond, List, [], ◌∷◌, ◌++◌, length, length-take, take}
 use Rattle.std.proofs.Common.{drop, get_or, codes, decimal, Option, Some, None, Result, Ok, Err, IsTrue, All, option_map, position, filter_map, refl}
-use Rattle.std.proofs.Common.{sym, ap, ◌∙◌, subst, arith}
-use Rattle.std.specs.List.{list_all, prefix_len, cons_option, onto_first}
-use Rattle.std.specs.Str.{byte}
-use Rattle.std.specs.Str.Lines.{strip_carriage_return}
-use Rattle.std.specs.Result.{result_ok}
-use Rattle.std.proofs.lemmas.List.{length-drop}
+use Rattle.std.proofs.{Common.{sym, ap, ◌∙◌, subst, arith}, lemmas.Bool.{cond-true, cond-false}, lemmas.List.length-drop}
 use Rattle.std.proofs.lemmas.List.Splits.{slice_split-cons_yes, slice_split-cons_no}
-use Rattle.hex.specs.Hex.{decode_of}
-use Rattle.hex.specs.declared.error.FromHexError.{FromHexError}
+use Rattle.std.specs.{List.{list_all, prefix_len, cons_option, onto_first}, Str.byte, Str.Lines.strip_carriage_return, Result.result_ok}
+use Rattle.hex.specs.{Hex.decode_of, declared.error.FromHexError.FromHexError}
 use Rattle.hex.proofs.HexLemmas.{decode_of-ok}
-use Rattle.rlp.specs.Format.Encoding.{Item, string, join, BeginsWith, IsSized}
-use Rattle.rlp.specs.Streams.Stream.{OpenList, State, IsFinished}
+use Rattle.rlp.specs.{Format.Encoding.{Item, string, join, BeginsWith, IsSized}, Streams.Stream.{OpenList, State, IsFinished}}
 use Rattle.rlp.specs.Streams.Stream.{Call, append, append_empty_data, append_raw, append_raw_checked, begin_list, begin_unbounded_list}
 use Rattle.rlp.specs.Streams.Stream.{finalize_unbounded_list, append_internal, encode_value, clear, effect, is_admitted, after_from}
 use Rattle.rlp.specs.Streams.Described.{Step, brings, opens, finishes, clears, by_append, by_unbounded_list, by_finalize, by_clear, AreDescribedWhere}
-use Rattle.rlp_tool.specs.Answer.{brings_items, outcome_answer, refusal_name, state_answer}
-use Rattle.rlp_tool.specs.Building.{IsSomeStep, is_raw}
+use Rattle.rlp_tool.specs.{Answer.{brings_items, outcome_answer, refusal_name, state_answer}, Building.{IsSomeStep, is_raw}, RawItems.IsShallow}
+use Rattle.rlp_tool.specs.{Script.{call_in, is_call, labelled_call, letter_call, raw_call, raw_parts, script}, Pieces.spaces}
 use Rattle.rlp_lines.specs.Digits.{bytes_in, digits_of, number_in}
-use Rattle.rlp_tool.specs.RawItems.{IsShallow}
-use Rattle.rlp_tool.specs.Script.{call_in, is_call, labelled_call, letter_call, raw_call, raw_parts, script}
-use Rattle.rlp_tool.proofs.CallsLemmas.{step_begin, step_raw}
-use Rattle.rlp_tool.specs.Pieces.{spaces}
-use Rattle.rlp_tool.proofs.RawLemmas.{are_raw_items-told}
+use Rattle.rlp_tool.proofs.{CallsLemmas.{step_begin, step_raw}, RawLemmas.are_raw_items-told}
 
 -- ---- the calls of a script
 
@@ -181,14 +171,6 @@ refusal_differs false number begins = omega (arith, ap (λ (a : List ℕ). get_o
 raw_differs : (number : List ℕ) → BeginsWith (codes "error raw not items at " ++ number) (codes "out") → ⊥
 raw_differs number begins = omega (arith, ap (λ (a : List ℕ). get_or a 0 0) begins.1)
 
-yes : {A : Type 0} (b : Bool) (x y : A) → b ≡ true → cond b x y ≡ x
-yes true x y e = refl
-yes false x y e = absurd (let no : ⊥ = cc in no)
-
-no : {A : Type 0} (b : Bool) (x y : A) → b ≡ false → cond b x y ≡ y
-no true x y e = absurd (let never : ⊥ = cc in never)
-no false x y e = refl
-
 -- calls of a script whose answer is `out` are steps, and leave no list open
 pub end_finished : (n place : ℕ) (s : State) (calls : List Call) → ((xs : List Item) → length (join xs) < 2 ^ 64 → All IsSized xs) → n < 2 ^ 64
     → AreSaid n calls → BeginsWith (outcome_answer place s calls) (codes "out") → EndFinished place s calls
@@ -200,20 +182,20 @@ end_finished n place s (c ∷ calls) sized fits said begins =
     let refused = refusal_name c ++ decimal place in
     elim (is_admitted c s) as (λ test. is_admitted c s ≡ test → EndFinished place s (c ∷ calls)) [
       | true ↦ λ admitted.
-          let made : Starts (cond (brings_items c) next raw) = subst Starts (yes (is_admitted c s) (cond (brings_items c) next raw) refused admitted) begins in
+          let made : Starts (cond (brings_items c) next raw) = subst Starts (cond-true (is_admitted c s) (cond (brings_items c) next raw) refused admitted) begins in
           elim (brings_items c) as (λ test. brings_items c ≡ test → EndFinished place s (c ∷ calls)) [
             | true ↦ λ passed.
-                let rest = end_finished n (place + 1) (effect c s) calls sized fits said.1 (subst Starts (yes (brings_items c) next raw passed) made) in
+                let rest = end_finished n (place + 1) (effect c s) calls sized fits said.1 (subst Starts (cond-true (brings_items c) next raw passed) made) in
                 let (m, step) = said_step n c s sized fits said.0 passed in
                 record {
                   steps = m ∷ rest.steps;
                   described = (admitted, step, rest.described);
                   last = rest.last;
-                  admitted = yes (is_admitted c s) (after_from (place + 1) (effect c s) calls) (Err place) admitted ∙ rest.admitted;
+                  admitted = cond-true (is_admitted c s) (after_from (place + 1) (effect c s) calls) (Err place) admitted ∙ rest.admitted;
                   closed = rest.closed;
                 }
-            | false ↦ λ failed. absurd (raw_differs (decimal place) (subst Starts (no (brings_items c) next raw failed) made))
+            | false ↦ λ failed. absurd (raw_differs (decimal place) (subst Starts (cond-false (brings_items c) next raw failed) made))
           ] refl
       | false ↦ λ barred. absurd (refusal_differs (is_raw c) (decimal place)
-          (subst Starts (no (is_admitted c s) (cond (brings_items c) next raw) refused barred) begins))
+          (subst Starts (cond-false (is_admitted c s) (cond (brings_items c) next raw) refused barred) begins))
     ] refl

@@ -1,11 +1,10 @@
 -- The result of calls over a front.
-use Rattle.std.specs.Prelude.{ℕ, suc, ◌≡◌, ◌<◌, ◌⊎◌, Bool, true, false, IsTrue, List, [], ◌∷◌, ◌++◌, length, Ok}
+use Rattle.std.specs.Prelude.{ℕ, suc, ◌≡◌, Bool, true, false, IsTrue, List, ◌∷◌, ◌++◌, length, Ok}
 use Rattle.rlp.specs.Format.Encoding.{Item, join}
-use Rattle.rlp.specs.Streams.Stream.{Call, append_raw, append_raw_checked, clear, finalize_unbounded_list, is_admitted, after}
+use Rattle.rlp.specs.Streams.Stream.{Call, append_raw, append_raw_checked, finalize_unbounded_list, is_admitted, after}
 use Rattle.rlp.specs.Streams.Stream.{State, initial_state, IsFinished, closed_size, raw_text}
 use Rattle.rlp.specs.Streams.Described.{Step, DescribesWhere, AreDescribedWhere, IsDescribed, IsDescribedWhere, FinishAs}
-use Rattle.rlp_tool.specs.declared.building.Built.{Built}
-use Rattle.rlp_tool.specs.declared.building.Built.TheVariants.{Finished, Open}
+use Rattle.rlp_tool.specs.{declared.building.Built.Built, declared.building.Built.TheVariants.{Finished, Open}}
 use Rattle.rlp_tool.specs.declared.building.BuildFault.{BuildFault}
 use Rattle.rlp_tool.specs.declared.building.BuildFault.TheVariants.{TooManyItems, NothingToFinish, RawNotItems, OutOfMemory}
 use Rattle.rlp_tool.specs.RawItems.{AreRawItems, IsShallow}
@@ -67,31 +66,17 @@ HasNothingToFinish call s = (is_admitted call s ≡ false) × IsTrue (is_finish 
 abbrev pub BringsNoItems : Call → State → Type 0
 BringsNoItems call s = IsTrue (is_admitted call s) × (¬ BringsItems call)
 
--- whether memory may be refused for a call: for any call but `clear`
-abbrev pub takes_memory : Call → Bool
-takes_memory clear = false
-takes_memory _ = true
-
--- a call that takes memory doesn't fail its test, and no call before it does
-pub record TakesMemory (front : List ℕ) (calls : List Call) : Type 0 where
-  pub before : List Call
-  pub call : Call
-  pub later : List Call
-  pub in_order : calls ≡ before ++ call ∷ later
-  pub taken : AreTaken front (before ++ call ∷ [])
-  pub takes : IsTrue (takes_memory call)
-
 -- the result of the calls over the front, if none fails
 abbrev pub IsBuilt : List ℕ → List Call → Built → Type 0
 IsBuilt front calls (Finished bytes) = FinishAs front calls bytes.items
 IsBuilt front calls (Open size raw) = StayOpen front calls size raw.items
 
--- why they fail
+-- why they fail: one of them does, or memory was refused
 abbrev pub IsRefusal : List ℕ → List Call → BuildFault → Type 0
 IsRefusal front calls (TooManyItems place) = AreRefused BringsTooMany front calls place
 IsRefusal front calls (NothingToFinish place) = AreRefused HasNothingToFinish front calls place
 IsRefusal front calls (RawNotItems place) = AreRefused BringsNoItems front calls place
-IsRefusal front calls OutOfMemory = TakesMemory front calls
+IsRefusal front calls OutOfMemory = Unit
 
 -- all calls over the front are admitted and leave a list open
 abbrev pub LeaveOpen : List ℕ → List Call → Type 0
@@ -100,10 +85,6 @@ LeaveOpen front calls = (size : ℕ) × (raw : List ℕ) × StayOpen front calls
 -- the calls describe items, of which none of raw bytes is too deep; so none fails, and no list is open at the end
 abbrev pub DescribeItems : List ℕ → List Call → Type 0
 DescribeItems front calls = (items : List Item) × IsDescribedWhere IsShallow front calls items
-
--- why calls over a copy of the front have no result: memory was refused for the copy, which needs none if there are no bytes, or the calls fail
-abbrev pub IsRefusalOver : List ℕ → List Call → BuildFault → Type 0
-IsRefusalOver front calls fault = ((fault ≡ OutOfMemory) × (0 < length front)) ⊎ IsRefusal front calls fault
 
 -- the calls describe items, of which none of raw bytes is too deep, and the finished buffer is the front and the joined encodings of the items
 pub record AreJoined (front : List ℕ) (calls : List Call) (bytes : List ℕ) : Type 0 where

@@ -1,32 +1,18 @@
 -- Calls that are made one after another, for private functions.
-use Rattle.std.specs.Prelude.{ℕ, suc, ◌≡◌, IsTrue, List, [], ◌∷◌, ◌++◌, length, replicate, codes, decimal, Result, Ok, Err}
-use Rattle.rlp.specs.Streams.Stream.{State, IsFinished, closed_size, raw_text, Call, is_admitted, effect, finalize_unbounded_list, after}
-use Rattle.rlp_tool.specs.declared.building.Built.{Built}
-use Rattle.rlp_tool.specs.declared.building.Built.TheVariants.{Finished, Open}
+use Rattle.std.specs.Prelude.{ℕ, ◌≡◌, ◌+◌, IsTrue, List, [], ◌++◌, length, codes, decimal, Result, Ok, Err}
+use Rattle.rlp.specs.Streams.Stream.{State, IsFinished, closed_size, raw_text, Call, is_admitted, effect, after}
+use Rattle.rlp_tool.specs.{declared.building.Built.Built, declared.building.Built.TheVariants.{Finished, Open}}
 use Rattle.rlp_tool.specs.declared.building.BuildFault.{BuildFault}
 use Rattle.rlp_tool.specs.declared.building.BuildFault.TheVariants.{TooManyItems, NothingToFinish, RawNotItems, OutOfMemory}
-use Rattle.rlp_tool.specs.declared.making.LineFault.{LineFault}
-use Rattle.rlp_tool.specs.declared.making.LineFault.TheVariants.{Syntax, Failed}
-use Rattle.rlp_tool.specs.Script.{script}
-use Rattle.rlp_tool.specs.Building.{AreTaken, BringsTooMany, BringsNoItems, HasNothingToFinish, IsSomeStep, takes_memory}
+use Rattle.rlp_tool.specs.{declared.making.LineFault.LineFault, declared.making.LineFault.TheVariants.{Syntax, Failed}, Script.{prepend, script}}
+use Rattle.rlp_tool.specs.Building.{AreTaken, BringsTooMany, BringsNoItems, HasNothingToFinish, IsRefusal, IsSomeStep}
 
--- memory may be refused for a call: it is admitted, and takes memory
-abbrev pub LacksMemory : Call → State → Type 0
-LacksMemory call s = IsTrue (is_admitted call s) × IsTrue (takes_memory call)
-
--- why a call fails, in this state and this place. Raw bytes for which memory was refused may be no items
-abbrev pub IsUnmade : Call → State → ℕ → BuildFault → Type 0
-IsUnmade call s place (TooManyItems there) = (there ≡ place) × BringsTooMany call s
-IsUnmade call s place (NothingToFinish there) = (there ≡ place) × HasNothingToFinish call s
-IsUnmade call s place (RawNotItems there) = (there ≡ place) × BringsNoItems call s
-IsUnmade call s place OutOfMemory = LacksMemory call s
-
--- the same, if memory is refused only for raw bytes that are items
-abbrev pub IsUnfit : Call → State → ℕ → BuildFault → Type 0
-IsUnfit call s place (TooManyItems there) = (there ≡ place) × BringsTooMany call s
-IsUnfit call s place (NothingToFinish there) = (there ≡ place) × HasNothingToFinish call s
-IsUnfit call s place (RawNotItems there) = (there ≡ place) × BringsNoItems call s
-IsUnfit call s place OutOfMemory = LacksMemory call s × IsSomeStep call s
+-- why a call fails, in this state and this place
+abbrev pub Fails : Call → State → ℕ → BuildFault → Type 0
+Fails call s place (TooManyItems there) = (there ≡ place) × BringsTooMany call s
+Fails call s place (NothingToFinish there) = (there ≡ place) × HasNothingToFinish call s
+Fails call s place (RawNotItems there) = (there ≡ place) × BringsNoItems call s
+Fails call s place OutOfMemory = Unit
 
 -- a call passes its test, and leads from one state to the other
 abbrev pub IsTaken : Call → State → State → Type 0
@@ -38,26 +24,22 @@ pub record AreMade (front : List ℕ) (calls : List Call) (s : State) : Type 0 w
   pub admitted : after front calls ≡ Ok s
   pub same_front : s.front ≡ front
 
--- the same, but for this number of calls in the end: they close lists, and wait
-pub record AreMadeBut (front : List ℕ) (calls : List Call) (waiting : ℕ) (s : State) : Type 0 where
-  pub before : List Call
-  pub in_order : calls ≡ before ++ replicate waiting finalize_unbounded_list
-  pub made : AreMade front before s
+-- no call over the front failed, or one of them did, whatever follows them
+abbrev pub Goes : {T : Type 0} → List ℕ → List Call → State → Result T BuildFault → Type 0
+Goes front calls s (Ok end) = AreMade front calls s
+Goes front calls s (Err fault) = (later : List Call) → IsRefusal front (calls ++ later) fault
 
--- a call fails for this fault, and no call before it
-pub record Stops (unfit : Call → State → ℕ → BuildFault → Type 0) (front : List ℕ) (calls : List Call) (fault : BuildFault) : Type 0 where
-  pub before : List Call
-  pub call : Call
-  pub later : List Call
-  pub in_order : calls ≡ before ++ call ∷ later
-  pub met : State
-  pub made : AreMade front before met
-  pub refused : unfit call met (suc (length before)) fault
+-- behind some calls over the front, the first of those that were left are made, up to the first that fails. `place` is that of the next call.
+pub record MakesSome {T : Type 0} (front : List ℕ) (before : List Call) (old new : Result (List Call) ℕ) (place : ℕ) (s : State) (result : Result T BuildFault)
+    : Type 0 where
+  pub made : List Call
+  pub parts : old ≡ prepend made new
+  pub counted : place ≡ length (before ++ made) + 1
+  pub goes : Goes front (before ++ made) s result
 
--- these calls are made, but for those that wait; or one of them fails, whatever follows them
-abbrev pub Goes : (Call → State → ℕ → BuildFault → Type 0) → List ℕ → List Call → ℕ → State → Result (Unit {0}) BuildFault → Type 0
-Goes unfit front calls waiting s (Ok end) = AreMadeBut front calls waiting s
-Goes unfit front calls waiting s (Err fault) = (later : List Call) → Stops unfit front (calls ++ later) fault
+-- no call is next: none is left, or the next piece isn't a call
+abbrev pub NoneIsNext : Result (List Call) ℕ → Type 0
+NoneIsNext left = (calls : List Call) → left ≡ Ok calls → calls ≡ []
 
 -- the result of a stream in this state
 abbrev pub IsHeld : State → Built → Type 0
@@ -74,7 +56,7 @@ pub record MakesScript (text : List ℕ) (last : State) : Type 0 where
 pub record StopsScript (text : List ℕ) (fault : BuildFault) : Type 0 where
   pub calls : List Call
   pub says : script text ≡ Ok calls
-  pub stops : Stops IsUnmade [] calls fault
+  pub stops : IsRefusal [] calls fault
 
 -- why a script has no result: a piece isn't a call, or a call fails
 abbrev pub IsLineFault : List ℕ → LineFault → Type 0

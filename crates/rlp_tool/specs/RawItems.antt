@@ -1,8 +1,6 @@
 -- Raw bytes that are items.
-use Rattle.std.specs.Prelude.{ℕ, ◌≡◌, ◌≤◌, ◌&&◌, nat_eq, Bool, List, map, length, All}
-use Rattle.std.specs.Str.{bytes_eq}
-use Rattle.rlp.specs.Format.Encoding.{Item, item_depth, join}
-use Rattle.rlp.specs.Format.Framing.{split}
+use Rattle.std.specs.{Prelude.{ℕ, ◌≡◌, ◌≤◌, ◌&&◌, nat_eq, Bool, List, map, length, All}, Str.bytes_eq}
+use Rattle.rlp.specs.{Format.Encoding.{Item, item_depth, join}, Format.Framing.split}
 pub use Rattle.rlp.specs.Values.RawItem.{deepest_raw_item, item_within}
 
 -- an item of at most this depth

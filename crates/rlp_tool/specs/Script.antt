@@ -1,13 +1,11 @@
 -- Scripts: calls of a stream as text.
-use Rattle.std.specs.Prelude.{ℕ, ◌≡◌, ◌≢◌, IsSome, ◌+◌, ◌==◌, ◌++◌, length, Bool, if◌then◌else◌, List, [], ◌∷◌, take, drop, is_some}
-use Rattle.std.specs.Prelude.{Option, Some, None, option_map, position, filter_map, Result, Ok, Err}
-use Rattle.std.specs.List.{slice_split, list_all, prefix_len}
+use Rattle.std.specs.Prelude.{ℕ, ◌≡◌, ◌+◌, ◌==◌, ◌++◌, length, Bool, if◌then◌else◌, List, [], ◌∷◌, take, drop, is_some}
+use Rattle.std.specs.{Prelude.{Option, Some, None, option_map, position, filter_map, Result, Ok, Err}, List.{slice_split, list_all, prefix_len}}
 use Rattle.std.specs.Str.{byte}
 use Rattle.rlp.specs.Format.Encoding.{string}
 use Rattle.rlp.specs.Streams.Stream.{Call, append, append_raw, begin_list, begin_unbounded_list, finalize_unbounded_list, clear}
 use Rattle.rlp_lines.specs.Digits.{bytes_in, number_in}
-use Rattle.rlp_tool.specs.declared.script.ScriptFault.{ScriptFault}
-use Rattle.rlp_tool.specs.declared.script.ScriptFault.TheVariants.{Syntax, OutOfMemory}
+use Rattle.rlp_tool.specs.{declared.script.ScriptFault.ScriptFault, declared.script.ScriptFault.TheVariants.{Syntax, OutOfMemory}}
 
 -- the call of a single letter: `u` begins an unbounded list, `e` ends it, `c` clears
 abbrev pub letter_call : ℕ → Option Call
@@ -56,23 +54,19 @@ abbrev pub script : List ℕ → Result (List Call) ℕ
 script [] = Ok []
 script (b ∷ text) = calls_in (slice_split (λ c. c == byte " ") (b ∷ text))
 
--- the first piece of a text is a call, and so takes memory
-abbrev pub BeginsWithCall : List ℕ → Type 0
-BeginsWithCall text = (text ≢ []) × (script text ≢ Err 1)
-
--- why a script can't be read: a piece isn't a call, or memory was refused for a call
+-- why a script can't be read: a piece isn't a call, or memory was refused
 abbrev pub IsScriptFault : List ℕ → ScriptFault → Type 0
 IsScriptFault text (Syntax place) = script text ≡ Err place
-IsScriptFault text OutOfMemory = BeginsWithCall text
+IsScriptFault text OutOfMemory = Unit
 
 -- ---- parts that only clauses of private functions cite
 
--- the call was added to the calls before it
-abbrev pub AddsCall : List Call → List Call → Option Call → Type 0
-AddsCall old new (Some call) = new ≡ old ++ call ∷ []
-AddsCall old new None = ⊥
+-- some calls, and behind them the calls of the pieces that are left, or the place of the first that isn't a call, counted from the first call
+abbrev pub prepend : List Call → Result (List Call) ℕ → Result (List Call) ℕ
+prepend calls (Ok others) = Ok (calls ++ others)
+prepend calls (Err place) = Err (length calls + place)
 
--- why a piece isn't read, after these calls: it isn't a call, or memory was refused for its call
-abbrev pub IsUnread : List Call → Option Call → ScriptFault → Type 0
-IsUnread old call (Syntax place) = (call ≡ None) × (place ≡ length old + 1)
-IsUnread old call OutOfMemory = IsSome call
+-- the place of the first piece that isn't a call, if there is one; `first` is the place of the first piece
+abbrev pub IsUnread : ℕ → Result (List Call) ℕ → Option ℕ → Type 0
+IsUnread first left (Some place) = (calls : List Call) × (left ≡ Err (length calls + 1)) × (place ≡ first + length calls)
+IsUnread first left None = (calls : List Call) × (left ≡ Ok calls)

@@ -1,6 +1,5 @@
 -- The calls of a stream for `StreamCall`s.
-use Rattle.std.specs.Prelude.{ℕ, List, map, Vec}
-use Rattle.std.specs.declared.alloc.Global.{Global}
+use Rattle.std.specs.{Prelude.{ℕ, List, map, Vec}, declared.alloc.Global.Global}
 use Rattle.rlp.specs.Format.Encoding.{Item, string, list_of}
 use Rattle.rlp.specs.Streams.Stream.{Call, append, append_raw, begin_list, begin_unbounded_list, finalize_unbounded_list, clear}
 use Rattle.rlp_tool.specs.declared.calls.StreamCall.{StreamCall}

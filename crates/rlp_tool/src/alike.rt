@@ -1,10 +1,8 @@
 //! Whether calls finish as the same bytes.
 
-ghost use Rattle.std.specs.Prelude.{◌≡◌, ◌<◌, ◌↔◌, ◌⊎◌, List, length, IfOk, IfErr, IfSome, IsNone, IsSome, IsSomeAnd, IsTrue, OnErr, OnOk};
-ghost use Rattle.rlp.specs.Format.Encoding.{Item};
-ghost use Rattle.rlp.specs.Streams.Described.{IsDescribed, FinishAs};
-ghost use Rattle.rlp_tool.specs.Building.{AreJoined, AreTaken, DescribeItems, IsRefusal, IsRefusalOver, LeaveOpen};
-ghost use Rattle.rlp_tool.specs.StreamCalls.{calls_of};
+ghost use Rattle.std.specs.Prelude.{◌≡◌, ◌↔◌, ◌⊎◌, List, IfOk, IfErr, IfSome, IsNone, IsSome, IsSomeAnd, IsTrue, OnOk};
+ghost use Rattle.rlp.specs.{Format.Encoding.Item, Streams.Described.{IsDescribed, FinishAs}};
+ghost use Rattle.rlp_tool.specs.{Building.{AreJoined, AreTaken, DescribeItems, IsRefusal, LeaveOpen}, StreamCalls.calls_of};
 
 use crate::building::{BuildFault, Built, build};
 use crate::calls::StreamCall;
@@ -15,8 +13,7 @@ use std::alloc::{AllocError, Global};
 
 /// Returns a buffer of these bytes.
 fn buffer_of(alloc: Global, bytes: &[u8]) -> Result<BytesMut, AllocError>
-    ensures ok { IfOk result (λ buffer. buffer.items ≡ bytes.now) }
-    ensures refused { OnErr result (0 < length bytes.now) }
+    ensures { IfOk result (λ buffer. buffer.items ≡ bytes.now) }
 {
     let mut buffer = BytesMut::new(alloc);
     buffer.extend_from_slice(bytes)?;
@@ -52,8 +49,7 @@ fn finished_over<E: Encodable>(
 /// open. The buffer is the front and the encodings of the items that the calls describe, whatever
 /// raw bytes they put.
 ///
-/// Fails as [`build`] does, and with `OutOfMemory` if memory is refused for a copy of the front. A
-/// front of no bytes needs none.
+/// Fails as [`build`] does, and with `OutOfMemory` if memory is refused for a copy of the front.
 pub fn finished_buffer<E: Encodable>(
     alloc: Global,
     front: &[u8],
@@ -71,7 +67,7 @@ pub fn finished_buffer<E: Encodable>(
     ensures taken { OnOk result (AreTaken front.now (calls_of E.item calls.now)) }
     ensures left_open { IfOk result
         (λ buffer. IsNone buffer ↔ LeaveOpen front.now (calls_of E.item calls.now)) }
-    ensures refused { IfErr result (IsRefusalOver front.now (calls_of E.item calls.now)) }
+    ensures refused { IfErr result (IsRefusal front.now (calls_of E.item calls.now)) }
 {
     match buffer_of(alloc, front) {
         Ok(buffer) => finished_over(alloc, buffer, calls),
@@ -116,9 +112,9 @@ pub fn finish_alike<A: Encodable, B: Encodable>(
 
     // The calls of `other` fail only after those of `one` have finished.
     ensures refused { IfErr result
-        (λ fault. IsRefusalOver front.now (calls_of A.item one.now) fault
+        (λ fault. IsRefusal front.now (calls_of A.item one.now) fault
         ⊎ (DescribeItems front.now (calls_of A.item one.now)
-        × IsRefusalOver front.now (calls_of B.item other.now) fault)) }
+        × IsRefusal front.now (calls_of B.item other.now) fault)) }
 {
     let Some(first) = finished_buffer(alloc, front, one)? else {
         return Ok(None);

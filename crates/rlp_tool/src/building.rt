@@ -1,16 +1,13 @@
 //! Makes calls of a stream over a front.
-ghost use Rattle.std.specs.Prelude.{ℕ, ◌≡◌, ◌≢◌, ◌++◌, ◌∷◌, [], ◌+◌, ◌<◌, ◌↔◌, List, length, MatchOption, OnOk, OnErr, IfOk, IfErr, IsTrue, Ok};
-ghost use Rattle.rlp.specs.Format.Encoding.{Item, join};
-ghost use Rattle.rlp.specs.Format.Framing.{IsFramed, frame};
+ghost use Rattle.std.specs.Prelude.{ℕ, ◌≡◌, ◌++◌, ◌∷◌, [], ◌+◌, ◌^◌, ◌<◌, ◌↔◌, List, length, replicate, MatchOption, OnOk, IfOk, IfErr, IsTrue, Ok};
+ghost use Rattle.rlp.specs.{Format.Encoding.{Item, join}, Format.Framing.{IsFramed, frame}};
 ghost use Rattle.rlp.specs.Streams.Stream.{has_room, IsFinished, Call, append_raw, effect, finalize_unbounded_list, is_admitted};
 ghost use Rattle.rlp.specs.Streams.Described.{IsDescribed, IsDescribedWhere};
-ghost use Rattle.rlp_tool.specs.Building.{AreTaken, IsBuilt, IsRefusal, IsJoined, IsFinishedAs, IsSomeStep, takes_memory};
-ghost use Rattle.rlp_tool.specs.Making.{AreMadeBut, Goes, IsHeld, IsTaken, IsUnfit};
-ghost use Rattle.rlp_tool.specs.RawItems.{AreRawItems, IsShallow};
-ghost use Rattle.rlp_tool.specs.declared.building.BuildFault.{BuildFault};
+ghost use Rattle.rlp_tool.specs.Building.{AreTaken, IsBuilt, IsRefusal, IsJoined, IsFinishedAs, IsSomeStep};
+ghost use Rattle.rlp_tool.specs.{Making.{AreMade, Fails, Goes, IsHeld, IsTaken}, RawItems.{AreRawItems, IsShallow}, declared.building.BuildFault.BuildFault};
 ghost use Rattle.rlp_tool.specs.StreamCalls.{call_of, calls_of};
 
-use crate::calls::StreamCall;
+use crate::calls::{Calls, StreamCall, make_calls};
 use bytes::BytesMut;
 use rlp::laws::{
     encoding_is_framed, frame_is_of_framed, join_is_injective, parts_of_sized_are_sized,
@@ -50,16 +47,9 @@ pub enum BuildFault {
     OutOfMemory,
 }
 
-/// Whether a call is `Finish`.
-fn is_finish<E: Encodable>(call: &StreamCall<E>) -> bool
-    ensures { IsTrue result → call_of E.item call.now ≡ finalize_unbounded_list }
-{
-    matches!(call, StreamCall::Finish)
-}
-
 /// Whether the innermost list awaits at least `count` items, is unbounded, or no list is open.
 #[tactic(auto, using(crate::proofs::CallsLemmas::room))]
-pub(crate) fn has_room(stream: &RlpStream, count: usize) -> bool
+fn has_room(stream: &RlpStream, count: usize) -> bool
     ensures { result ≡ has_room count stream.now.state.stack.lists }
 {
     match stream.items_awaited() {
@@ -106,8 +96,7 @@ fn raw_items_are_canonical(bytes: &[u8], item_count: usize) -> bool
 fn admit_raw(stream: &RlpStream, bytes: &[u8], count: usize, place: usize) -> Result<(), BuildFault>
     ensures ok { OnOk result (IsTrue (has_room count stream.now.state.stack.lists)) }
     ensures brings { OnOk result (AreRawItems bytes.now count) }
-    ensures refused { IfErr result (IsUnfit (append_raw bytes.now count) stream.now.state place) }
-    ensures no_memory { IfErr result (λ fault. fault ≢ BuildFault.OutOfMemory) }
+    ensures refused { IfErr result (Fails (append_raw bytes.now count) stream.now.state place) }
 {
     if !has_room(stream, count) {
         return Err(BuildFault::TooManyItems(place));
@@ -127,8 +116,7 @@ fn admit<E: Encodable>(
 ) -> Result<(), BuildFault>
     ensures ok { OnOk result (IsTrue (is_admitted (call_of E.item call.now) stream.now.state)) }
     ensures brings { OnOk result (IsSomeStep (call_of E.item call.now) stream.now.state) }
-    ensures refused { IfErr result (IsUnfit (call_of E.item call.now) stream.now.state place) }
-    ensures no_memory { IfErr result (λ fault. fault ≢ BuildFault.OutOfMemory) }
+    ensures refused { IfErr result (Fails (call_of E.item call.now) stream.now.state place) }
 {
     parts_of_sized_are_sized();
     match call {
@@ -148,9 +136,8 @@ fn admit<E: Encodable>(
 #[inline(always)]
 fn make_call<E: Encodable>(stream: &mut RlpStream, call: &StreamCall<E>) -> Result<(), AllocError>
     requires { IsTrue (is_admitted (call_of E.item call.now) stream.old.state) }
-    ensures ok { OnOk result
+    ensures { OnOk result
         (stream.new.state ≡ effect (call_of E.item call.now) stream.old.state) }
-    ensures refused { OnErr result (IsTrue (takes_memory (call_of E.item call.now))) }
 {
     match call {
         StreamCall::Value(value) => {
@@ -186,7 +173,7 @@ pub(crate) fn take_call<E: Encodable>(
     ensures ok { OnOk result
         (stream.new.state ≡ effect (call_of E.item call.now) stream.old.state) }
     ensures brings { OnOk result (IsSomeStep (call_of E.item call.now) stream.old.state) }
-    ensures refused { IfErr result (IsUnfit (call_of E.item call.now) stream.old.state place) }
+    ensures refused { IfErr result (Fails (call_of E.item call.now) stream.old.state place) }
 {
     admit(stream, call, place)?;
     match make_call(stream, call) {
@@ -204,73 +191,100 @@ pub(crate) fn take_raw(
 ) -> Result<(), BuildFault>
     ensures ok { OnOk result (IsTaken (append_raw bytes.now count) stream.old.state
         stream.new.state) }
-    ensures refused { IfErr result (IsUnfit (append_raw bytes.now count) stream.old.state place) }
+    ensures refused { IfErr result (Fails (append_raw bytes.now count) stream.old.state place) }
 {
     parts_of_sized_are_sized();
-    if let Err(fault) = admit_raw(stream, bytes, count, place) {
-        return Err(fault);
-    }
+    admit_raw(stream, bytes, count, place)?;
     match stream.append_raw(bytes, count) {
         Ok(_) => Ok(()),
         Err(_) => Err(BuildFault::OutOfMemory),
     }
 }
 
-/// Makes the calls `Finish` that wait. They are made at once where several lists in a row are
-/// unbounded, so that each byte moves only once. `place` is the place behind them.
-#[inline(always)]
-pub(crate) fn make_waiting(
+/// Makes that many calls `Finish`. Lists in a row that are unbounded are closed at once, so that each
+/// byte moves only once. `place` is the place of the first call.
+pub(crate) fn take_finishes(
     stream: &mut RlpStream,
-    waiting: &mut usize,
+    count: usize,
     place: usize,
 ) -> Result<(), BuildFault>
-    requires { waiting.old < place }
-    ensures none { OnOk result (waiting.new ≡ 0) }
-    ensures made { (front : List ℕ) (calls : List Call)
-        → AreMadeBut front calls waiting.old stream.old.state → place ≡ length calls + 1
-        → Goes IsUnfit front calls waiting.new stream.new.state result }
+    requires { place + count < 2 ^ 64 }
+    ensures { (front : List ℕ) (before : List Call) → AreMade front before stream.old.state
+        → place ≡ length before + 1
+        → Goes front (before ++ replicate count finalize_unbounded_list) stream.new.state result }
 {
     unbounded_lists_are_finalized_in_turn();
-    while *waiting > 0 {
+    let mut made = 0;
+    while made < count {
         if !stream.can_finalize() {
-            return Err(BuildFault::NothingToFinish(place - *waiting));
+            return Err(BuildFault::NothingToFinish(place + made));
         }
-        match stream.finalize_unbounded_lists(*waiting) {
-            Ok(finished) => *waiting -= finished,
+        match stream.finalize_unbounded_lists(count - made) {
+            Ok(finished) => made += finished,
             Err(_) => return Err(BuildFault::OutOfMemory),
         }
     }
     Ok(())
 }
 
-/// Makes a call after those that wait, or lets it wait if it is `Finish`. `place` is its place.
-fn take_next<E: Encodable>(
-    stream: &mut RlpStream,
-    waiting: &mut usize,
-    call: &StreamCall<E>,
-    place: usize,
-) -> Result<(), BuildFault>
-    requires { waiting.old < place }
-    ensures { (front : List ℕ) (calls : List Call)
-        → AreMadeBut front calls waiting.old stream.old.state → place ≡ length calls + 1
-        → Goes IsUnfit front (calls ++ call_of E.item call.now ∷ []) waiting.new
-        stream.new.state result }
+/// The number of calls `Finish` that calls begin with, and the calls after them.
+#[inline(always)]
+fn leading_finishes<E: Encodable>(calls: &[StreamCall<E>]) -> (usize, &[StreamCall<E>])
+    ensures split { calls_of E.item calls.now
+        ≡ replicate result.0 finalize_unbounded_list ++ calls_of E.item result.1.now }
+    ensures counted { length calls.now ≡ result.0 + length result.1.now }
 {
-    if is_finish(call) {
-        *waiting += 1;
-        return Ok(());
+    let mut count = 0;
+    let mut rest = calls;
+    while let [StreamCall::Finish, others @ ..] = rest {
+        count += 1;
+        rest = others;
     }
-    if let Err(fault) = make_waiting(stream, waiting, place) {
-        return Err(fault);
+    (count, rest)
+}
+
+/// Calls that are values.
+#[derive(Drop)]
+struct Values<'a, E> {
+    calls: &'a [StreamCall<E>],
+    place: usize,
+}
+
+impl<E: Encodable> Calls for Values<'_, E> {
+    ghost left = { λ s. Ok (calls_of E.item s.calls.now) };
+
+    ghost place = { λ s. s.place };
+
+    ghost size = { λ s. length s.calls.now };
+
+    #[inline(always)]
+    fn make_next(
+        &mut self,
+        stream: &mut RlpStream,
+        _room: &mut Vec<u8>,
+    ) -> Result<bool, BuildFault> {
+        let place = self.place;
+        let (count, rest) = leading_finishes(self.calls);
+        if count > 0 {
+            self.calls = rest;
+            self.place += count;
+            take_finishes(stream, count, place)?;
+            return Ok(true);
+        }
+        let Some((call, others)) = rest.split_first() else {
+            return Ok(false);
+        };
+        self.calls = others;
+        self.place += 1;
+        take_call(stream, call, place)?;
+        Ok(true)
     }
-    take_call(stream, call, place)
 }
 
 /// The result of a stream after all calls.
 fn held(alloc: Global, stream: RlpStream) -> Result<Built, BuildFault>
     ensures ok { IfOk result (IsHeld stream.state) }
     ensures refused { IfErr result (λ fault. fault ≡ BuildFault.OutOfMemory) }
-    ensures unfinished { OnErr result (¬ IsFinished stream.state) }
 {
     if stream.is_finished() {
         return Ok(Built::Finished(stream.out()));
@@ -294,8 +308,7 @@ fn held(alloc: Global, stream: RlpStream) -> Result<Built, BuildFault>
 /// with `TooManyItems` or else `RawNotItems`, a `Finish` with `NothingToFinish`.
 ///
 /// Fails with `OutOfMemory` if memory is refused, or if a value's own `rlp_append` returns an
-/// error. Then some call that takes memory was admitted, and so was each call before it. All calls
-/// but `Clear` take memory.
+/// error.
 ///
 /// ```rust
 /// let calls = [StreamCall::Begin(2), StreamCall::Value(1u64), StreamCall::Value(2u64)];
@@ -327,16 +340,7 @@ pub fn build<E: Encodable>(
 {
     stream_joins_what_is_described();
     let mut stream = RlpStream::new_with_buffer(alloc, front);
-    let mut waiting = 0;
-    let mut made = 0;
-    while made < calls.len() {
-        if let Err(fault) = take_next(&mut stream, &mut waiting, &calls[made], made + 1) {
-            return Err(fault);
-        }
-        made += 1;
-    }
-    if let Err(fault) = make_waiting(&mut stream, &mut waiting, made + 1) {
-        return Err(fault);
-    }
+    let mut values = Values { calls, place: 1 };
+    make_calls(&mut values, &mut stream, &mut Vec::new(alloc))?;
     held(alloc, stream)
 }

@@ -1,4 +1,10 @@
-//! Calls of a stream as values.
+//! Calls of a stream as values, and the loop that makes calls.
+ghost use Rattle.std.specs.Prelude.{ℕ, ◌≡◌, ◌+◌, ◌<◌, ◌≤◌, ◌^◌, [], false, true, length, List, IfOk, OnOk, Result};
+ghost use Rattle.rlp.specs.Streams.Stream.{Call, initial_state};
+ghost use Rattle.rlp_tool.specs.Making.{AreMade, MakesSome, NoneIsNext};
+
+use crate::building::BuildFault;
+use rlp::RlpStream;
 
 /// A call of a stream, with its arguments.
 #[derive(Debug, Drop)]
@@ -17,4 +23,51 @@ pub enum StreamCall<E> {
     Finish,
     /// Drops everything that was written, as `RlpStream::clear`.
     Clear,
+}
+
+/// Calls that are made one after another, from values or from text.
+pub(crate) trait Calls {
+    /// The calls that are left. In text that isn't all calls, the place among the pieces that are
+    /// left, counted from 1, of the first that isn't a call.
+    ghost left: { Self → Result (List Call) ℕ };
+
+    /// The place of the next call.
+    ghost place: { Self → ℕ };
+
+    /// At least the number of calls that are left.
+    ghost size: { Self → ℕ };
+
+    /// Makes the next call if it passes its test, or the next calls `Finish` in a row. Returns
+    /// whether there was one. It may use the room for the bytes of a value.
+    fn make_next(&mut self, stream: &mut RlpStream, room: &mut Vec<u8>) -> Result<bool, BuildFault>
+        requires { place self.old + size self.old < 2 ^ 64 }
+        ensures made { (front : List ℕ) (before : List Call)
+            → AreMade front before stream.old.state → place self.old ≡ length before + 1
+            → MakesSome front before (left self.old) (left self.new) (place self.new)
+            stream.new.state result }
+        ensures ended { IfOk result (λ more. more ≡ false → NoneIsNext (left self.new)) }
+        ensures within { place self.new + size self.new ≤ place self.old + size self.old }
+        ensures shorter { IfOk result (λ more. more ≡ true → size self.new < size self.old) };
+}
+
+/// Makes all calls on a stream over a front, up to the first that fails.
+#[inline(always)]
+pub(crate) fn make_calls<C: Calls>(
+    calls: &mut C,
+    stream: &mut RlpStream,
+    room: &mut Vec<u8>,
+) -> Result<(), BuildFault>
+    requires first { C.place calls.old ≡ 1 }
+    requires within { C.place calls.old + C.size calls.old < 2 ^ 64 }
+    ensures made { (front : List ℕ) → stream.old.state ≡ initial_state front
+        → MakesSome front [] (C.left calls.old) (C.left calls.new) (C.place calls.new)
+        stream.new.state result }
+    ensures ended { OnOk result (NoneIsNext (C.left calls.new)) }
+    ensures within { C.place calls.new + C.size calls.new ≤ C.place calls.old + C.size calls.old }
+{
+    loop {
+        if !calls.make_next(stream, room)? {
+            return Ok(());
+        }
+    }
 }

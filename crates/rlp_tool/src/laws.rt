@@ -1,9 +1,7 @@
 //! Laws about the answers to lines. These functions have no effect: each contract is the law.
 
 ghost use Rattle.std.specs.Prelude.{◌≡◌, ◌++◌, ◌↔◌, ℕ, List, [], IsTrue, codes, decimal};
-ghost use Rattle.rlp.specs.Format.Encoding.{Item, join, BeginsWith};
-ghost use Rattle.rlp.specs.Streams.Stream.{Call};
-ghost use Rattle.rlp.specs.Streams.Described.{FinishAs, IsDescribedWhere};
+ghost use Rattle.rlp.specs.{Format.Encoding.{Item, join, BeginsWith}, Streams.Stream.Call, Streams.Described.{FinishAs, IsDescribedWhere}};
 ghost use Rattle.rlp_tool.specs.Answer.{SaysCalls, answer, finished_answer, open_answer};
 ghost use Rattle.rlp_tool.specs.Building.{AreJoined, AreRefused, AreTaken, BringsNoItems, BringsTooMany, HasNothingToFinish, StayOpen};
 ghost use Rattle.rlp_tool.specs.RawItems.{AreRawItems, IsShallow, are_raw_items};

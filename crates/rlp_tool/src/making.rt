@@ -1,14 +1,12 @@
 //! Makes the calls of a script on a stream, each as its piece is read.
-ghost use Rattle.std.specs.Prelude.{ℕ, ◌≡◌, ◌++◌, ◌∷◌, ◌+◌, ◌<◌, [], List, length, IfOk, IfErr, OnOk, Ok, Some};
-ghost use Rattle.rlp.specs.Streams.Stream.{initial_state, Call, append, append_raw};
-ghost use Rattle.rlp.specs.Format.Encoding.{string};
-ghost use Rattle.rlp_tool.specs.Making.{AreMade, AreMadeBut, Goes, IsLineFault, IsTaken, IsUnmade, MakesScript};
-ghost use Rattle.rlp_tool.specs.Script.{script};
-ghost use Rattle.rlp_tool.specs.Pieces.{ArePairs, HasPairs, bytes_of, piece_call};
+ghost use Rattle.std.specs.Prelude.{◌≡◌, ◌+◌, [], IfOk, IfErr, OnOk};
+ghost use Rattle.rlp.specs.{Streams.Stream.{initial_state, append, append_raw}, Format.Encoding.string};
+ghost use Rattle.rlp_tool.specs.{Making.{Fails, IsLineFault, IsTaken, MakesScript}, Script.{calls_in, script}};
+ghost use Rattle.rlp_tool.specs.Pieces.{ArePairs, HasPairs, bytes_of, left_len, piece_call, pieces_left};
 
-use crate::building::{BuildFault, has_room, make_waiting, take_call, take_raw};
-use crate::calls::StreamCall;
-use crate::script::{Piece, decode, first_unread, next_piece, pieces_of};
+use crate::building::{BuildFault, take_call, take_finishes, take_raw};
+use crate::calls::{Calls, StreamCall, make_calls};
+use crate::script::{Piece, decode, first_unread, leading_finishes, next_piece, pieces_of};
 use bytes::BytesMut;
 use rlp::RlpStream;
 use std::alloc::Global;
@@ -33,10 +31,10 @@ fn take_value(
     place: usize,
 ) -> Result<(), BuildFault>
     requires { ArePairs digits.now }
-    ensures ok { (bytes : List ℕ) → Some bytes ≡ bytes_of digits.now
-        → OnOk result (IsTaken (append (string bytes)) stream.old.state stream.new.state) }
-    ensures refused { (bytes : List ℕ) → Some bytes ≡ bytes_of digits.now
-        → IfErr result (IsUnmade (append (string bytes)) stream.old.state place) }
+    ensures ok { OnOk result (IsTaken (append (string (bytes_of digits.now))) stream.old.state
+        stream.new.state) }
+    ensures refused { IfErr result
+        (Fails (append (string (bytes_of digits.now))) stream.old.state place) }
 {
     match decode(digits, room) {
         Ok(()) => {
@@ -56,23 +54,17 @@ fn take_digits(
     place: usize,
 ) -> Result<(), BuildFault>
     requires { ArePairs digits.now }
-    ensures ok { (bytes : List ℕ) → Some bytes ≡ bytes_of digits.now
-        → OnOk result (IsTaken (append_raw bytes count) stream.old.state stream.new.state) }
-    ensures refused { (bytes : List ℕ) → Some bytes ≡ bytes_of digits.now
-        → IfErr result (IsUnmade (append_raw bytes count) stream.old.state place) }
+    ensures ok { OnOk result (IsTaken (append_raw (bytes_of digits.now) count) stream.old.state
+        stream.new.state) }
+    ensures refused { IfErr result
+        (Fails (append_raw (bytes_of digits.now) count) stream.old.state place) }
 {
     match decode(digits, room) {
         Ok(()) => {
             let bytes = &room[..digits.len() / 2];
             take_raw(stream, bytes, count, place)
         }
-        Err(_) => {
-            if has_room(stream, count) {
-                Err(BuildFault::OutOfMemory)
-            } else {
-                Err(BuildFault::TooManyItems(place))
-            }
-        }
+        Err(_) => Err(BuildFault::OutOfMemory),
     }
 }
 
@@ -84,10 +76,9 @@ fn take_piece(
     place: usize,
 ) -> Result<(), BuildFault>
     requires { HasPairs piece.now }
-    ensures ok { (call : Call) → Some call ≡ piece_call piece.now
-        → OnOk result (IsTaken call stream.old.state stream.new.state) }
-    ensures refused { (call : Call) → Some call ≡ piece_call piece.now
-        → IfErr result (IsUnmade call stream.old.state place) }
+    ensures ok { OnOk result
+        (IsTaken (piece_call piece.now) stream.old.state stream.new.state) }
+    ensures refused { IfErr result (Fails (piece_call piece.now) stream.old.state place) }
 {
     match piece {
         Piece::Value(digits) => take_value(stream, digits, room, place),
@@ -100,28 +91,47 @@ fn take_piece(
     }
 }
 
-/// Makes the call of a piece after those that wait, or lets it wait if it is `e`.
-fn make_piece(
-    stream: &mut RlpStream,
-    waiting: &mut usize,
-    piece: &Piece<'_>,
-    room: &mut Vec<u8>,
+/// The pieces of a script that are left. The room to decode one isn't a field: the compiler would
+/// then keep all fields in memory.
+#[derive(Drop)]
+struct Script<'a> {
+    left: Option<&'a [u8]>,
     place: usize,
-) -> Result<(), BuildFault>
-    requires waiting { waiting.old < place }
-    requires digits { HasPairs piece.now }
-    ensures { (calls : List Call) (call : Call) → AreMadeBut [] calls waiting.old stream.old.state
-        → place ≡ length calls + 1 → Some call ≡ piece_call piece.now
-        → Goes IsUnmade [] (calls ++ call ∷ []) waiting.new stream.new.state result }
-{
-    if let Piece::Finish = piece {
-        *waiting += 1;
-        return Ok(());
+}
+
+impl Calls for Script<'_> {
+    ghost left = { λ s. calls_in (pieces_left s.left) };
+
+    ghost place = { λ s. s.place };
+
+    ghost size = { λ s. left_len s.left };
+
+    #[inline(always)]
+    fn make_next(
+        &mut self,
+        stream: &mut RlpStream,
+        room: &mut Vec<u8>,
+    ) -> Result<bool, BuildFault> {
+        let place = self.place;
+        let Some(rest) = self.left else {
+            return Ok(false);
+        };
+        let (piece, others) = next_piece(rest);
+        let Some(piece) = piece else {
+            return Ok(false);
+        };
+        if let Piece::Finish = piece {
+            let (count, left) = leading_finishes(others);
+            self.left = left;
+            self.place += 1 + count;
+            take_finishes(stream, 1 + count, place)?;
+            return Ok(true);
+        }
+        self.left = others;
+        self.place += 1;
+        take_piece(stream, &piece, room, place)?;
+        Ok(true)
     }
-    if let Err(fault) = make_waiting(stream, waiting, place) {
-        return Err(fault);
-    }
-    take_piece(stream, piece, room, place)
 }
 
 /// An empty stream, with room if memory is granted for it.
@@ -134,22 +144,6 @@ fn empty_stream(alloc: Global) -> RlpStream
     }
 }
 
-/// The stream, once the calls that wait are made.
-fn finished(stream: RlpStream, waiting: usize, place: usize) -> Result<RlpStream, LineFault>
-    requires { waiting < place }
-    ensures ok { (calls : List Call) → AreMadeBut [] calls waiting stream.state
-        → place ≡ length calls + 1 → IfOk result (λ last. AreMade [] calls last.state) }
-    ensures refused { (text : List ℕ) (calls : List Call) → AreMadeBut [] calls waiting stream.state
-        → place ≡ length calls + 1 → script text ≡ Ok calls → IfErr result (IsLineFault text) }
-{
-    let mut stream = stream;
-    let mut waiting = waiting;
-    match make_waiting(&mut stream, &mut waiting, place) {
-        Ok(()) => Ok(stream),
-        Err(fault) => Err(LineFault::Failed(fault)),
-    }
-}
-
 /// Makes the calls of a script on an empty stream, each as its piece is read, and returns the stream.
 ///
 /// After a call that fails it only reads. The first piece that isn't a call comes before any call
@@ -159,23 +153,16 @@ pub(crate) fn make_script(alloc: Global, text: &[u8]) -> Result<RlpStream, LineF
     ensures refused { IfErr result (IsLineFault text.now) }
 {
     let mut stream = empty_stream(alloc);
-    let mut room = Vec::new(alloc);
-    let mut waiting = 0;
-    let mut place = 1;
-    let mut left = pieces_of(text);
-    while let Some(rest) = left {
-        let (piece, others) = next_piece(rest);
-        let Some(piece) = piece else {
-            return Err(LineFault::Syntax(place));
-        };
-        if let Err(fault) = make_piece(&mut stream, &mut waiting, &piece, &mut room, place) {
-            return Err(match first_unread(others, place + 1) {
-                Some(place) => LineFault::Syntax(place),
-                None => LineFault::Failed(fault),
-            });
-        }
-        place += 1;
-        left = others;
+    let mut calls = Script {
+        left: pieces_of(text),
+        place: 1,
+    };
+    let made = make_calls(&mut calls, &mut stream, &mut Vec::new(alloc));
+    if let Some(place) = first_unread(calls.left, calls.place) {
+        return Err(LineFault::Syntax(place));
     }
-    finished(stream, waiting, place)
+    match made {
+        Ok(()) => Ok(stream),
+        Err(fault) => Err(LineFault::Failed(fault)),
+    }
 }

@@ -1,12 +1,10 @@
 //! Scripts: calls of a stream as text.
-ghost use Rattle.std.specs.Prelude.{◌≡◌, ◌≢◌, [], ◌==◌, ◌+◌, ◌++◌, ◌/◌, ◌^◌, ◌<◌, ◌≤◌, ◌∷◌, false, IsTrue, length, position, option_map, take, vec_len, Some, None, MatchOption, IfSome, IfOk, IfErr, OnOk, Ok};
-ghost use Rattle.std.specs.List.{list_all, prefix_len};
-ghost use Rattle.rlp.specs.Format.Encoding.{string};
-ghost use Rattle.rlp.specs.Streams.Stream.{append, begin_list};
-ghost use Rattle.rlp_tool.specs.Script.{call_in, calls_in, is_call, labelled_call, letter_call, raw_parts, script, AddsCall, IsUnread, IsScriptFault};
-ghost use Rattle.rlp_lines.specs.Digits.{bytes_in, number_in};
+ghost use Rattle.std.specs.Prelude.{◌≡◌, [], ◌==◌, ◌+◌, ◌++◌, ◌/◌, ◌^◌, ◌<◌, ◌≤◌, ◌∷◌, length, position, option_map, replicate, take, vec_len, Some, None, MatchOption, IfSome, IfOk, IfErr, OnOk, Ok};
+ghost use Rattle.rlp.specs.{Format.Encoding.string, Streams.Stream.{append, begin_list, finalize_unbounded_list}};
+ghost use Rattle.rlp_tool.specs.Script.{call_in, calls_in, labelled_call, letter_call, prepend, raw_parts, script, IsUnread, IsScriptFault};
 ghost use Rattle.rlp_tool.specs.Pieces.{ArePairs, HasPairs, IsRead, bytes_of, front_piece, left_len, piece_call, pieces_left, spaces};
 ghost use Rattle.rlp_tool.specs.StreamCalls.{call_of_bytes, calls_of_bytes};
+ghost use Rattle.rlp_lines.specs.Digits.{bytes_in, number_in};
 
 use crate::calls::StreamCall;
 use memchr::memchr;
@@ -70,9 +68,10 @@ fn read_letter<'a>(letter: u8) -> Option<Piece<'a>>
 }
 
 /// The digits of a text, without `0x` before them. Returns `None` if they aren't two for each byte.
+#[tactic(auto, using(crate::proofs::CutLemmas::bytes_of_pairs))]
 fn digits_in(text: &[u8]) -> Option<&[u8]>
     ensures { MatchOption result (bytes_in text.now ≡ None)
-        (λ digits. ArePairs digits.now × (bytes_in text.now ≡ bytes_of digits.now)) }
+        (λ digits. ArePairs digits.now × (bytes_in text.now ≡ Some (bytes_of digits.now))) }
 {
     let digits = without_prefix(text);
     if are_pairs(digits) {
@@ -148,7 +147,6 @@ fn read_piece(piece: &[u8]) -> Option<Piece<'_>>
 pub(crate) fn pieces_of(text: &[u8]) -> Option<&[u8]>
     ensures all { script text.now ≡ calls_in (pieces_left result) }
     ensures within { left_len result ≤ length text.now + 1 }
-    ensures some { IfSome result (λ _. text.now ≢ []) }
 {
     if text.is_empty() { None } else { Some(text) }
 }
@@ -172,7 +170,7 @@ fn first_piece<'a>(text: &'a [u8]) -> (&'a [u8], Option<&'a [u8]>)
 fn byte_of(digits: &[u8]) -> u8
     requires pairs { ArePairs digits.now }
     requires two { length digits.now ≡ 2 }
-    ensures { bytes_of digits.now ≡ Some (result ∷ []) }
+    ensures { bytes_of digits.now ≡ result ∷ [] }
 {
     let mut bytes = [0];
     put_bytes(digits, &mut bytes);
@@ -218,21 +216,39 @@ pub(crate) fn next_piece<'a>(text: &'a [u8]) -> (Option<Piece<'a>>, Option<&'a [
     (read_piece(piece), others)
 }
 
+/// The number of pieces `e` that a text begins with, and the text of those after them.
+#[inline(always)]
+pub(crate) fn leading_finishes<'a>(pieces: Option<&'a [u8]>) -> (usize, Option<&'a [u8]>)
+    ensures split { calls_in (pieces_left pieces.entry)
+        ≡ prepend (replicate result.0 finalize_unbounded_list) (calls_in (pieces_left result.1)) }
+    ensures shorter { result.0 + left_len result.1 ≤ left_len pieces.entry }
+{
+    let mut left = pieces;
+    let mut count = 0;
+    while let Some(rest) = left {
+        left = match rest {
+            [b'e'] => None,
+            [b'e', b' ', others @ ..] => Some(others),
+            _ => return (count, left),
+        };
+        count += 1;
+    }
+    (count, left)
+}
+
 /// The place of the first piece that isn't a call, if there is one. `first` is the place of the first piece.
 #[inline(never)]
 pub(crate) fn first_unread(pieces: Option<&[u8]>, first: usize) -> Option<usize>
     requires { first + left_len pieces < 2 ^ 64 }
-    ensures { MatchOption result (IsTrue (list_all is_call (pieces_left pieces.entry)))
-        (λ place. (list_all is_call (pieces_left pieces.entry) ≡ false)
-        × (place ≡ first + prefix_len is_call (pieces_left pieces.entry))) }
+    ensures { IsUnread first (calls_in (pieces_left pieces.entry)) result }
 {
     let mut left = pieces;
     let mut place = first;
     while let Some(rest) = left {
         let (piece, others) = next_piece(rest);
-        if piece.is_none() {
+        let Some(_) = piece else {
             return Some(place);
-        }
+        };
         place += 1;
         left = others;
     }
@@ -243,7 +259,7 @@ pub(crate) fn first_unread(pieces: Option<&[u8]>, first: usize) -> Option<usize>
 pub(crate) fn decode(digits: &[u8], room: &mut Vec<u8>) -> Result<(), AllocError>
     requires { ArePairs digits.now }
     ensures gives { OnOk result
-        (Some (take (length digits.now / 2) room.new.items) ≡ bytes_of digits.now) }
+        (take (length digits.now / 2) room.new.items ≡ bytes_of digits.now) }
     ensures within { OnOk result (length digits.now / 2 ≤ vec_len room.new) }
 {
     let count = digits.len() / 2;
@@ -257,7 +273,7 @@ pub(crate) fn decode(digits: &[u8], room: &mut Vec<u8>) -> Result<(), AllocError
 /// Returns the bytes of digits.
 fn decoded(alloc: Global, digits: &[u8]) -> Result<Vec<u8>, AllocError>
     requires { ArePairs digits.now }
-    ensures { IfOk result (λ bytes. Some bytes.items ≡ bytes_of digits.now) }
+    ensures { IfOk result (λ bytes. bytes.items ≡ bytes_of digits.now) }
 {
     let mut bytes = vec![in alloc; 0u8; digits.len() / 2]?;
     put_bytes(digits, bytes.as_mut_slice());
@@ -267,7 +283,7 @@ fn decoded(alloc: Global, digits: &[u8]) -> Result<Vec<u8>, AllocError>
 /// Returns the call that a piece is.
 fn call_of(alloc: Global, piece: &Piece<'_>) -> Result<StreamCall<Vec<u8>>, AllocError>
     requires { HasPairs piece.now }
-    ensures { IfOk result (λ call. Some (call_of_bytes call) ≡ piece_call piece.now) }
+    ensures { IfOk result (λ call. call_of_bytes call ≡ piece_call piece.now) }
 {
     Ok(match piece {
         Piece::Value(digits) => StreamCall::Value(decoded(alloc, digits)?),
@@ -287,8 +303,8 @@ fn push_call(
     calls: &mut Vec<StreamCall<Vec<u8>>>,
 ) -> Result<(), AllocError>
     requires { HasPairs piece.now }
-    ensures { OnOk result (AddsCall (calls_of_bytes calls.old.items)
-        (calls_of_bytes calls.new.items) (piece_call piece.now)) }
+    ensures { OnOk result (calls_of_bytes calls.new.items
+        ≡ calls_of_bytes calls.old.items ++ piece_call piece.now ∷ []) }
 {
     match calls.push(call_of(alloc, piece)?) {
         Ok(()) => Ok(()),
@@ -302,8 +318,8 @@ fn push_call(
 /// `d:HEX` is a `Value` of the bytes, `r:N:HEX` is `Raw`, `l:N` is `Begin`, and `u`, `e`, `c` are
 /// `BeginUnbounded`, `Finish`, `Clear`.
 ///
-/// Fails with `Syntax` and the place, counted from 1, of the first piece that isn't a call. Fails
-/// with `OutOfMemory` if memory is refused for a call. Then the first piece is a call.
+/// Fails with `Syntax` and the place, counted from 1, of the first piece that isn't a call, or with
+/// `OutOfMemory` if memory is refused.
 ///
 /// ```rust
 /// let calls = rlp_tool::read_calls(alloc, b"l:1 d:2a")?;

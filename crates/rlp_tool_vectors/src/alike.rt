@@ -1,8 +1,8 @@
 //! Two lists of calls over one front, and whether they finish as the same bytes.
 
 use crate::rows::Row;
-use rlp_rows::Line;
 use rlp_tool::{finish_alike, finished_buffer, read_calls};
+use rlp_vectors::rows::Line;
 use std::alloc::Global;
 use std::test::Fail;
 

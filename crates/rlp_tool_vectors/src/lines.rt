@@ -2,7 +2,7 @@
 
 use crate::devices::{Left, Plan, SOUND, ran};
 use crate::rows::{Row, text_of};
-use rlp_rows::Line;
+use rlp_vectors::rows::Line;
 use std::alloc::{AllocError, Global};
 use std::fmt;
 use std::fmt::Write;

@@ -1,6 +1,7 @@
 //! A line with a fault of syntax, behind calls that lack memory.
 //!
-//! `refusals/run` refuses every request after a signal. The signal is a request for `SIGNAL` bytes.
+//! `tools/refusals/run` refuses every request after a signal. The signal is a request for `SIGNAL`
+//! bytes.
 
 use crate::devices::{SOUND, writer};
 use rlp_tool::{Noted, run};

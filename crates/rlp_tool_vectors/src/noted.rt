@@ -3,8 +3,8 @@
 
 use crate::devices::{Plan, SOUND, ran, reader, writer};
 use crate::rows::{Row, plan_of};
-use rlp_rows::{Line, number};
 use rlp_tool::{RunFault, exit_status};
+use rlp_vectors::rows::{Line, number};
 use std::alloc::{AllocError, Global};
 use std::fmt::Write as _;
 use std::io::{Read, Write};

@@ -1,6 +1,7 @@
 //! Calls as values, made in order, and lines. One call or line is refused memory.
 //!
-//! `refusals/run` refuses each request of these tests in turn. A test then returns `AllocError`.
+//! `tools/refusals/run` refuses each request of these tests in turn. A test then returns
+//! `AllocError`.
 
 use crate::devices::{SOUND, reader, writer};
 use bytes::BytesMut;

@@ -1,7 +1,7 @@
 //! Rows of runs: how the devices behave, what the tool reads, and what it answers, as text.
 
 use crate::devices::{Calls, Plan, SOUND};
-use rlp_rows::{cut, number, push_header};
+use rlp_vectors::rows::{cut, number, push_header};
 use std::alloc::{AllocError, Global};
 use std::io::ErrorKind;
 

@@ -2,8 +2,8 @@
 
 use crate::devices::{Left, NEVER, Plan, SOUND, ran};
 use crate::rows::{Row, text_of};
-use rlp_rows::{Line, number};
 use rlp_tool::RunFault;
+use rlp_vectors::rows::{Line, number};
 use std::alloc::{AllocError, Global};
 use std::fmt;
 use std::fmt::Write;

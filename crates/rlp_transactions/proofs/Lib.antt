@@ -1,3 +1,4 @@
 pub mod Parities
 pub mod Pooled
+pub mod Scalars
 pub mod Signing

@@ -1,7 +1,6 @@
 -- Transactions as they are sent, and as they stand in blocks.
 use Rattle.std.proofs.Common.{◌≡◌, ◌≢◌, refl, sym, ap, ◌∙◌}
-use Rattle.rlp_records.specs.Alone.{bytes_alone}
-use Rattle.rlp_records.specs.Eip2718.{type_of}
+use Rattle.rlp_records.specs.{Alone.bytes_alone, Eip2718.type_of}
 use Rattle.rlp_transactions.specs.PooledTransaction.{consensus_form, pooled_transaction, seen_consensus}
 use Rattle.rlp_transactions.specs.Transaction.{transaction, transaction_types}
 use Rattle.rlp_transactions.specs.declared.pooled_blob_transaction.PooledBlobTransaction.TheVariants.{CellProofs, Proofs}

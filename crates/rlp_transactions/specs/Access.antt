@@ -1,10 +1,8 @@
 -- How access lists are written and read.
 use Rattle.std.specs.Vec.{vec_items}
 use Rattle.rlp.specs.Codec.{Codec, Fields, end, field, list_type, struct_of}
-use Rattle.rlp_transactions.specs.declared.access.AccessList.{AccessList}
-use Rattle.rlp_transactions.specs.declared.access.AccessListItem.{AccessListItem}
-use Rattle.rlp_records.specs.Address.{address}
-use Rattle.rlp_records.specs.Hash.{hash}
+use Rattle.rlp_transactions.specs.{declared.access.AccessList.AccessList, declared.access.AccessListItem.AccessListItem}
+use Rattle.rlp_records.specs.{Address.address, Hash.hash}
 
 -- EIP-2930: [{20 bytes}, [{32 bytes}...]]
 abbrev pub access_list_item_fields : Fields AccessListItem

@@ -1,12 +1,8 @@
 -- How transactions of type 1 are written and read.
-use Rattle.std.specs.Prelude.{Bool, refl}
-use Rattle.std.specs.Vec.{vec_items}
+use Rattle.std.specs.{Prelude.{Bool, refl}, Vec.vec_items}
 use Rattle.rlp.specs.Codec.{Codec, Fields, byte_string, end, field, number, truth_value, uint}
-use Rattle.rlp_transactions.specs.declared.access_list_transaction.AccessListTransaction.{AccessListTransaction}
-use Rattle.rlp_transactions.specs.Access.{access_list}
-use Rattle.rlp_transactions.specs.Recipient.{recipient}
-use Rattle.rlp_transactions.specs.Signed.{signed}
-use Rattle.rlp_transactions.specs.declared.signed.Signed.{Signed}
+use Rattle.rlp_transactions.specs.{declared.access_list_transaction.AccessListTransaction.AccessListTransaction, Access.access_list}
+use Rattle.rlp_transactions.specs.{Recipient.recipient, Signed.signed, declared.signed.Signed.Signed}
 
 -- EIP-2930: rlp([chainId, nonce, gasPrice, gasLimit, to, value, data, accessList, signatureYParity, signatureR, signatureS]). Here are the fields before the
 -- signature.

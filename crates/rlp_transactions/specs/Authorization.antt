@@ -1,10 +1,8 @@
 -- How authorizations of transactions of type 4 are written and read.
 use Rattle.std.specs.Prelude.{ℕ, refl}
 use Rattle.rlp.specs.Codec.{Codec, Fields, end, field, number, uint}
-use Rattle.rlp_transactions.specs.declared.authorization.Authorization.{Authorization}
+use Rattle.rlp_transactions.specs.{declared.authorization.Authorization.Authorization, Signed.signed, declared.signed.Signed.Signed}
 use Rattle.rlp_records.specs.Address.{address}
-use Rattle.rlp_transactions.specs.Signed.{signed}
-use Rattle.rlp_transactions.specs.declared.signed.Signed.{Signed}
 
 -- EIP-7702: [chain_id, address, nonce, y_parity, r, s]. Here are the fields before the signature.
 abbrev pub authorization_fields : Fields Authorization

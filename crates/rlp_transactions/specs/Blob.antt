@@ -1,9 +1,8 @@
 -- How blobs are written and read.
-use Rattle.std.specs.Prelude.{⊤, true}
+use Rattle.std.specs.{Prelude.{⊤, true}, Vec.vec_items}
 use Rattle.std.proofs.Common.{refl}
-use Rattle.std.specs.Vec.{vec_items}
-use Rattle.rlp_codec.specs.Form.{fixed_of}
-use Rattle.rlp_codec.proofs.StringLaws.{array_strings}
+use Rattle.rlp_reading.specs.Form.{fixed_of}
+use Rattle.rlp_reading.proofs.StringLaws.{array_strings}
 use Rattle.rlp.specs.Codec.{Codec, string_type}
 use Rattle.rlp_transactions.specs.declared.blob.Blob.{Blob}
 

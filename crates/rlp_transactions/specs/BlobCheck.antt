@@ -1,7 +1,6 @@
 -- Whether a transaction of type 3 is sent with as many blobs as it has versioned hashes, and with the commitments of these hashes.
 use Rattle.std.specs.Prelude.{ℕ, suc, ◌*◌, ◌==◌, not, ⊤, Bool, if◌then◌else◌, List, [], ◌∷◌, ◌++◌, codes, decimal, length, drop, Result, Ok, Err}
-use Rattle.std.specs.Str.{bytes_eq}
-use Rattle.std.specs.Vec.{vec_items}
+use Rattle.std.specs.{Str.bytes_eq, Vec.vec_items}
 use Rattle.sha2.specs.Sha256.{sha256}
 use Rattle.rlp_records.specs.declared.hash.Hash.{Hash}
 use Rattle.rlp_transactions.specs.declared.blob_check.BlobFault.{BlobFault}

@@ -1,16 +1,11 @@
 -- How transactions of type 3 are written and read with their blobs, as they are sent between nodes.
-use Rattle.std.specs.Prelude.{ℕ, ◌≡◌, ⊤, Bool, true, false, if◌then◌else◌, List, [], ◌∷◌, Result, Ok, Err, codes, refl}
-use Rattle.std.specs.Str.{bytes_eq}
-use Rattle.std.specs.Vec.{vec_items}
-use Rattle.std.proofs.lemmas.Bool.{cond-false}
-use Rattle.std.proofs.lemmas.Slice.Eq.{bytes_eq-Decides}
-use Rattle.rlp_codec.specs.Form.{Fault, custom}
+use Rattle.std.specs.{Prelude.{ℕ, ◌≡◌, ⊤, Bool, true, false, if◌then◌else◌, List, [], ◌∷◌, Result, Ok, Err, codes, refl}, Str.bytes_eq, Vec.vec_items}
+use Rattle.std.proofs.{lemmas.Bool.cond-false, lemmas.Slice.Eq.bytes_eq-Decides}
+use Rattle.rlp_reading.specs.Form.{Fault, custom}
 use Rattle.rlp.specs.Codec.{Codec, Fields, byte_array, end, field, list_type, string_type, struct_of}
 use Rattle.rlp_transactions.specs.declared.blob_wrapper.BlobTransactionWithCellProofs.{BlobTransactionWithCellProofs}
 use Rattle.rlp_transactions.specs.declared.blob_wrapper.BlobTransactionWithProofs.{BlobTransactionWithProofs}
-use Rattle.rlp_transactions.specs.declared.blob_wrapper.WrapperVersion.{WrapperVersion}
-use Rattle.rlp_transactions.specs.Blob.{blob}
-use Rattle.rlp_transactions.specs.BlobTransaction.{signed_blob_transaction}
+use Rattle.rlp_transactions.specs.{declared.blob_wrapper.WrapperVersion.WrapperVersion, Blob.blob, BlobTransaction.signed_blob_transaction}
 
 -- EIP-4844: rlp([tx_payload_body, blobs, commitments, proofs])
 abbrev pub proofs_fields : Fields BlobTransactionWithProofs

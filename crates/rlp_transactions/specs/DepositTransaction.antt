@@ -1,10 +1,8 @@
 -- How deposits of the OP stack are written and read.
 use Rattle.std.specs.Vec.{vec_items}
 use Rattle.rlp.specs.Codec.{Codec, Fields, byte_string, end, field, number, struct_of, truth_value, uint}
-use Rattle.rlp_transactions.specs.declared.deposit_transaction.DepositTransaction.{DepositTransaction}
-use Rattle.rlp_records.specs.Address.{address}
-use Rattle.rlp_records.specs.Hash.{hash}
-use Rattle.rlp_transactions.specs.Recipient.{recipient}
+use Rattle.rlp_transactions.specs.{declared.deposit_transaction.DepositTransaction.DepositTransaction, Recipient.recipient}
+use Rattle.rlp_records.specs.{Address.address, Hash.hash}
 
 -- the specification of deposits: rlp([sourceHash, from, to, mint, value, gas, isSystemTransaction, data])
 abbrev pub deposit_fields : Fields DepositTransaction

@@ -1,11 +1,7 @@
 -- How legacy transactions are written and read.
-use Rattle.std.specs.Prelude.{refl}
-use Rattle.std.specs.Vec.{vec_items}
-use Rattle.rlp.specs.Codec.{Codec, Fields, byte_string, end, field, number, struct_of, uint}
-use Rattle.rlp_transactions.specs.declared.legacy_transaction.LegacyTransaction.{LegacyTransaction}
-use Rattle.rlp_transactions.specs.Recipient.{recipient}
-use Rattle.rlp.specs.Uint.{Uint}
-use Rattle.rlp_transactions.specs.Signed.{signed_fields}
+use Rattle.std.specs.{Prelude.refl, Vec.vec_items}
+use Rattle.rlp.specs.{Codec.{Codec, Fields, byte_string, end, field, number, struct_of, uint}, Uint.Uint}
+use Rattle.rlp_transactions.specs.{declared.legacy_transaction.LegacyTransaction.LegacyTransaction, Recipient.recipient, Signed.signed_fields}
 use Rattle.rlp_transactions.specs.declared.signed.Signed.{Signed}
 
 -- EIP-2718: rlp([nonce, gasPrice, gasLimit, to, value, data, v, r, s]). Here are the fields before the signature.

@@ -8,6 +8,7 @@ pub mod BlobWrapper
 pub mod DepositTransaction
 pub mod Eip155
 pub mod FeeMarketTransaction
+pub mod ItemCountLaws
 pub mod ItemCounts
 pub mod LegacyTransaction
 pub mod NonZeroScalar

@@ -7,9 +7,7 @@ use Rattle.rlp_transactions.specs.declared.blob_wrapper.BlobTransactionWithCellP
 use Rattle.rlp_transactions.specs.declared.blob_wrapper.BlobTransactionWithProofs.{BlobTransactionWithProofs}
 use Rattle.rlp_transactions.specs.declared.pooled_blob_transaction.PooledBlobTransaction.{PooledBlobTransaction}
 use Rattle.rlp_transactions.specs.declared.pooled_blob_transaction.PooledBlobTransaction.TheVariants.{CellProofs, Proofs}
-use Rattle.rlp_transactions.specs.declared.signed.Signed.{Signed}
-use Rattle.rlp_transactions.specs.BlobWrapper.{cell_proofs_fields, proofs_fields}
-use Rattle.rlp_transactions.specs.ItemCounts.{struct_by_count}
+use Rattle.rlp_transactions.specs.{declared.signed.Signed.Signed, BlobWrapper.{cell_proofs_fields, proofs_fields}, ItemCountLaws.struct_by_count}
 
 -- a transaction in one of the two forms
 abbrev pub blob_sum : PooledBlobTransaction → BlobTransactionWithProofs ⊎ BlobTransactionWithCellProofs

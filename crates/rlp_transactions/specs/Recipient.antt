@@ -1,14 +1,10 @@
 -- How recipients are written and read.
 use Rattle.std.specs.Prelude.{ℕ, ◌≡◌, ◌↔◌, ⊤, Bool, true, false, List, [], ◌∷◌, length, Result, Ok, Err}
-use Rattle.std.proofs.Common.{refl, ap, ◌∙◌, ltb, ltb-false, arith}
-use Rattle.std.proofs.lemmas.Bool.{cond-true, cond-false}
-use Rattle.rlp_codec.specs.Form.{Fault, fixed_of, is_too_big, is_too_short, map_value}
-use Rattle.rlp_codec.specs.Kinds.{read_kind}
-use Rattle.rlp_codec.proofs.KindLaws.{kinds_read}
-use Rattle.rlp_codec.proofs.StringLaws.{array_strings}
+use Rattle.std.proofs.{Common.{refl, ap, ◌∙◌, ltb, ltb-false, arith}, lemmas.Bool.{cond-true, cond-false}}
+use Rattle.rlp_reading.specs.{Form.{Fault, fixed_of, is_too_big, is_too_short, map_value}, Kinds.read_kind}
+use Rattle.rlp_reading.proofs.{KindLaws.kinds_read, StringLaws.array_strings}
 use Rattle.rlp.specs.Codec.{Codec, string_type}
-use Rattle.rlp_transactions.specs.declared.recipient.Recipient.{Recipient}
-use Rattle.rlp_transactions.specs.declared.recipient.Recipient.TheVariants.{Creation, Account}
+use Rattle.rlp_transactions.specs.{declared.recipient.Recipient.Recipient, declared.recipient.Recipient.TheVariants.{Creation, Account}}
 
 -- the bytes of an account, or no bytes
 abbrev pub recipient_bytes : Recipient → List ℕ

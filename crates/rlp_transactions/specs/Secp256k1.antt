@@ -1,6 +1,5 @@
 -- Which numbers a signature has.
-use Rattle.std.specs.Prelude.{ℕ, ◌≤◌, ◌/◌, ◌&&◌, nat_lt, Bool, IsTrue}
-use Rattle.std.specs.Int.Digits.{number_from_digits}
+use Rattle.std.specs.{Prelude.{ℕ, ◌≤◌, ◌/◌, ◌&&◌, nat_lt, Bool, IsTrue}, Int.Digits.number_from_digits}
 use Rattle.rlp.specs.Uint.{Uint}
 
 -- SEC 2, section 2.4.1: the order n of the group of secp256k1

@@ -1,13 +1,9 @@
 -- How transactions of type 4 are written and read.
-use Rattle.std.specs.Prelude.{Bool, refl}
-use Rattle.std.specs.Vec.{vec_items}
+use Rattle.std.specs.{Prelude.{Bool, refl}, Vec.vec_items}
 use Rattle.rlp.specs.Codec.{Codec, Fields, byte_string, end, field, list_type, number, truth_value, uint}
-use Rattle.rlp_transactions.specs.declared.set_code_transaction.SetCodeTransaction.{SetCodeTransaction}
-use Rattle.rlp_transactions.specs.Access.{access_list}
+use Rattle.rlp_transactions.specs.{declared.set_code_transaction.SetCodeTransaction.SetCodeTransaction, Access.access_list}
+use Rattle.rlp_transactions.specs.{Authorization.signed_authorization, Signed.signed, declared.signed.Signed.Signed}
 use Rattle.rlp_records.specs.Address.{address}
-use Rattle.rlp_transactions.specs.Authorization.{signed_authorization}
-use Rattle.rlp_transactions.specs.Signed.{signed}
-use Rattle.rlp_transactions.specs.declared.signed.Signed.{Signed}
 
 -- EIP-7702: rlp([chain_id, nonce, max_priority_fee_per_gas, max_fee_per_gas, gas_limit, destination, value, data, access_list, authorization_list,
 -- signature_y_parity, signature_r, signature_s]). Here are the fields before the signature.

@@ -1,14 +1,11 @@
 -- What the signatures of transactions say, and which transaction is signed.
-use Rattle.std.specs.Prelude.{ℕ, ◌≡◌, ◌≢◌, ◌<◌, ◌^◌, Bool, Option, Some, IfSome, IfNone}
-use Rattle.std.specs.Int.Digits.{number_from_digits}
+use Rattle.std.specs.{Prelude.{ℕ, ◌≡◌, ◌≢◌, ◌<◌, ◌^◌, Bool, Option, Some, IfSome, IfNone}, Int.Digits.number_from_digits}
 use Rattle.rlp.specs.Uint.{Uint}
-use Rattle.rlp_transactions.specs.declared.eip155.Eip155.{Eip155}
-use Rattle.rlp_transactions.specs.declared.scalar.NonZeroScalar.{NonZeroScalar}
+use Rattle.rlp_transactions.specs.{declared.eip155.Eip155.Eip155, declared.scalar.NonZeroScalar.NonZeroScalar}
 use Rattle.rlp_transactions.specs.declared.transaction.Transaction.{Transaction}
 use Rattle.rlp_transactions.specs.declared.transaction.Transaction.TheVariants.{AccessList, Blob, FeeMarket, Legacy, SetCode}
-use Rattle.rlp_transactions.specs.declared.unsigned_transaction.UnsignedTransaction.{UnsignedTransaction}
+use Rattle.rlp_transactions.specs.{declared.unsigned_transaction.UnsignedTransaction.UnsignedTransaction, Eip155.{FitsChain, IsSignedFor, v_of}}
 use Rattle.rlp_transactions.specs.declared.unsigned_transaction.UnsignedTransaction.TheVariants as unsigned
-use Rattle.rlp_transactions.specs.Eip155.{FitsChain, IsSignedFor, v_of}
 
 -- the number of 32 bytes
 abbrev pub number_of : Uint 32 → ℕ

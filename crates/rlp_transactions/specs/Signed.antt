@@ -1,11 +1,8 @@
 -- How payloads are written and read, with their signatures and without.
 use Rattle.std.specs.Prelude.{◌≡◌, List, ◌++◌, ◌∷◌, true}
-use Rattle.rlp.specs.Format.Encoding.{Item, list_of}
-use Rattle.rlp_codec.specs.Form.{FieldsReading, Reading, group_before, one_field, struct_reading}
-use Rattle.rlp.specs.Codec.{Codec, Fields, end, field, group, newtype, struct_of}
-use Rattle.rlp_transactions.specs.NonZeroScalar.{scalar}
-use Rattle.rlp_transactions.specs.declared.signed.Signed.{Signed}
-use Rattle.rlp_transactions.specs.declared.signed.Listed.{Listed}
+use Rattle.rlp.specs.{Format.Encoding.{Item, list_of}, Codec.{Codec, Fields, end, field, group, newtype, struct_of}}
+use Rattle.rlp_reading.specs.Form.{FieldsReading, Reading, group_before, one_field, struct_reading}
+use Rattle.rlp_transactions.specs.{NonZeroScalar.scalar, declared.signed.Signed.Signed, declared.signed.Listed.Listed}
 
 -- the list of the fields
 abbrev pub listed : {T : Type 0} → Fields T → Codec (Listed T)

@@ -2,8 +2,7 @@
 use Rattle.std.specs.Prelude.{ℕ, ◌≡◌, List, ◌∷◌}
 use Rattle.rlp.specs.Format.Encoding.{list_of, encoding}
 use Rattle.rlp_records.specs.Alone.{bytes_alone}
-use Rattle.rlp_transactions.specs.Authorization.{authorization_fields}
-use Rattle.rlp_transactions.specs.UnsignedTransaction.{unsigned_transaction}
+use Rattle.rlp_transactions.specs.{Authorization.authorization_fields, UnsignedTransaction.unsigned_transaction}
 use Rattle.rlp_transactions.specs.declared.authorization.Authorization.{Authorization}
 use Rattle.rlp_transactions.specs.declared.unsigned_transaction.UnsignedTransaction.{UnsignedTransaction}
 

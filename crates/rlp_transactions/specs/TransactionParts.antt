@@ -1,11 +1,9 @@
 -- What transactions of every type have.
-use Rattle.std.specs.Prelude.{ℕ, List, Option, None, Some}
-use Rattle.std.specs.Vec.{vec_items}
+use Rattle.std.specs.{Prelude.{ℕ, List, Option, None, Some}, Vec.vec_items}
 use Rattle.rlp.specs.Uint.{Uint}
 use Rattle.rlp_transactions.specs.declared.access.AccessList.{AccessList as Accesses}
 use Rattle.rlp_records.specs.declared.address.Address.{Address}
-use Rattle.rlp_transactions.specs.declared.recipient.Recipient.{Recipient}
-use Rattle.rlp_transactions.specs.declared.recipient.Recipient.TheVariants.{Account, Creation}
+use Rattle.rlp_transactions.specs.{declared.recipient.Recipient.Recipient, declared.recipient.Recipient.TheVariants.{Account, Creation}}
 use Rattle.rlp_transactions.specs.declared.transaction.Transaction.{Transaction}
 use Rattle.rlp_transactions.specs.declared.transaction.Transaction.TheVariants.{AccessList, Blob, FeeMarket, Legacy, SetCode}
 

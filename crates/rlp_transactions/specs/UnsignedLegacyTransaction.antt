@@ -1,7 +1,6 @@
 -- How legacy transactions are written and read before they are signed.
 use Rattle.std.specs.Prelude.{ℕ, [], refl}
-use Rattle.rlp.specs.Codec.{Codec, Fields, byte_array, end, field, number, optional_group, struct_of}
-use Rattle.rlp.specs.Codec.{group}
+use Rattle.rlp.specs.{Codec.{Codec, Fields, byte_array, end, field, number, optional_group, struct_of}, Codec.group}
 use Rattle.rlp_transactions.specs.declared.unsigned_legacy_transaction.UnsignedLegacyTransaction.{UnsignedLegacyTransaction}
 use Rattle.rlp_transactions.specs.LegacyTransaction.{legacy_transaction_fields}
 

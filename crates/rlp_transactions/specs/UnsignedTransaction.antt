@@ -10,10 +10,8 @@ use Rattle.rlp_transactions.specs.declared.set_code_transaction.SetCodeTransacti
 use Rattle.rlp_transactions.specs.declared.unsigned_legacy_transaction.UnsignedLegacyTransaction.{UnsignedLegacyTransaction}
 use Rattle.rlp_transactions.specs.declared.unsigned_transaction.UnsignedTransaction.{UnsignedTransaction}
 use Rattle.rlp_transactions.specs.declared.unsigned_transaction.UnsignedTransaction.TheVariants.{AccessList, Blob, FeeMarket, Legacy, SetCode}
-use Rattle.rlp_transactions.specs.AccessListTransaction.{access_list_transaction_fields}
-use Rattle.rlp_transactions.specs.BlobTransaction.{blob_transaction_fields}
-use Rattle.rlp_transactions.specs.FeeMarketTransaction.{fee_market_transaction_fields}
-use Rattle.rlp_transactions.specs.UnsignedLegacyTransaction.{unsigned_legacy_transaction}
+use Rattle.rlp_transactions.specs.{AccessListTransaction.access_list_transaction_fields, BlobTransaction.blob_transaction_fields}
+use Rattle.rlp_transactions.specs.{FeeMarketTransaction.fee_market_transaction_fields, UnsignedLegacyTransaction.unsigned_legacy_transaction}
 use Rattle.rlp_transactions.specs.SetCodeTransaction.{set_code_transaction_fields}
 
 -- a transaction of one of the types

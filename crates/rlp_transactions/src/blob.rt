@@ -2,7 +2,7 @@
 
 ghost use Rattle.std.specs.Prelude.{◌≡◌, ◌⊎◌, Err, IfErr, IfOk, length};
 ghost use Rattle.rlp.specs.DecoderError.TheVariants.{OutOfMemory};
-ghost use Rattle.rlp_codec.specs.Form.{fault_of, fixed_of};
+ghost use Rattle.rlp_reading.specs.Form.{fault_of, fixed_of};
 
 use rlp::{
     Decodable, DecodePlaced, DecoderError, Encodable, Rlp, RlpStream, RoundTrip, StrictRead,
@@ -37,10 +37,8 @@ impl Blob {
         if bytes.len() > BLOB_LEN {
             return Err(DecoderError::RlpIsTooBig);
         }
-        match Vec::from_slice(alloc, bytes) {
-            Ok(bytes) => Ok(Blob { bytes }),
-            Err(_) => Err(DecoderError::OutOfMemory),
-        }
+        let bytes = Vec::from_slice(alloc, bytes)?;
+        Ok(Blob { bytes })
     }
 }
 

@@ -1,8 +1,7 @@
 //! The numbers of blobs that are sent with a transaction of type 3, and its versioned hashes. KZG
 //! isn't here: the blobs themselves and their proofs aren't tested.
 
-ghost use Rattle.std.specs.Prelude.{◌≡◌, Some, length};
-ghost use Rattle.std.specs.Vec.{vec_items};
+ghost use Rattle.std.specs.{Prelude.{◌≡◌, Some, length}, Vec.vec_items};
 ghost use Rattle.rlp_transactions.specs.BlobCheck.{blob_check, cell_proofs_check, hash_check, hashes_of, pooled_check, proofs_check, versioned_hash};
 
 use crate::{

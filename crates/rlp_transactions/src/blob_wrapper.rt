@@ -1,7 +1,7 @@
 //! Transactions of type 3 with their blobs, as nodes and wallets send them.
 
 ghost use Rattle.std.specs.Prelude.{◌≡◌, Err, IfErr, IfOk, Ok};
-ghost use Rattle.rlp_codec.specs.Form.{fault_of};
+ghost use Rattle.rlp_reading.specs.Form.{fault_of};
 ghost use Rattle.rlp_transactions.specs.BlobWrapper.{version_of, with_cell_proofs, with_proofs, wrapper_version};
 
 use crate::{Blob, BlobTransaction, Signed};

@@ -1,7 +1,6 @@
 //! What `v` says in the signature of a transaction without a type (EIP-155).
 
-ghost use Rattle.std.specs.Prelude.{◌≡◌, ◌≢◌, ◌≤◌, ◌^◌, IfNone, IfSome};
-ghost use Rattle.std.specs.Int.Digits.{number_from_digits};
+ghost use Rattle.std.specs.{Prelude.{◌≡◌, ◌≢◌, ◌≤◌, ◌^◌, IfNone, IfSome}, Int.Digits.number_from_digits};
 ghost use Rattle.rlp_transactions.specs.Eip155.{FitsChain, said_by, v_of};
 
 use rlp::Uint;

@@ -2,14 +2,11 @@
 
 ghost use Rattle.std.specs.Prelude.{◌∷◌, IfOk, OnOk};
 ghost use Rattle.rlp.specs.Format.Encoding.{encoding, list_of};
-ghost use Rattle.rlp_records.specs.Alone.{bytes_alone};
-ghost use Rattle.rlp_records.specs.Hashing.{IsHashOf};
-ghost use Rattle.rlp_transactions.specs.Transaction.{transaction};
-ghost use Rattle.rlp_transactions.specs.UnsignedTransaction.{unsigned_transaction};
+ghost use Rattle.rlp_records.specs.{Alone.bytes_alone, Hashing.IsHashOf};
+ghost use Rattle.rlp_transactions.specs.{Transaction.transaction, UnsignedTransaction.unsigned_transaction};
 
 use crate::{Tagged, Transaction, UnsignedTransaction};
-use keccak::keccak256;
-use rlp_records::{Eip2718, Hash};
+use rlp_records::{Eip2718, Hash, keccak256};
 use std::alloc::{AllocError, Global};
 
 /// Returns the hash that is signed: that of [`Tagged::signing_payload`]. Fails as it does.

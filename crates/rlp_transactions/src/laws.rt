@@ -1,12 +1,10 @@
 //! What holds of transactions: their bytes tell them apart, and no bytes are signed for two meanings.
 
 ghost use Rattle.std.specs.Prelude.{◌≡◌, ◌≢◌, ◌<◌, ◌^◌, IfOk, length};
-ghost use Rattle.rlp_records.specs.Alone.{bytes_alone};
-ghost use Rattle.rlp_records.specs.Eip2718.{type_of};
+ghost use Rattle.rlp_records.specs.{Alone.bytes_alone, Eip2718.type_of};
 ghost use Rattle.rlp_transactions.specs.Signing.{FitsSigning, HaveOneMeaning, Signable, signed_bytes};
 ghost use Rattle.rlp_transactions.specs.PooledTransaction.{consensus_form, pooled_transaction};
-ghost use Rattle.rlp_transactions.specs.Transaction.{any_transaction, transaction, transaction_types};
-ghost use Rattle.rlp_transactions.specs.declared.transaction.Transaction.{Transaction};
+ghost use Rattle.rlp_transactions.specs.{Transaction.{any_transaction, transaction, transaction_types}, declared.transaction.Transaction.Transaction};
 
 use crate::{AnyTransaction, PooledTransaction};
 use rlp_records::Hash;

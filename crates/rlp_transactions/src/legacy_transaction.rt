@@ -2,8 +2,7 @@
 
 ghost use Rattle.std.specs.Prelude.{◌≡◌, ◌+◌, ℕ, IfNone, IfSome, Option, refl};
 ghost use Rattle.rlp.specs.Values.Value.{bit};
-ghost use Rattle.rlp_transactions.specs.Eip155.{FitsChain, even_v, v_of};
-ghost use Rattle.rlp_transactions.specs.LegacyTransaction.{legacy_transaction_fields};
+ghost use Rattle.rlp_transactions.specs.{Eip155.{FitsChain, even_v, v_of}, LegacyTransaction.legacy_transaction_fields};
 ghost use Rattle.rlp_transactions.specs.Signatures.{IsNoV, SaysChain, number_of};
 
 use crate::{Eip155, Payload, Recipient, Signed};

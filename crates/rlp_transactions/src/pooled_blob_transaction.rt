@@ -2,8 +2,7 @@
 
 ghost use Rattle.std.specs.Prelude.{◌≡◌};
 ghost use Rattle.rlp.specs.Views.View.{item_count};
-ghost use Rattle.rlp_transactions.specs.ItemCounts.{is_count};
-ghost use Rattle.rlp_transactions.specs.PooledBlobTransaction.{pooled_blob_transaction, without_blobs};
+ghost use Rattle.rlp_transactions.specs.{ItemCounts.is_count, PooledBlobTransaction.{pooled_blob_transaction, without_blobs}};
 
 use crate::{BlobTransaction, BlobTransactionWithCellProofs, BlobTransactionWithProofs, Signed};
 use rlp::{

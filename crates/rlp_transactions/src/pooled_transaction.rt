@@ -1,22 +1,20 @@
 //! Transactions as they are sent.
 
 ghost use Rattle.std.specs.Prelude.{◌≡◌, IfOk, OnOk};
-ghost use Rattle.rlp_records.specs.Alone.{bytes_alone};
-ghost use Rattle.rlp_records.specs.Hashing.{IsHashOf};
-ghost use Rattle.rlp_transactions.specs.PooledTransaction.{consensus_form, pooled_transaction, pooled_types};
-ghost use Rattle.rlp_transactions.specs.Transaction.{transaction};
+ghost use Rattle.rlp_records.specs.{Alone.bytes_alone, Hashing.IsHashOf};
+ghost use Rattle.rlp_transactions.specs.{PooledTransaction.{consensus_form, pooled_transaction, pooled_types}, Transaction.transaction};
 
 use crate::{
     AccessListTransaction, FeeMarketTransaction, PooledBlobTransaction, SetCodeTransaction, Signed,
     SignedLegacyTransaction, Transaction,
 };
 use bytes::BytesMut;
-use keccak::keccak256;
 use rlp::{
     Decodable, DecodePlaced, DecoderError, Encodable, Rlp, RlpStream, RoundTrip, StrictRead,
 };
 use rlp_records::{
-    ACCESS_LIST_TYPE, BLOB_TYPE, Eip2718, FEE_MARKET_TYPE, Hash, SET_CODE_TYPE, to_envelope,
+    ACCESS_LIST_TYPE, BLOB_TYPE, Eip2718, FEE_MARKET_TYPE, Hash, SET_CODE_TYPE, keccak256,
+    to_envelope,
 };
 use std::alloc::{AllocError, Global};
 
@@ -25,7 +23,7 @@ use std::alloc::{AllocError, Global};
 ///
 /// Reading doesn't compare the blobs with the transaction: [`PooledBlobTransaction::check_blobs`]
 /// tests their number and the versioned hashes. Nothing here tests the proofs, which takes KZG.
-#[derive(Debug, PartialEq, Eq, Drop)]
+#[derive(Debug, Clone, PartialEq, Eq, Drop)]
 pub enum PooledTransaction {
     /// A transaction without a type.
     Legacy(SignedLegacyTransaction),

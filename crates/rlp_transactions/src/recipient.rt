@@ -1,8 +1,7 @@
 //! Recipients of transactions: a string of 20 bytes, or the empty string.
 
 ghost use Rattle.std.specs.Prelude.{◌≡◌, Err, IfErr, IfOk, Ok};
-ghost use Rattle.rlp_codec.specs.Form.{fault_of};
-ghost use Rattle.rlp_codec.specs.Kinds.{read_kind};
+ghost use Rattle.rlp_reading.specs.{Form.fault_of, Kinds.read_kind};
 ghost use Rattle.rlp_transactions.specs.Recipient.{account_of, is_account, recipient, recipient_bytes};
 
 use rlp::{

@@ -1,7 +1,6 @@
 //! The two numbers of a signature.
 
-ghost use Rattle.std.specs.Int.Digits.{number_from_digits};
-ghost use Rattle.std.specs.Prelude.{◌≡◌, ◌↔◌, nat_lt, true, IfNone, IfSome, IsTrue};
+ghost use Rattle.std.specs.{Int.Digits.number_from_digits, Prelude.{◌≡◌, ◌↔◌, nat_lt, true, IfNone, IfSome, IsTrue}};
 ghost use Rattle.rlp_transactions.specs.Secp256k1.{IsLow, IsScalar, group_order, is_scalar};
 
 use rlp::laws::uints_compare_as_numbers;
@@ -96,7 +95,7 @@ impl Decodable for NonZeroScalar {
 
     ghost reading = { scalar.reading };
 
-    #[tactic(auto, using(crate::specs::NonZeroScalar::scalars_read))]
+    #[tactic(auto, using(crate::proofs::Scalars::scalars_read))]
     fn decode(alloc: Global, rlp: &Rlp<'_>) -> Result<NonZeroScalar, DecoderError> {
         match NonZeroScalar::new(rlp.as_val(alloc)?) {
             Some(scalar) => Ok(scalar),

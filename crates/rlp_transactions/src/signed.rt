@@ -1,15 +1,10 @@
 //! Payloads with their signatures and without.
 
 ghost use Rattle.std.specs.Prelude.{◌≡◌, ◌∷◌, ◌⊎◌, ◌↔◌, ℕ, true, Bool, Err, IfErr, IfOk, IsTrue, Ok, OnOk};
-ghost use Rattle.rlp.specs.DecoderError.TheVariants.{OutOfMemory};
-ghost use Rattle.rlp.specs.Format.Encoding.{encoding, list_of};
-ghost use Rattle.rlp_codec.specs.Form.{fault_of, held_reading, struct_reading};
-ghost use Rattle.rlp_codec.specs.Laws.{AreLawful, fields_of};
-ghost use Rattle.rlp.specs.Codec.{codec_of, lawful_fields};
+ghost use Rattle.rlp.specs.{DecoderError.TheVariants.OutOfMemory, Format.Encoding.{encoding, list_of}, Codec.{codec_of, lawful_fields}};
+ghost use Rattle.rlp_reading.specs.{Form.{fault_of, held_reading, struct_reading}, Laws.{AreLawful, fields_of}};
 ghost use Rattle.rlp_records.specs.Envelope.{another_type, read_after};
-ghost use Rattle.rlp_transactions.specs.Secp256k1.{IsLow};
-ghost use Rattle.rlp_transactions.specs.Signed.{SignedFits, listed, signed, signed_item, signed_reading};
-ghost use Rattle.rlp_transactions.specs.declared.signed.Signed.{Signed};
+ghost use Rattle.rlp_transactions.specs.{Secp256k1.IsLow, Signed.{SignedFits, listed, signed, signed_item, signed_reading}, declared.signed.Signed.Signed};
 
 use crate::NonZeroScalar;
 use bytes::BytesMut;
@@ -22,7 +17,7 @@ use std::alloc::{AllocError, Global};
 
 /// The fields of a record before its signature. A type with this trait is the record before it is
 /// signed, and [`Signed`] is the record with its signature.
-pub trait Payload: AppendFields + FixedFields {
+pub trait Payload: AppendFields + FixedFields + Drop {
     /// What is known of the fields, so that the list that they stand in is read back.
     ghost laws: { AreLawful (fields_of Self.fit Self.items Self.reading) };
 

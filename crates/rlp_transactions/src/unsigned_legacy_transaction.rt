@@ -2,9 +2,7 @@
 
 ghost use Rattle.std.specs.Prelude.{◌≡◌, IfOk};
 ghost use Rattle.rlp.specs.Format.Encoding.{encoding, list_of};
-ghost use Rattle.rlp_transactions.specs.Eip155.{v_of};
-ghost use Rattle.rlp_transactions.specs.Signatures.{number_of};
-ghost use Rattle.rlp_transactions.specs.UnsignedLegacyTransaction.{unsigned_legacy_transaction};
+ghost use Rattle.rlp_transactions.specs.{Eip155.v_of, Signatures.number_of, UnsignedLegacyTransaction.unsigned_legacy_transaction};
 
 use crate::{Eip155, LegacyTransaction, NonZeroScalar, Payload, SignedLegacyTransaction};
 use bytes::BytesMut;

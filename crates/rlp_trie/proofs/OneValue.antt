@@ -3,10 +3,8 @@ use Rattle.std.proofs.Common.{◌≡◌, ◌∙◌, ℕ, List, Option, refl, sub
 use Rattle.rlp.specs.Format.Encoding.{Item}
 use Rattle.rlp_trie.specs.HexPrefix.{AreNibbles}
 use Rattle.rlp_trie.specs.Lookup.{Encodes, HasValue, StandsFor, Step, by_hash, ends, ends_here, goes, in_parent, leads_on, step}
-use Rattle.rlp_trie.specs.ProofWalk.{IsKnown, TellApart}
-use Rattle.rlp_trie.specs.declared.trie_node.TrieNode.{TrieNode}
-use Rattle.rlp_trie.proofs.StepLemmas.{step_rest}
-use Rattle.rlp_trie.proofs.WalkLemmas.{one_step}
+use Rattle.rlp_trie.specs.{ProofWalk.{IsKnown, TellApart}, declared.trie_node.TrieNode.TrieNode}
+use Rattle.rlp_trie.proofs.{StepLemmas.step_rest, WalkLemmas.one_step}
 
 ends_same : (s t : Step) (v w : Option (List ℕ)) → s ≡ t → s ≡ ends v → t ≡ ends w → v ≡ w
 ends_same s t v w same one other = cc

@@ -1,12 +1,9 @@
 -- Hex-prefix encoding goes both ways.
 use Rattle.std.proofs.Common.{◌≡◌, ℕ, ◌+◌, ◌*◌, ◌/◌, ◌%◌, ◌<◌, ◌≤◌, ◌≢◌, ◌==◌, ◌↔◌, ◌⊎◌, inl, inr, ⊎_elim, if◌then◌else◌, Bool, true, false, List, [], ◌∷◌, length, refl, sym, ap, ◌∙◌, subst, arith, Option, Some, Result, Ok, Err, IfOk, take, drop, not, get_or, ◌++◌, ◌-◌, append_assoc}
-use mathlib.Core.Bool.{beq}
-use Rattle.std.specs.Global.{Vec}
-use Rattle.std.specs.declared.alloc.AllocError.{AllocError}
-use Rattle.std.proofs.lemmas.Bool.{cases_lt}
-use Rattle.std.proofs.lemmas.Bool.Decides.{nat_tests}
-use Rattle.std.proofs.lemmas.List.{take_rest}
+use Rattle.std.proofs.{lemmas.Bool.cases_lt, lemmas.Bool.Decides.nat_tests, lemmas.List.take_rest}
 use Rattle.std.proofs.lemmas.List.Elements.{All-cons, All-drop, All-head, All-nil, All-tail, All-take}
+use mathlib.Core.Bool.{beq}
+use Rattle.std.specs.{Global.Vec, declared.alloc.AllocError.AllocError}
 use Rattle.rlp.specs.Format.Encoding.{AreBytes}
 use Rattle.rlp_reading.proofs.Lemmas.Reading.{bytes_held}
 use Rattle.rlp_trie.specs.HexPrefix.{AreNibbles, IsHexPrefix, above_nibbles, bytes_of, ends_in_leaf, is_empty_extension, no_nibbles, first_ends_in_leaf, flag_of, hex_prefix, nibbles_of, odd_prefix, path_nibbles}

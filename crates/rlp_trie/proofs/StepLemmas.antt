@@ -1,28 +1,14 @@
 -- What a node says of a path goes by its item, and leads on by a shorter path.
 use Rattle.std.proofs.Common.{◌≡◌, ◌≢◌, ◌<◌, ◌+◌, ◌++◌, ℕ, zero, suc, Bool, true, false, if◌then◌else◌, IfSome, List, [], ◌∷◌, length, get_or, drop, refl, sym, ap, ◌∙◌, subst, arith, length-append}
-use Rattle.std.proofs.Common.{Option, Some, None}
-use Rattle.std.proofs.lemmas.Bool.Decides.{Decides-eqb}
-use Rattle.std.proofs.lemmas.List.Elements.{All-drop, All-head, All-tail}
+use Rattle.std.proofs.{Common.{Option, Some, None}, lemmas.Bool.Decides.Decides-eqb, lemmas.List.Elements.{All-drop, All-head, All-tail}}
 use Rattle.std.proofs.lemmas.Slice.Eq.{starts_is}
-use Rattle.std.specs.List.{starts_with}
-use Rattle.std.specs.Prelude.{nat_eq}
-use Rattle.std.specs.Str.{bytes_eq}
-use Rattle.std.specs.Vec.{vec_items}
-use Rattle.rlp.specs.Codec.{Codec, Fields, byte_string, each, end, field}
-use Rattle.rlp.specs.Format.Encoding.{Item, string, items_from, listed, list_of}
+use Rattle.std.specs.{List.starts_with, Prelude.nat_eq, Str.bytes_eq, Vec.vec_items}
+use Rattle.rlp.specs.{Codec.{Codec, Fields, byte_string, each, end, field}, Format.Encoding.{Item, string, items_from, listed, list_of}}
 use Rattle.rlp_format.proofs.Lemmas.Encodings.{listed_from}
-use Rattle.rlp_trie.specs.BranchChild.{branch_child, place_item}
-use Rattle.rlp_trie.specs.Child.{IsChild, child_item}
-use Rattle.rlp_trie.specs.ChildLaws.{child_some}
-use Rattle.rlp_trie.specs.HexPrefix.{AreNibbles, path_nibbles}
-use Rattle.rlp_trie.specs.Lookup.{branch_value, ends, extension_step, goes, place_step, step}
-use Rattle.rlp_trie.specs.Trie.{branch, branch_fields, child_at, extension, leaf}
-use Rattle.rlp_trie.specs.TrieNode.{IsTrieNode, node_item}
-use Rattle.rlp_trie.specs.TrieNodeLaws.{leaf_apart}
-use Rattle.rlp_trie.specs.declared.branch.Branch.{Branch}
-use Rattle.rlp_trie.specs.declared.child.Child.{Child}
-use Rattle.rlp_trie.specs.declared.extension.Extension.{Extension}
-use Rattle.rlp_trie.specs.declared.leaf.Leaf.{Leaf}
+use Rattle.rlp_trie.specs.{BranchChild.place_item, BranchChildLaws.branch_child, Child.{IsChild, child_item}, ChildLaws.child_some}
+use Rattle.rlp_trie.specs.{HexPrefix.{AreNibbles, path_nibbles}, Lookup.{branch_value, ends, extension_step, goes, place_step, step}}
+use Rattle.rlp_trie.specs.{Trie.{branch, branch_fields, child_at, extension, leaf}, TrieNode.{IsTrieNode, node_item}, declared.branch.Branch.Branch}
+use Rattle.rlp_trie.specs.{declared.child.Child.Child, declared.extension.Extension.Extension, declared.leaf.Leaf.Leaf}
 use Rattle.rlp_trie.specs.declared.trie_node.TrieNode.{TrieNode}
 use Rattle.rlp_trie.specs.declared.trie_node.TrieNode.TheVariants as node
 use Rattle.rlp_trie.proofs.PathLemmas.{some_nibbles}
@@ -97,6 +83,14 @@ branch_same b c (nibble ∷ rest) fit other are same =
     let items : branch_fields.items b ≡ branch_fields.items c = list_same (branch_fields.items b) (branch_fields.items c) same in
     place_same (child_at nibble b).0 (child_at nibble c).0 rest (place_fits b nibble small fit) (place_fits c nibble small other)
     (sym (child_of_place b nibble small) ∙ ap (λ (xs : List Item). get_or xs nibble (string [])) items ∙ child_of_place c nibble small)
+
+-- no leaf is written as an extension is
+leaf_apart : (l : Leaf) (e : Extension) → leaf.item l ≡ extension.item e → ⊥
+leaf_apart l e same =
+    let is_leaf = l.path.encoded in
+    let is_extension = e.path.encoded in
+    let paths : vec_items l.path.bytes ≡ vec_items e.path.bytes = cc in
+    cc
 
 -- nodes with one item say the same of a path
 pub same_step : (n m : TrieNode) (path : List ℕ) → IsTrieNode n → IsTrieNode m → AreNibbles path → node_item n ≡ node_item m → step n path ≡ step m path

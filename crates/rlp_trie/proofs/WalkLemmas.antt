@@ -1,37 +1,22 @@
 -- The walk over the nodes of a proof ends in one way, and what it finds is what the trie has.
 use Rattle.std.proofs.Common.{◌≡◌, ◌<◌, ◌^◌, ◌⊎◌, inl, inr, ⊎_elim, ℕ, Bool, true, false, if◌then◌else◌, List, [], ◌∷◌, length, map, refl, sym, ap, ◌∙◌, subst, arith}
-use Rattle.std.proofs.Common.{Option, Result, Ok, Err, IfOk}
-use Rattle.std.proofs.lemmas.List.Elements.{Contains-append_right}
-use Rattle.std.proofs.lemmas.Slice.Eq.{bytes_eq-Decides}
-use Rattle.std.specs.Global.{Vec}
-use Rattle.std.specs.Prelude.{Contains, option_map}
-use Rattle.std.specs.Str.{bytes_eq}
-use Rattle.std.specs.Vec.{vec_items}
-use Rattle.keccak.specs.Keccak.{keccak256}
-use Rattle.rlp.specs.DecoderError.{DecoderError}
+use Rattle.std.proofs.{Common.{Option, Result, Ok, Err, IfOk}, lemmas.List.Elements.Contains-append_right, lemmas.Slice.Eq.bytes_eq-Decides}
+use Rattle.std.specs.{Global.Vec, Prelude.{Contains, option_map}, Str.bytes_eq, Vec.vec_items}
+use Rattle.rlp_records.specs.Keccak.{keccak256}
+use Rattle.rlp.specs.{DecoderError.DecoderError, Format.Encoding.{encoding, Item, list, string}, Format.Framing.begins_as_list}
+use Rattle.rlp.specs.{Values.RawItem.raw_item_of, Views.View.strict_view_of, Form.Faults}
 use Rattle.rlp.specs.DecoderError.TheVariants as decoder
-use Rattle.rlp.specs.Format.Encoding.{encoding, Item, list, string}
 use Rattle.rlp_format.proofs.Lemmas.Encodings.{encoding_same}
-use Rattle.rlp.specs.Format.Framing.{begins_as_list}
-use Rattle.rlp_reading.proofs.Lemmas.RawItems.{string_kind}
-use Rattle.rlp.specs.Values.RawItem.{raw_item_of}
-use Rattle.rlp.specs.Views.View.{strict_view_of}
-use Rattle.rlp.specs.Form.{Faults}
-use Rattle.rlp_codec.proofs.Corollaries.{not_both}
-use Rattle.rlp_trie.specs.Child.{child_item}
-use Rattle.rlp_trie.specs.EmptyString.{empty_string}
-use Rattle.rlp_trie.specs.HexPrefix.{AreNibbles}
+use Rattle.rlp_reading.proofs.{Lemmas.RawItems.string_kind, Corollaries.not_both}
+use Rattle.rlp_trie.specs.{Child.child_item, EmptyStringLaws.empty_string, HexPrefix.AreNibbles}
 use Rattle.rlp_trie.specs.Lookup.{Encodes, HasValue, StandsFor, by_hash, ends, ends_here, goes, in_parent, leads_on, step}
 use Rattle.rlp_trie.specs.Next.{Agrees, IsEnd, read_fault}
 use Rattle.rlp_trie.specs.ProofWalk.{IsKnown, IsNoNode, IsSameKind, IsUnread, TakesNode, Walk, ends_at_last, ends_early, next_node, next_unread, no_next, stops, unread, walks_on}
-use Rattle.rlp_trie.specs.TrieNode.{node_item}
-use Rattle.rlp_trie.specs.TrieNodeLaws.{trie_node}
-use Rattle.rlp_trie.specs.declared.child.Child.{Child}
-use Rattle.rlp_trie.specs.declared.child.Child.TheVariants as child
-use Rattle.rlp_trie.specs.declared.inline_node.InlineNode.{InlineNode}
+use Rattle.rlp_trie.specs.{TrieNode.node_item, TrieNodeLaws.trie_node, declared.child.Child.Child, declared.inline_node.InlineNode.InlineNode}
 use Rattle.rlp_trie.specs.declared.proof_fault.ProofFault.{ProofFault}
 use Rattle.rlp_trie.specs.declared.proof_fault.ProofFault.TheVariants.{FaultyNode, MissingNode, NodesLeft, OtherHash, OutOfMemory}
 use Rattle.rlp_trie.specs.declared.trie_node.TrieNode.{TrieNode}
+use Rattle.rlp_trie.specs.declared.child.Child.TheVariants as child
 use Rattle.rlp_trie.proofs.StepLemmas.{same_step, step_rest}
 
 -- how a walk ends

@@ -1,14 +1,9 @@
 -- How children of nodes of the trie are written and read.
 use Rattle.std.specs.Prelude.{ℕ, ◌≡◌, ◌⊎◌, if◌then◌else◌, nat_le, List, length, Result, Err}
 use Rattle.std.proofs.Common.{inl, inr}
-use Rattle.rlp.specs.Format.Encoding.{Item, string}
-use Rattle.rlp.specs.Format.Framing.{begins_as_list}
-use Rattle.rlp.specs.Values.RawItem.{raw_item_of}
-use Rattle.rlp.specs.Values.Sums.{sum_item}
-use Rattle.rlp.specs.Views.View.{strict_view_of}
-use Rattle.rlp.specs.Form.{Fault, and_then, fixed_of, is_too_big, map_value, raw_item, raw_of, string_of}
-use Rattle.rlp_trie.specs.declared.child.Child.{Child}
-use Rattle.rlp_trie.specs.declared.child.Child.TheVariants.{Node, Inline}
+use Rattle.rlp.specs.{Format.Encoding.{Item, string}, Format.Framing.begins_as_list, Values.RawItem.raw_item_of, Values.Sums.sum_item}
+use Rattle.rlp.specs.{Views.View.strict_view_of, Form.{Fault, and_then, fixed_of, is_too_big, map_value, raw_item, raw_of, string_of}}
+use Rattle.rlp_trie.specs.{declared.child.Child.Child, declared.child.Child.TheVariants.{Node, Inline}}
 
 -- the string of a hash, or the node itself
 abbrev pub child_item : Child → Item

@@ -1,22 +1,15 @@
 -- Children are read back, and from nothing else.
 use Rattle.std.proofs.Common.{◌≡◌, ◌≢◌, ◌<◌, ◌^◌, ◌⊎◌, inl, inr, ℕ, Bool, true, false, List, [], length, refl, sym, ap, ◌∙◌, subst, arith, Ok, Err}
-use Rattle.std.specs.Prelude.{nat_le}
 use Rattle.std.proofs.lemmas.Bool.{cond-true, cond-false}
-use Rattle.rlp.specs.Format.Encoding.{string, IsSized, encoding, AreBytes}
-use Rattle.rlp.specs.Format.Framing.{begins_as_list}
-use Rattle.rlp.specs.Values.RawItem.{raw_item_of}
-use Rattle.rlp_reading.proofs.Lemmas.RawItems.{raw_is, string_kind}
-use Rattle.rlp_codec.specs.FirstItems.{item_type}
-use Rattle.rlp.specs.Form.{here, is_too_big, map_value, raw_of}
-use Rattle.rlp_codec.proofs.FirstItemLaws.{ReadsItems, items_lawful}
-use Rattle.rlp_codec.proofs.ListLaws.{is_mapped}
-use Rattle.rlp_codec.proofs.RawLaws.{raw_fits, raw_given, raw_of-canonical}
-use Rattle.rlp_codec.proofs.StringLaws.{array_lawful}
-use Rattle.rlp.specs.Codec.{Codec, lawful}
-use Rattle.rlp_trie.specs.Child.{IsChild, child_item, child_of, hash_of, inline_of, seen_child, written_child}
-use Rattle.rlp_trie.specs.declared.child.Child.{Child}
-use Rattle.rlp_trie.specs.declared.child.Child.TheVariants.{Node, Inline}
-use Rattle.rlp_trie.specs.declared.inline_node.InlineNode.{InlineNode}
+use Rattle.std.specs.Prelude.{nat_le}
+use Rattle.rlp.specs.{Format.Encoding.{string, IsSized, encoding, AreBytes}, Format.Framing.begins_as_list, Values.RawItem.raw_item_of}
+use Rattle.rlp.specs.{Form.{here, is_too_big, map_value, raw_of}, Codec.{Codec, lawful}}
+use Rattle.rlp_reading.proofs.{Lemmas.RawItems.{raw_is, string_kind}, FirstItemLaws.{ReadsItems, items_lawful}}
+use Rattle.rlp_reading.proofs.{RawLaws.{raw_fits, raw_given, raw_of-canonical}, StringLaws.array_lawful}
+use Rattle.rlp_reading.specs.FirstItems.{item_type}
+use Rattle.rlp_records.proofs.Alone.{left_only, not_left, not_right, right_only}
+use Rattle.rlp_trie.specs.{Child.{IsChild, child_item, child_of, hash_of, inline_of, seen_child, written_child}, declared.child.Child.Child}
+use Rattle.rlp_trie.specs.{declared.child.Child.TheVariants.{Node, Inline}, declared.inline_node.InlineNode.InlineNode}
 
 -- ---- what is written is read
 
@@ -42,31 +35,15 @@ inline_only b x true long is =
     let r : inline_of b ≡ Err is_too_big = cond-true (nat_le 32 (length b)) _ _ long in absurd (let no : ⊥ = cc in no)
 inline_only b x false long is = sym (cond-false (nat_le 32 (length b)) _ _ long) ∙ is
 
-left_right : {A B : Type 0} (x : A) (y : B) → (let s : A ⊎ B = inl x in s) ≡ inr y → ⊥
-left_right x y same = cc
-
-same_left : (x y : List ℕ) → (let s : List ℕ ⊎ List ℕ = inl x in s) ≡ inl y → x ≡ y
-same_left x y is = cc
-
-same_right : (x y : List ℕ) → (let s : List ℕ ⊎ List ℕ = inr x in s) ≡ inr y → x ≡ y
-same_right x y is = cc
-
 list_only : (b : List ℕ) (c : Child) → map_value {B = List ℕ ⊎ List ℕ} inr (inline_of b) ≡ Ok (seen_child c) → IsChild c × (b ≡ encoding (child_item c))
-list_only b (Node hash) is = let m = is_mapped (inline_of b) (λ (x : List ℕ). (let s : List ℕ ⊎ List ℕ = inr x in s)) _ is in absurd (left_right _ _ (sym m.then))
+list_only b (Node hash) is = absurd (not_right (inline_of b) hash.0 is)
 list_only b (Inline node) is =
-    let m = is_mapped (inline_of b) (λ (x : List ℕ). (let s : List ℕ ⊎ List ℕ = inr x in s)) _ is in
-    let h = raw_given b m.value (inline_only b m.value (nat_le 32 (length b)) refl m.is) in
-    let same : m.value ≡ node.item = same_right m.value node.item m.then in
-    (subst (λ d. d ≡ encoding (raw_item_of d)) same h.0, h.1 ∙ h.0 ∙ ap (λ d. encoding (raw_item_of d)) same)
+    let h = raw_given b node.item (inline_only b node.item (nat_le 32 (length b)) refl (right_only (inline_of b) node.item is)) in (h.0, h.1 ∙ h.0)
 
 string_only : (b : List ℕ) (c : Child) → AreBytes b → length b < 2 ^ 64 → map_value {B = List ℕ ⊎ List ℕ} inl (hash_of b) ≡ Ok (seen_child c)
     → IsChild c × (b ≡ encoding (child_item c))
-string_only b (Node hash) bytes fits is =
-    let m = is_mapped (hash_of b) (λ (x : List ℕ). (let s : List ℕ ⊎ List ℕ = inl x in s)) _ is in
-    let h = (array_lawful 32).exact.only b m.value bytes fits m.is in
-    let same : m.value ≡ hash.0 = same_left m.value hash.0 m.then in
-    (subst (λ d. length d ≡ 32) same h.0, h.1 ∙ ap (λ d. encoding (string d)) same)
-string_only b (Inline node) bytes fits is = let m = is_mapped (hash_of b) (λ (x : List ℕ). (let s : List ℕ ⊎ List ℕ = inl x in s)) _ is in absurd (left_right _ _ m.then)
+string_only b (Node hash) bytes fits is = (array_lawful 32).exact.only b hash.0 bytes fits (left_only (hash_of b) hash.0 is)
+string_only b (Inline node) bytes fits is = absurd (not_left (hash_of b) node.item is)
 
 child_by : (b : List ℕ) (c : Child) (kind : Bool) → AreBytes b → length b < 2 ^ 64 → begins_as_list b ≡ kind → child_of b ≡ Ok (seen_child c)
     → IsChild c × (b ≡ encoding (child_item c))

@@ -1,8 +1,7 @@
 -- Hex-prefix encoding of paths, as in appendix C of the yellow paper.
 use Rattle.std.specs.Prelude.{ℕ, ◌≡◌, ◌+◌, ◌*◌, ◌/◌, ◌%◌, ◌<◌, ◌==◌, ◌&&◌, ◌||◌, nat_le, if◌then◌else◌, All, Bool, true, false, List, [], ◌∷◌, length, codes, unwrap_or, Option, Some, None, Result, Ok, Err}
 use mathlib.Core.Bool.{beq}
-use Rattle.rlp.specs.DecoderError.{DecoderError}
-use Rattle.rlp.specs.Form.{Fault, custom, fault_of}
+use Rattle.rlp.specs.{DecoderError.DecoderError, Form.{Fault, custom, fault_of}}
 
 -- ---- the encoding
 

@@ -1,8 +1,6 @@
 -- Nodes of the trie that are kept in their parents.
 use Rattle.std.specs.Prelude.{ℕ, ◌≡◌, ◌≤◌, ◌<◌, true, false, List, length}
-use Rattle.rlp.specs.DecoderError.{DecoderError}
-use Rattle.rlp.specs.DecoderError.TheVariants.{RlpExpectedToBeList, RlpIsTooBig}
-use Rattle.rlp.specs.Format.Framing.{begins_as_list}
+use Rattle.rlp.specs.{DecoderError.DecoderError, DecoderError.TheVariants.{RlpExpectedToBeList, RlpIsTooBig}, Format.Framing.begins_as_list}
 use Rattle.rlp.specs.Values.RawItem.{IsRawItem}
 
 -- the bytes are a node that is kept in its parent: a list of fewer than 32 bytes

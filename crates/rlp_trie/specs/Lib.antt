@@ -1,12 +1,14 @@
 pub mod BranchChild
+pub mod BranchChildLaws
 pub mod Child
 pub mod ChildLaws
 pub mod EmptyString
+pub mod EmptyStringLaws
 pub mod HexPrefix
 pub mod Inline
 pub mod Lookup
 pub mod Next
-pub mod Path
+pub mod PathLaws
 pub mod Possible
 pub mod ProofWalk
 pub mod Trie

@@ -1,17 +1,10 @@
 -- What the trie has for a path of nibbles: appendix D of the yellow paper.
-use Rattle.std.specs.Prelude.{ℕ, ◌≡◌, ◌^◌, ◌<◌, if◌then◌else◌, nat_eq, List, [], ◌∷◌, drop, length, Option, Some, None}
-use Rattle.std.specs.List.{starts_with}
-use Rattle.std.specs.Str.{bytes_eq}
-use Rattle.std.specs.Vec.{vec_items}
-use Rattle.keccak.specs.Keccak.{keccak256}
+use Rattle.std.specs.{Prelude.{ℕ, ◌≡◌, ◌^◌, ◌<◌, if◌then◌else◌, nat_eq, List, [], ◌∷◌, drop, length, Option, Some, None}, List.starts_with}
+use Rattle.std.specs.{Str.bytes_eq, Vec.vec_items}
+use Rattle.rlp_records.specs.Keccak.{keccak256}
 use Rattle.rlp.specs.Format.Encoding.{encoding, Item, Items, list, string}
-use Rattle.rlp_trie.specs.Child.{child_item}
-use Rattle.rlp_trie.specs.HexPrefix.{path_nibbles}
-use Rattle.rlp_trie.specs.Trie.{child_at}
-use Rattle.rlp_trie.specs.TrieNode.{IsTrieNode, node_item}
-use Rattle.rlp_trie.specs.declared.child.Child.{Child}
-use Rattle.rlp_trie.specs.declared.trie_node.TrieNode.{TrieNode}
-use Rattle.rlp_trie.specs.declared.trie_node.TrieNode.TheVariants.{Branch, Empty, Extension, Leaf}
+use Rattle.rlp_trie.specs.{Child.child_item, HexPrefix.path_nibbles, Trie.child_at, TrieNode.{IsTrieNode, node_item}, declared.child.Child.Child}
+use Rattle.rlp_trie.specs.{declared.trie_node.TrieNode.TrieNode, declared.trie_node.TrieNode.TheVariants.{Branch, Empty, Extension, Leaf}}
 
 -- ---- one node
 

@@ -1,16 +1,9 @@
 -- What a step of the walk over a proof gives, and the whole walk.
-use Rattle.std.specs.Prelude.{ℕ, ◌≡◌, ◌⊎◌, List, Option, Result, Ok, Err, option_map}
-use Rattle.std.specs.Global.{Vec}
-use Rattle.std.specs.Vec.{vec_items}
-use Rattle.rlp.specs.DecoderError.{DecoderError}
+use Rattle.std.specs.{Prelude.{ℕ, ◌≡◌, ◌⊎◌, List, Option, Result, Ok, Err, option_map}, Global.Vec, Vec.vec_items}
+use Rattle.rlp.specs.{DecoderError.DecoderError, Format.Encoding.Item}
 use Rattle.rlp.specs.DecoderError.TheVariants as decoder
-use Rattle.rlp.specs.Format.Encoding.{Item}
-use Rattle.rlp_trie.specs.Child.{child_item}
-use Rattle.rlp_trie.specs.Lookup.{Step, ends, goes}
-use Rattle.rlp_trie.specs.ProofWalk.{IsSameKind, Walk}
-use Rattle.rlp_trie.specs.declared.proof_fault.ProofFault.{ProofFault}
-use Rattle.rlp_trie.specs.declared.proof_fault.ProofFault.TheVariants.{FaultyNode, OutOfMemory}
-use Rattle.rlp_trie.specs.declared.step.Next.{Next}
+use Rattle.rlp_trie.specs.{Child.child_item, Lookup.{Step, ends, goes}, ProofWalk.{IsSameKind, Walk}, declared.proof_fault.ProofFault.ProofFault}
+use Rattle.rlp_trie.specs.{declared.proof_fault.ProofFault.TheVariants.{FaultyNode, OutOfMemory}, declared.step.Next.Next}
 use Rattle.rlp_trie.specs.declared.step.Next.TheVariants.{Below, Value}
 
 -- the value, or the reference to the node below and the rest of the path

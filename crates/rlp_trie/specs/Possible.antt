@@ -1,13 +1,8 @@
 -- Nodes that a trie can have, by what each of them shows.
-use Rattle.std.specs.Prelude.{ℕ, ◌+◌, ◌==◌, nat_le, Bool, true, false, List, [], ◌∷◌, Option, Some, None, Result, Ok, Err}
-use Rattle.std.specs.Vec.{vec_items}
-use Rattle.rlp.specs.DecoderError.{DecoderError}
-use Rattle.rlp.specs.Views.View.{item_count, strict_view_of}
-use Rattle.rlp_trie.specs.declared.branch.Branch.{Branch}
-use Rattle.rlp_trie.specs.declared.branch_child.BranchChild.{BranchChild}
-use Rattle.rlp_trie.specs.declared.child.Child.{Child}
-use Rattle.rlp_trie.specs.declared.child.Child.TheVariants.{Node, Inline}
-use Rattle.rlp_trie.specs.declared.trie_node.TrieNode.{TrieNode}
+use Rattle.std.specs.{Prelude.{ℕ, ◌+◌, ◌==◌, nat_le, Bool, true, false, List, [], ◌∷◌, Option, Some, None, Result, Ok, Err}, Vec.vec_items}
+use Rattle.rlp.specs.{DecoderError.DecoderError, Views.View.{item_count, strict_view_of}}
+use Rattle.rlp_trie.specs.{declared.branch.Branch.Branch, declared.branch_child.BranchChild.BranchChild, declared.child.Child.Child}
+use Rattle.rlp_trie.specs.{declared.child.Child.TheVariants.{Node, Inline}, declared.trie_node.TrieNode.TrieNode}
 use Rattle.rlp_trie.specs.declared.trie_node.TrieNode.TheVariants as node
 
 -- 1 for a child, and 0 for none

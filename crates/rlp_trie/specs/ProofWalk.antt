@@ -1,15 +1,9 @@
 -- Proofs of what the trie has for a key: lists of the encodings of its nodes, from the root down.
-use Rattle.std.specs.Prelude.{ℕ, ◌≡◌, ◌⊎◌, ⊤, if◌then◌else◌, Contains, List, [], ◌∷◌, ◌++◌, codes, Option, Result, Ok, Err}
-use Rattle.std.specs.Str.{bytes_eq}
-use Rattle.keccak.specs.Keccak.{keccak256}
-use Rattle.rlp.specs.DecoderError.{DecoderError}
-use Rattle.rlp.specs.Format.Encoding.{encoding, Item, list, string}
-use Rattle.rlp.specs.Views.Text.{error_name}
-use Rattle.rlp.specs.Views.View.{strict_view_of}
+use Rattle.std.specs.{Prelude.{ℕ, ◌≡◌, ◌⊎◌, ⊤, if◌then◌else◌, Contains, List, [], ◌∷◌, ◌++◌, codes, Option, Result, Ok, Err}, Str.bytes_eq}
+use Rattle.rlp_records.specs.Keccak.{keccak256}
+use Rattle.rlp.specs.{DecoderError.DecoderError, Format.Encoding.{encoding, Item, list, string}, Views.Text.error_name, Views.View.strict_view_of}
 use Rattle.rlp.specs.Form.{Faults}
-use Rattle.rlp_trie.specs.HexPrefix.{nibbles_of}
-use Rattle.rlp_trie.specs.Lookup.{Encodes, ends, goes, step}
-use Rattle.rlp_trie.specs.TrieNodeLaws.{trie_node}
+use Rattle.rlp_trie.specs.{HexPrefix.nibbles_of, Lookup.{Encodes, ends, goes, step}, TrieNodeLaws.trie_node}
 use Rattle.rlp_trie.specs.declared.proof_fault.ProofFault.{ProofFault}
 use Rattle.rlp_trie.specs.declared.proof_fault.ProofFault.TheVariants.{FaultyNode, MissingNode, NodesLeft, OtherHash, OutOfMemory}
 use Rattle.rlp_trie.specs.declared.trie_node.TrieNode.{TrieNode}

@@ -2,31 +2,18 @@
 use Rattle.std.proofs.Common.{◌≡◌, ◌≢◌, ◌<◌, ◌^◌, ◌==◌, inl, inr, ℕ, Bool, true, false, List, [], ◌∷◌, length, refl, sym, ap, ◌∙◌, Ok, Err, Result, unwrap_or}
 use Rattle.std.proofs.lemmas.Bool.{cond-true, cond-false}
 use Rattle.std.specs.Vec.{vec_items}
-use Rattle.rlp.specs.Format.Encoding.{IsSized, encoding, Item, list_of, string, AreBytes}
-use Rattle.rlp_reading.proofs.Lemmas.StringsHeld.{held_only}
-use Rattle.rlp_reading.proofs.Lemmas.WholeLists.{strict_first, strict_item_count, strict_items, strict_list_told}
-use Rattle.rlp.specs.Views.View.{item_at, item_count, strict_view_of}
-use Rattle.rlp_codec.specs.FirstItems.{item_type}
-use Rattle.rlp.specs.Form.{Answer, Fault, and_then, incorrect_list_len, map_value, seen_fault}
-use Rattle.rlp_codec.proofs.FirstItemLaws.{ReadsItems, items_lawful}
-use Rattle.rlp_codec.proofs.ListLaws.{goes_on, is_mapped, items_sized}
-use Rattle.rlp.specs.Codec.{Codec, lawful}
-use Rattle.rlp_trie.specs.Child.{child_item}
-use Rattle.rlp_trie.specs.EmptyString.{empty_found, empty_only, is_empty_string, other_item}
-use Rattle.rlp_trie.specs.HexPrefix.{is_leaf_flag}
-use Rattle.rlp_trie.specs.Path.{path}
-use Rattle.rlp_trie.specs.Trie.{branch, branch_fields, extension, extension_fields, leaf, leaf_fields}
+use Rattle.rlp.specs.{Format.Encoding.{IsSized, encoding, Item, list_of, string, AreBytes}, Views.View.{item_count, strict_view_of}}
+use Rattle.rlp.specs.{Form.{Fault, and_then, incorrect_list_len, map_value, seen_fault}, Codec.{Codec, lawful}}
+use Rattle.rlp_reading.proofs.{Lemmas.StringsHeld.held_only, Lemmas.WholeLists.{strict_first, strict_item_count, strict_items, strict_list_told}}
+use Rattle.rlp_reading.proofs.{FirstItemLaws.{ReadsItems, items_lawful}, ListLaws.{goes_on, is_mapped, items_sized}}
+use Rattle.rlp_reading.specs.FirstItems.{item_type}
+use Rattle.rlp_records.proofs.Alone.{result_same}
+use Rattle.rlp_trie.specs.{Child.child_item, EmptyString.is_empty_string, EmptyStringLaws.{empty_found, empty_only, other_item}}
+use Rattle.rlp_trie.specs.{HexPrefix.is_leaf_flag, Trie.{branch, branch_fields, extension, extension_fields, leaf, leaf_fields}}
 use Rattle.rlp_trie.specs.TrieNode.{IsTrieNode, SeenNode, begins_as_leaf, is_leaf_item, is_leaf_string, list_of_len, node_item, node_of, pair_of, seen_node, written_node}
-use Rattle.rlp_trie.specs.declared.branch.Branch.{Branch}
-use Rattle.rlp_trie.specs.declared.extension.Extension.{Extension}
-use Rattle.rlp_trie.specs.declared.leaf.Leaf.{Leaf}
-use Rattle.rlp_trie.specs.declared.path.Path.{Path}
+use Rattle.rlp_trie.specs.{declared.branch.Branch.Branch, declared.extension.Extension.Extension, declared.leaf.Leaf.Leaf, declared.path.Path.Path}
 use Rattle.rlp_trie.specs.declared.trie_node.TrieNode.{TrieNode}
 use Rattle.rlp_trie.specs.declared.trie_node.TrieNode.TheVariants as node
-
--- answers that are equal have equal results
-whole : {M : Type 0} {a b : Answer M Fault} → a ≡ b → a.result ≡ b.result
-whole {M} same = ap (λ (a : Answer M Fault). a.result) same
 
 -- ---- what is written is read
 
@@ -37,7 +24,7 @@ module _ (xs : List Item) (sized : IsSized (list_of xs)) where
   -- a list is read by the number of the items
   by_len : list_of xs ≢ string [] → (node_of whole_list).result ≡ (list_of_len whole_list (length xs)).result
   by_len other =
-      whole (cond-false (is_empty_string whole_list) _ _ (other_item (list_of xs) sized other))
+      result_same (cond-false (is_empty_string whole_list) _ _ (other_item (list_of xs) sized other))
       ∙ ap (λ r. and_then (seen_fault r) (λ n. (list_of_len whole_list n).result)) (strict_item_count xs whole_list sized refl)
 
 -- a list that begins with a path begins with the path of a leaf or of an extension, as the path says
@@ -55,13 +42,13 @@ begins_by flag p x sized =
 leaf_back : (l : Leaf) → leaf.Fits l → IsSized (leaf.item l) → (node_of (encoding (leaf.item l))).result ≡ Ok (seen_node (node.Leaf l))
 leaf_back l fit sized =
     by_len (leaf_fields.items l) sized (λ same. let no : ⊥ = cc in no)
-    ∙ whole (cond-true (begins_as_leaf (encoding (leaf.item l))) _ _ (begins_by 2 l.path (string (vec_items l.value)) sized))
+    ∙ result_same (cond-true (begins_as_leaf (encoding (leaf.item l))) _ _ (begins_by 2 l.path (string (vec_items l.value)) sized))
     ∙ ap (map_value (λ m. inr (inl m))) ((leaf.reads_strictly.back true).back (encoding (leaf.item l)) l sized fit refl)
 
 extension_back : (e : Extension) → extension.Fits e → IsSized (extension.item e) → (node_of (encoding (extension.item e))).result ≡ Ok (seen_node (node.Extension e))
 extension_back e fit sized =
     by_len (extension_fields.items e) sized (λ same. let no : ⊥ = cc in no)
-    ∙ whole (cond-false (begins_as_leaf (encoding (extension.item e))) _ _ (begins_by 0 e.path (child_item e.child) sized))
+    ∙ result_same (cond-false (begins_as_leaf (encoding (extension.item e))) _ _ (begins_by 0 e.path (child_item e.child) sized))
     ∙ ap (map_value (λ m. inr (inr (inl m)))) ((extension.reads_strictly.back true).back (encoding (extension.item e)) e sized fit refl)
 
 branch_back : (x : Branch) → branch.Fits x → IsSized (branch.item x) → (node_of (encoding (branch.item x))).result ≡ Ok (seen_node (node.Branch x))
@@ -70,7 +57,7 @@ branch_back x fit sized =
     ∙ ap (map_value (λ m. inr (inr (inr m)))) ((branch.reads_strictly.back true).back (encoding (branch.item x)) x sized fit refl)
 
 node_back : (n : TrieNode) → IsTrieNode n → IsSized (node_item n) → (node_of (encoding (node_item n))).result ≡ Ok (seen_node n)
-node_back node.Empty fit sized = whole (cond-true (is_empty_string (encoding (string []))) _ _ empty_found)
+node_back node.Empty fit sized = result_same (cond-true (is_empty_string (encoding (string []))) _ _ empty_found)
 node_back (node.Leaf l) fit sized = leaf_back l fit sized
 node_back (node.Extension e) fit sized = extension_back e fit sized
 node_back (node.Branch x) fit sized = branch_back x fit sized
@@ -111,20 +98,20 @@ module _ (b : List ℕ) (bytes : AreBytes b) (fits : length b < 2 ^ 64) where
 
   pair_only : (n : TrieNode) (kind : Bool) → begins_as_leaf b ≡ kind → (pair_of b).result ≡ Ok (seen_node n) → IsNode n
   pair_only n true kind is =
-      let m = is_mapped (leaf.reading.read (strict_view_of b)).result as_leaf (seen_node n) (sym (whole (cond-true (begins_as_leaf b) _ _ kind)) ∙ is) in
+      let m = is_mapped (leaf.reading.read (strict_view_of b)).result as_leaf (seen_node n) (sym (result_same (cond-true (begins_as_leaf b) _ _ kind)) ∙ is) in
       leaf_only n m.value m.is m.then
   pair_only n false kind is =
-      let m = is_mapped (extension.reading.read (strict_view_of b)).result as_extension (seen_node n) (sym (whole (cond-false (begins_as_leaf b) _ _ kind)) ∙ is) in
+      let m = is_mapped (extension.reading.read (strict_view_of b)).result as_extension (seen_node n) (sym (result_same (cond-false (begins_as_leaf b) _ _ kind)) ∙ is) in
       extension_only n m.value m.is m.then
 
   many_only : (n : TrieNode) (k : ℕ) (two many : Bool) → (k == 2) ≡ two → (k == 17) ≡ many → (list_of_len b k).result ≡ Ok (seen_node n) → IsNode n
-  many_only n k true many two all is = pair_only n (begins_as_leaf b) refl (sym (whole (cond-true (k == 2) _ _ two)) ∙ is)
+  many_only n k true many two all is = pair_only n (begins_as_leaf b) refl (sym (result_same (cond-true (k == 2) _ _ two)) ∙ is)
   many_only n k false true two all is =
       let m = is_mapped (branch.reading.read (strict_view_of b)).result as_branch (seen_node n)
-      (sym (whole (cond-false (k == 2) _ _ two) ∙ whole (cond-true (k == 17) _ _ all)) ∙ is) in
+      (sym (result_same (cond-false (k == 2) _ _ two) ∙ result_same (cond-true (k == 17) _ _ all)) ∙ is) in
       branch_only n m.value m.is m.then
   many_only n k false false two all is =
-      let r : (list_of_len b k).result ≡ Err incorrect_list_len = whole (cond-false (k == 2) _ _ two) ∙ whole (cond-false (k == 17) _ _ all) in
+      let r : (list_of_len b k).result ≡ Err incorrect_list_len = result_same (cond-false (k == 2) _ _ two) ∙ result_same (cond-false (k == 17) _ _ all) in
       absurd (let no : ⊥ = cc in no)
 
   empty_by : (n : TrieNode) → (let s : Result SeenNode Fault = Ok (inl tt) in s) ≡ Ok (seen_node n) → b ≡ encoding (string []) → IsNode n
@@ -134,10 +121,10 @@ module _ (b : List ℕ) (bytes : AreBytes b) (fits : length b < 2 ^ 64) where
   empty_by (node.Branch x) same is = absurd (let no : ⊥ = cc in no)
 
   node_by : (n : TrieNode) (empty : Bool) → is_empty_string b ≡ empty → (node_of b).result ≡ Ok (seen_node n) → IsNode n
-  node_by n true empty is = empty_by n (sym (whole (cond-true (is_empty_string b) _ _ empty)) ∙ is) (empty_only b empty)
+  node_by n true empty is = empty_by n (sym (result_same (cond-true (is_empty_string b) _ _ empty)) ∙ is) (empty_only b empty)
   node_by n false empty is =
       let g = goes_on (seen_fault (item_count (strict_view_of b))) (λ k. (list_of_len b k).result) (seen_node n)
-      (sym (whole (cond-false (is_empty_string b) _ _ empty)) ∙ is) in
+      (sym (result_same (cond-false (is_empty_string b) _ _ empty)) ∙ is) in
       many_only n g.value (g.value == 2) (g.value == 17) refl refl g.then
 
 pub node_only : (b : List ℕ) (n : TrieNode) → AreBytes b → length b < 2 ^ 64 → (node_of b).result ≡ Ok (seen_node n) → IsTrieNode n × (b ≡ encoding (node_item n))
@@ -172,13 +159,3 @@ node_items = record { back = node_back; only = node_only; fits = node_fits; same
 -- the first item
 abbrev pub trie_node : Codec TrieNode
 trie_node = lawful (item_type IsTrieNode node_item seen_node written_node node_of true) (items_lawful _ _ _ _ _ true node_items)
-
--- ---- what nodes are written as
-
--- no leaf is written as an extension is
-pub leaf_apart : (l : Leaf) (e : Extension) → leaf.item l ≡ extension.item e → ⊥
-leaf_apart l e same =
-    let is_leaf = l.path.encoded in
-    let is_extension = e.path.encoded in
-    let paths : vec_items l.path.bytes ≡ vec_items e.path.bytes = cc in
-    cc

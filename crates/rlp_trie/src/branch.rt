@@ -12,7 +12,7 @@ use std::alloc::{AllocError, Global};
 /// children and a value.
 ///
 /// See appendix D of the yellow paper.
-#[derive(Debug, PartialEq, Eq, Drop)]
+#[derive(Debug, Clone, PartialEq, Eq, Drop)]
 pub struct Branch {
     /// The child for each next digit of the path.
     pub children: [BranchChild; 16],

@@ -1,6 +1,6 @@
 //! The places of branches of the trie: a child or none.
 
-ghost use Rattle.rlp_trie.specs.BranchChild.{branch_child};
+ghost use Rattle.rlp_trie.specs.BranchChildLaws.{branch_child};
 
 use crate::Child;
 use crate::child::child_of;
@@ -13,7 +13,7 @@ use std::alloc::{AllocError, Global};
 /// The child of a branch for one digit of the path, or `None`, which is written as the empty string.
 ///
 /// See appendix D of the yellow paper.
-#[derive(Debug, PartialEq, Eq, Drop)]
+#[derive(Debug, Clone, PartialEq, Eq, Drop)]
 pub struct BranchChild(pub Option<Child>);
 
 impl Encodable for BranchChild {
@@ -40,10 +40,8 @@ impl Decodable for BranchChild {
         if is_empty_string(item.as_raw()) {
             return Ok(BranchChild(None));
         }
-        match child_of(alloc, item.as_raw()) {
-            Ok(child) => Ok(BranchChild(Some(child))),
-            Err(fault) => Err(fault),
-        }
+        let child = child_of(alloc, item.as_raw())?;
+        Ok(BranchChild(Some(child)))
     }
 }
 

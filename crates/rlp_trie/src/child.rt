@@ -1,10 +1,8 @@
 //! Children of nodes of the trie.
 
 ghost use Rattle.std.specs.Prelude.{◌≡◌, ◌⊎◌, Err, IfErr, IfOk, Ok};
-ghost use Rattle.rlp.specs.DecoderError.TheVariants.{OutOfMemory};
-ghost use Rattle.rlp.specs.Form.{fault_of};
-ghost use Rattle.rlp_trie.specs.Child.{child_of, seen_child};
-ghost use Rattle.rlp_trie.specs.ChildLaws.{child};
+ghost use Rattle.rlp.specs.{DecoderError.TheVariants.OutOfMemory, Form.fault_of};
+ghost use Rattle.rlp_trie.specs.{Child.{child_of, seen_child}, ChildLaws.child};
 
 use crate::InlineNode;
 use rlp::{
@@ -18,7 +16,7 @@ use std::alloc::{AllocError, Global};
 ///
 /// See appendix D of the yellow paper: a node whose encoding has fewer than 32 bytes is kept in its
 /// parent, and any other node is named by its hash.
-#[derive(Debug, PartialEq, Eq, Drop)]
+#[derive(Debug, Clone, PartialEq, Eq, Drop)]
 pub enum Child {
     /// The node with this hash.
     Node(Hash),

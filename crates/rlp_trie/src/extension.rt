@@ -11,7 +11,7 @@ use std::alloc::{AllocError, Global};
 /// A node of the trie with one child: the list of a part of the path and the child.
 ///
 /// See appendix D of the yellow paper.
-#[derive(Debug, PartialEq, Eq, Drop)]
+#[derive(Debug, Clone, PartialEq, Eq, Drop)]
 pub struct Extension {
     /// A part of the path.
     pub path: ExtensionPath,

@@ -5,6 +5,7 @@ ghost use Rattle.rlp.specs.Format.Framing.{begins_as_list};
 ghost use Rattle.rlp_trie.specs.Inline.{IsInlineFault};
 
 use rlp::{DecoderError, RawItem};
+use std::alloc::AllocError;
 
 /// A node of the trie that is kept in its parent: a list of fewer than 32 bytes with its header, which
 /// is canonical as each [`RawItem`] is. What else is in the list isn't tested.
@@ -30,6 +31,15 @@ impl InlineNode {
         if item.as_bytes().len() >= 32 {
             return Err(DecoderError::RlpIsTooBig);
         }
+        Ok(InlineNode { item })
+    }
+}
+
+impl Clone for InlineNode {
+    ghost is_clone = { λ n copy. copy.item ≡ n.item };
+
+    fn clone(&self) -> Result<InlineNode, AllocError> {
+        let item = self.item.clone()?;
         Ok(InlineNode { item })
     }
 }

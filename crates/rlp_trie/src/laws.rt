@@ -2,9 +2,7 @@
 
 ghost use Rattle.std.specs.Prelude.{ℕ, ◌≡◌, List, Option};
 ghost use Rattle.rlp.specs.Format.Encoding.{Item};
-ghost use Rattle.rlp_trie.specs.HexPrefix.{AreNibbles};
-ghost use Rattle.rlp_trie.specs.Lookup.{HasValue};
-ghost use Rattle.rlp_trie.specs.ProofWalk.{IsKnown, TellApart};
+ghost use Rattle.rlp_trie.specs.{HexPrefix.AreNibbles, Lookup.HasValue, ProofWalk.{IsKnown, TellApart}};
 
 /// A path has one value below a reference, or none, whichever nodes are known, if no two of them with
 /// one hash differ. So what [`crate::verify_proof`] returns is what the whole trie with this root has,

@@ -1,8 +1,7 @@
 //! Paths of leaves and of extensions of the trie.
 
 ghost use Rattle.std.specs.Prelude.{◌≡◌, ◌≢◌, ◌⊎◌, [], Err, IfErr, IfOk, Ok, Some, false};
-ghost use Rattle.rlp.specs.DecoderError.TheVariants.{OutOfMemory};
-ghost use Rattle.rlp.specs.Form.{fault_of};
+ghost use Rattle.rlp.specs.{DecoderError.TheVariants.OutOfMemory, Form.fault_of};
 ghost use Rattle.rlp_trie.specs.HexPrefix.{AreNibbles, IsNibbleFault, IsPath, ends_in_leaf, hex_prefix, is_empty_extension, is_leaf_flag, path_nibbles, path_of};
 
 use crate::hex_prefix::{are_nibbles, ends_in_leaf, hex_prefix, is_empty_extension, path_nibbles};
@@ -50,10 +49,8 @@ impl<const FLAG: u8> Path<FLAG> {
         if is_empty_extension(bytes) {
             return Err(DecoderError::Custom("path of an extension is empty"));
         }
-        match Vec::from_slice(alloc, bytes) {
-            Ok(bytes) => Ok(Path { bytes }),
-            Err(_) => Err(DecoderError::OutOfMemory),
-        }
+        let bytes = Vec::from_slice(alloc, bytes)?;
+        Ok(Path { bytes })
     }
 
     /// The path of these nibbles, each a digit to the base 16.
@@ -76,10 +73,8 @@ impl<const FLAG: u8> Path<FLAG> {
         if FLAG != 2 && nibbles.is_empty() {
             return Err(DecoderError::Custom("path of an extension is empty"));
         }
-        match hex_prefix(alloc, FLAG == 2, nibbles) {
-            Ok(bytes) => Ok(Path { bytes }),
-            Err(_) => Err(DecoderError::OutOfMemory),
-        }
+        let bytes = hex_prefix(alloc, FLAG == 2, nibbles)?;
+        Ok(Path { bytes })
     }
 
     /// The nibbles of the path. Fails with `AllocError` if memory is refused.
@@ -104,7 +99,7 @@ impl<const FLAG: u8> Clone for Path<FLAG> {
 
 /// Written as the string of the bytes.
 impl<const FLAG: u8> Encodable for Path<FLAG> {
-    ghost use Rattle.rlp_trie.specs.Path.{path};
+    ghost use Rattle.rlp_trie.specs.PathLaws.{path};
 
     ghost item = { (path FLAG).item };
 
@@ -117,15 +112,12 @@ impl<const FLAG: u8> Encodable for Path<FLAG> {
 
 /// Reads a string, with one copy. Fails as [`Path::new`] does.
 impl<const FLAG: u8> Decodable for Path<FLAG> {
-    ghost use Rattle.rlp_trie.specs.Path.{path};
+    ghost use Rattle.rlp_trie.specs.PathLaws.{path};
 
     ghost reading = { (path FLAG).reading };
 
     fn decode(alloc: Global, rlp: &Rlp<'_>) -> Result<Path<FLAG>, DecoderError> {
-        match rlp.decoder().string() {
-            Ok(string) => Path::new(alloc, string),
-            Err(fault) => Err(fault),
-        }
+        Path::new(alloc, rlp.decoder().string()?)
     }
 }
 
@@ -136,13 +128,13 @@ impl<const FLAG: u8> DecodePlaced for Path<FLAG> {
 }
 
 impl<const FLAG: u8> RoundTrip for Path<FLAG> {
-    ghost use Rattle.rlp_trie.specs.Path.{path};
+    ghost use Rattle.rlp_trie.specs.PathLaws.{path};
 
     ghost round_trip = { (path FLAG).reads_back };
 }
 
 impl<const FLAG: u8> StrictRead for Path<FLAG> {
-    ghost use Rattle.rlp_trie.specs.Path.{path};
+    ghost use Rattle.rlp_trie.specs.PathLaws.{path};
 
     ghost strict = { (path FLAG).reads_strictly };
 }

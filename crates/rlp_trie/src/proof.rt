@@ -1,13 +1,9 @@
 //! Proofs of what the trie has for a key, as `eth_getProof` of Ethereum's clients gives them.
 
-ghost use Rattle.std.specs.Prelude.{ℕ, ◌≡◌, ◌⊎◌, IfErr, IfOk, IsErrAnd, List, Err, Ok, Option, map, option_map};
-ghost use Rattle.std.specs.Vec.{vec_items};
+ghost use Rattle.std.specs.{Prelude.{ℕ, ◌≡◌, ◌⊎◌, IfErr, IfOk, IsErrAnd, List, Err, Ok, Option, map, option_map}, Vec.vec_items};
 ghost use Rattle.rlp.specs.Format.Encoding.{string};
-ghost use Rattle.rlp_trie.specs.HexPrefix.{nibbles_of};
-ghost use Rattle.rlp_trie.specs.Lookup.{HasValue};
-ghost use Rattle.rlp_trie.specs.ProofWalk.{IsKnown, IsSameKind, ProofGives};
-ghost use Rattle.rlp_trie.specs.declared.proof_fault.ProofFault.{ProofFault};
-ghost use Rattle.rlp_trie.specs.declared.proof_fault.ProofFault.TheVariants.{OutOfMemory};
+ghost use Rattle.rlp_trie.specs.{HexPrefix.nibbles_of, Lookup.HasValue, ProofWalk.{IsKnown, IsSameKind, ProofGives}};
+ghost use Rattle.rlp_trie.specs.{declared.proof_fault.ProofFault.ProofFault, declared.proof_fault.ProofFault.TheVariants.OutOfMemory};
 
 use crate::hex_prefix::push_nibbles;
 use crate::walk::walk;

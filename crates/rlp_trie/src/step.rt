@@ -1,10 +1,7 @@
 //! What one node of the trie says of a path.
 
 ghost use Rattle.std.specs.Prelude.{◌≡◌, ◌<◌, IfOk, option_map};
-ghost use Rattle.rlp_trie.specs.Child.{child_item};
-ghost use Rattle.rlp_trie.specs.HexPrefix.{AreNibbles, path_nibbles};
-ghost use Rattle.rlp_trie.specs.Lookup.{extension_step, place_step, step};
-ghost use Rattle.rlp_trie.specs.Next.{next_step};
+ghost use Rattle.rlp_trie.specs.{Child.child_item, HexPrefix.{AreNibbles, path_nibbles}, Lookup.{extension_step, place_step, step}, Next.next_step};
 ghost use Rattle.rlp_trie.specs.Trie.{child_at};
 
 use crate::{Branch, BranchChild, Child, Extension, Leaf, TrieNode};

@@ -1,12 +1,9 @@
 //! Nodes of the trie of every kind: leaves, extensions and branches.
 
 ghost use Rattle.std.specs.Prelude.{◌≡◌, ◌⊎◌, Err, IfErr, IfOk, Ok, OnOk};
-ghost use Rattle.rlp.specs.DecoderError.TheVariants.{OutOfMemory};
-ghost use Rattle.rlp.specs.Format.Encoding.{encoding};
-ghost use Rattle.rlp.specs.Form.{IsPlaced, fault_of};
+ghost use Rattle.rlp.specs.{DecoderError.TheVariants.OutOfMemory, Format.Encoding.encoding, Form.{IsPlaced, fault_of}};
 ghost use Rattle.rlp_records.specs.Hashing.{IsHashOf};
-ghost use Rattle.rlp_trie.specs.TrieNode.{begins_as_leaf, node_of, seen_node};
-ghost use Rattle.rlp_trie.specs.TrieNodeLaws.{trie_node};
+ghost use Rattle.rlp_trie.specs.{TrieNode.{begins_as_leaf, node_of, seen_node}, TrieNodeLaws.trie_node};
 
 use crate::empty::is_empty_string;
 use crate::hex_prefix::ends_in_leaf;
@@ -25,7 +22,7 @@ use std::alloc::{AllocError, Global};
 /// Reading also takes nodes that no trie has: a leaf with an empty value, a branch with fewer than two
 /// of its children and its value, and an extension to a node that isn't a branch.
 /// [`TrieNode::is_possible`] finds most of them.
-#[derive(Debug, PartialEq, Eq, Drop)]
+#[derive(Debug, Clone, PartialEq, Eq, Drop)]
 pub enum TrieNode {
     /// The empty trie, which has no node: the empty string.
     Empty,

@@ -1,22 +1,15 @@
 //! The walk over the nodes of a proof.
 
-ghost use Rattle.std.specs.Prelude.{ℕ, ◌≡◌, ◌⊎◌, IfErr, IfOk, List, Err, Ok, Option, Result, map};
-ghost use Rattle.std.specs.Str.{bytes_eq};
-ghost use Rattle.std.specs.Vec.{vec_items};
-ghost use Rattle.keccak.specs.Keccak.{keccak256};
+ghost use Rattle.std.specs.{Prelude.{ℕ, ◌≡◌, ◌⊎◌, IfErr, IfOk, List, Err, Ok, Option, Result, map}, Str.bytes_eq, Vec.vec_items};
+ghost use Rattle.rlp_records.specs.Keccak.{keccak256};
 ghost use Rattle.rlp.specs.Format.Encoding.{string};
-ghost use Rattle.rlp_trie.specs.Child.{child_item};
-ghost use Rattle.rlp_trie.specs.HexPrefix.{AreNibbles};
-ghost use Rattle.rlp_trie.specs.Lookup.{Encodes};
-ghost use Rattle.rlp_trie.specs.Next.{Agrees, IsEnd, read_fault};
-ghost use Rattle.rlp_trie.specs.ProofWalk.{IsNoNode, IsUnread, TakesNode, Walk, next_node};
-ghost use Rattle.rlp_trie.specs.declared.proof_fault.ProofFault.TheVariants.{OutOfMemory};
+ghost use Rattle.rlp_trie.specs.{Child.child_item, HexPrefix.AreNibbles, Lookup.Encodes, Next.{Agrees, IsEnd, read_fault}};
+ghost use Rattle.rlp_trie.specs.{ProofWalk.{IsNoNode, IsUnread, TakesNode, Walk, next_node}, declared.proof_fault.ProofFault.TheVariants.OutOfMemory};
 
 use crate::step::{Next, step};
 use crate::{Child, ProofFault, TrieNode};
-use keccak::keccak256;
 use rlp::{DecoderError, NULL_RLP};
-use rlp_records::Hash;
+use rlp_records::{Hash, keccak256};
 use std::alloc::Global;
 
 /// Walks from a child along a path, over the nodes of a proof. Returns the value that the trie has
@@ -37,10 +30,7 @@ pub(crate) fn walk(
     let mut rest = path;
     let mut left = nodes;
     loop {
-        let (node, others) = match take_node(alloc, &child, left) {
-            Ok(found) => found,
-            Err(fault) => return Err(fault),
-        };
+        let (node, others) = take_node(alloc, &child, left)?;
         match step(alloc, node, rest)? {
             Next::Value(value) => {
                 if others.is_empty() {
@@ -71,15 +61,9 @@ fn take_node<'a>(
     match child {
         Child::Node(hash) => {
             let (bytes, left) = next_named(hash, nodes)?;
-            match read_node(alloc, bytes) {
-                Ok(node) => Ok((node, left)),
-                Err(fault) => Err(fault),
-            }
+            Ok((read_node(alloc, bytes)?, left))
         }
-        Child::Inline(inline) => match read_node(alloc, inline.item.as_bytes()) {
-            Ok(node) => Ok((node, nodes)),
-            Err(fault) => Err(fault),
-        },
+        Child::Inline(inline) => Ok((read_node(alloc, inline.item.as_bytes())?, nodes)),
     }
 }
 

@@ -1,6 +1,7 @@
 //! Tests that the Rust crate has too. They keep its names.
 
 mod lists;
+mod streams;
 mod values;
 mod views;
 mod written;

@@ -1,14 +1,9 @@
 //! Values compared with bytes.
 
+use crate::rows::bytes_of;
 use bytes::BytesMut;
 use rlp::{Decodable, DecoderError, Encodable, RlpStream};
-use rlp_rows::bytes_of;
 use std::alloc::{AllocError, Global};
-
-/// Returns whether no list is open, and these are the bytes.
-pub(crate) fn finishes_as(s: RlpStream, want: &[u8]) -> bool {
-    s.is_finished() && s.out().as_slice() == want
-}
 
 /// Appends a value.
 pub(crate) fn put<E: Encodable>(s: &mut RlpStream, value: &E) -> Result<(), AllocError> {

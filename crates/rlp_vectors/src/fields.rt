@@ -1,8 +1,8 @@
 //! The items of a list, read in order as views and as values.
 
-use crate::rows::raw;
+use crate::rows::{Line, cut, number};
+use crate::tables::raw;
 use rlp::{DecoderError, Fields, Rlp};
-use rlp_rows::{Line, cut, number};
 use std::alloc::Global;
 use std::fmt;
 use std::fmt::Write;

@@ -1,7 +1,7 @@
 //! Trees in flat form, worked out by hand.
 
+use crate::rows::Line;
 use rlp::{FlatItem, Rlp};
-use rlp_rows::Line;
 use std::alloc::Global;
 use std::fmt;
 use std::fmt::Write;

@@ -1,8 +1,8 @@
 //! The items of a list and the value of an item, by the calls of a view.
 
-use crate::rows::raw;
+use crate::rows::{Hex, Line, number};
+use crate::tables::raw;
 use rlp::{DecoderError, Rlp};
-use rlp_rows::{Hex, Line, number};
 use std::fmt;
 use std::fmt::Write;
 

@@ -1,7 +1,7 @@
 //! Lists of many items, and lists that nest deep.
 
+use crate::rows::{Line, bytes_of, number, push_header};
 use rlp::{DecoderError, Rlp};
-use rlp_rows::{Line, bytes_of, number, push_header};
 use std::alloc::{AllocError, Global};
 use std::fmt;
 use std::fmt::Write;

@@ -1,7 +1,10 @@
-//! Tests of `rlp`: of values that are written and read, of headers and views, of all inputs of two
-//! bytes and of large ones, without memory too, and calls of each law. The crate has only tests.
+//! Tests of `rlp`: of values that are written and read, of streams, of headers and views, of all inputs
+//! of two bytes and of large ones, without memory too, and calls of each law. Besides tests, the crate
+//! has [`rows`], which reads the rows of tests.
 #![tactic(auto)]
 
+#[cfg(test)]
+mod appended;
 #[cfg(test)]
 mod carried;
 #[cfg(test)]
@@ -11,11 +14,15 @@ mod fields;
 #[cfg(test)]
 mod flattened;
 #[cfg(test)]
+mod guarded;
+#[cfg(test)]
 mod items;
 #[cfg(test)]
 mod large;
 #[cfg(test)]
 mod laws;
+#[cfg(test)]
+mod limits;
 #[cfg(test)]
 mod lists;
 #[cfg(test)]
@@ -28,16 +35,23 @@ mod raw_items;
 mod refused;
 #[cfg(test)]
 mod refused_reads;
+pub mod rows;
 #[cfg(test)]
-mod rows;
+mod script;
 #[cfg(test)]
 mod splitting;
+#[cfg(test)]
+mod streams;
 #[cfg(test)]
 mod strict;
 #[cfg(test)]
 mod structs;
 #[cfg(test)]
+mod tables;
+#[cfg(test)]
 mod texts;
+#[cfg(test)]
+mod trees;
 #[cfg(test)]
 mod two_bytes;
 #[cfg(test)]

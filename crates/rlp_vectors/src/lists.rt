@@ -1,9 +1,9 @@
 //! Values that are read from the items of a list.
 
-use crate::rows::{tell_same, view_of};
+use crate::rows::Line;
+use crate::tables::{tell_same, view_of};
 use rlp::{Decodable, DecoderError, Rlp};
 use rlp_examples::Odd;
-use rlp_rows::Line;
 use std::alloc::Global;
 use std::fmt;
 use std::fmt::Write;

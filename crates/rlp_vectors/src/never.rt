@@ -1,15 +1,23 @@
-//! Calls on views that take no memory.
+//! Calls on views and on streams that take no memory.
 //!
-//! `refusals/run` refuses every request after a signal. The signal is a request for `SIGNAL` bytes.
+//! `tools/refusals/run` refuses every request after a signal. The signal is a request for `SIGNAL`
+//! bytes.
 
-use crate::rows::check;
+mod streams;
+
+use crate::rows::Line;
+use crate::tables::check;
 use rlp::DecoderError;
-use rlp_rows::Line;
+use std::alloc::Global;
 use std::test::Fail;
 
-/// The number of bytes that is requested as the signal. The result of the request makes no
-/// difference.
+/// The number of bytes that is requested as the signal.
 const SIGNAL: usize = 77_777;
+
+/// Gives the signal. The result of the request makes no difference.
+fn refuse_from_here(alloc: Global) {
+    drop(Vec::<u8>::with_capacity(alloc, SIGNAL));
+}
 
 /// A view of each kind.
 const TEXTS: &str = "
@@ -22,7 +30,7 @@ const TEXTS: &str = "
 
 #[test]
 fn views_that_need_no_memory(rt: HostRuntime) -> Result<(), Fail> {
-    let _signal = Vec::<u8>::with_capacity(rt.alloc(), SIGNAL).is_ok();
+    refuse_from_here(rt.alloc());
     let mut wrong = Line::new();
     check(rt.alloc(), TEXTS, &mut wrong);
     let fault = DecoderError::Custom("text");

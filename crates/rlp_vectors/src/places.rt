@@ -1,8 +1,8 @@
 //! Where in their bytes values have faults. The paths to items at fault were worked out by hand.
 
+use crate::rows::{Line, bytes_of, cut};
 use rlp::{DecodePlaced, Rlp};
 use rlp_examples::{Message, Nest, Odd, Pair, Parcel};
-use rlp_rows::{Line, bytes_of, cut};
 use std::alloc::Global;
 use std::fmt;
 use std::fmt::Write;

@@ -1,10 +1,11 @@
 //! Raw items. The expected bytes were worked out by hand.
 
-use crate::compare::{finishes_as, is_again, is_read, put};
+use crate::compare::{is_again, is_read, put};
+use crate::guarded::finishes_as;
 use crate::large::nested;
+use crate::rows::bytes_of;
 use bytes::BytesMut;
 use rlp::{DecoderError, RawItem, Rlp, RlpStream};
-use rlp_rows::bytes_of;
 use std::alloc::{AllocError, Global};
 use std::test::Fail;
 

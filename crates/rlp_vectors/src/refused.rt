@@ -1,7 +1,9 @@
 //! New streams and encoded values, one of which is refused memory.
 //!
-//! `refusals/run` refuses each request of these tests in turn. A test returns `AllocError` if
+//! `tools/refusals/run` refuses each request of these tests in turn. A test returns `AllocError` if
 //! nothing else was lost.
+
+mod streams;
 
 use bytes::BytesMut;
 use rlp::{Encodable, RlpStream, Uint};

@@ -1,7 +1,7 @@
 //! Values that are read, one of which is refused memory.
 //!
-//! `refusals/run` refuses each request of these tests in turn. A test returns `OutOfMemory` if
-//! nothing else was lost.
+//! `tools/refusals/run` refuses each request of these tests in turn. A test returns `OutOfMemory`
+//! if nothing else was lost.
 
 use bytes::{Bytes, BytesMut};
 use rlp::{Decodable, DecoderError, Rlp};

@@ -1,8 +1,8 @@
 //! Items that are split off the beginning of bytes.
 
-use crate::rows::{raw, view_of};
+use crate::rows::{Hex, Line};
+use crate::tables::{raw, view_of};
 use rlp::{DecoderError, Rlp};
-use rlp_rows::{Hex, Line};
 use std::alloc::Global;
 use std::fmt;
 use std::fmt::Write;

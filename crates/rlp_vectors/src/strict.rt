@@ -1,7 +1,7 @@
 //! Strict decoding, and the invalid encodings that the public standard lists.
 
+use crate::rows::Line;
 use rlp::Rlp;
-use rlp_rows::Line;
 use std::alloc::Global;
 use std::fmt;
 use std::fmt::Write;

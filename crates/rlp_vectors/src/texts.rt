@@ -1,9 +1,9 @@
 //! The texts of views and of faults.
 
 use crate::carried::HASHES;
-use crate::rows::check_row;
+use crate::rows::Line;
+use crate::tables::check_row;
 use rlp::{DecoderError, Rlp};
-use rlp_rows::Line;
 use std::alloc::Global;
 use std::fmt;
 use std::fmt::Write;

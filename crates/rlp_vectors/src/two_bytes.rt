@@ -1,9 +1,9 @@
 //! All inputs of two bytes, by each call of a view and each type that is read from a string. The
 //! expected numbers were counted by the tables of the format, not by these calls.
 
+use crate::rows::{Line, cut, number};
 use bytes::{Bytes, BytesMut};
 use rlp::{BasicDecoder, Decodable, DecoderError, PayloadInfo, Prototype, Rlp, Uint};
-use rlp_rows::{Line, cut, number};
 use std::alloc::Global;
 use std::fmt;
 use std::fmt::Write;

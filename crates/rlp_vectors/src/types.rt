@@ -2,9 +2,9 @@
 //! bytes were worked out by hand.
 
 use crate::compare::{is_fault, is_read, is_written};
+use crate::rows::{bytes_of, cut};
 use rlp::{DecoderError, Each, Flattened, ListOf, RlpStream, Uint};
 use rlp_examples::{Inner, Message, Nest, Nonce, Pair, Row};
-use rlp_rows::{bytes_of, cut};
 use std::alloc::{AllocError, Global};
 use std::test::Fail;
 

@@ -1,7 +1,7 @@
 //! Numbers of 256 bits: their order, and what prints of them. The texts are Python's.
 
+use crate::rows::{Line, bytes_of, cut};
 use rlp::Uint;
-use rlp_rows::{Line, bytes_of, cut};
 use std::alloc::Global;
 use std::fmt;
 use std::fmt::Write;

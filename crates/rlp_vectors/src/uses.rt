@@ -1,6 +1,6 @@
 //! The examples of calls, some of which the pages show.
 
-use crate::compare::finishes_as;
+use crate::guarded::finishes_as;
 use rlp::{DecoderError, Rlp, RlpStream};
 use rlp_examples::{
     append_by_stream, append_each, chain_and_encoder, first_and_text, nested, received, renumbered,

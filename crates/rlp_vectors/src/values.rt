@@ -1,10 +1,10 @@
 //! Values that are read from strings and options, and the faults of bytes that give no value.
 
-use crate::rows::{tell_same, view_of};
+use crate::rows::Line;
+use crate::tables::{tell_same, view_of};
 use bytes::{Bytes, BytesMut};
 use rlp::{BasicDecoder, Decodable, DecoderError, Rlp};
 use rlp_examples::Odd;
-use rlp_rows::Line;
 use std::alloc::Global;
 use std::fmt;
 use std::fmt::Write;

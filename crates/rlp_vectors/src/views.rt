@@ -1,7 +1,7 @@
 //! The calls of a view about all its bytes, and headers at the lengths at which their form changes.
 
+use crate::rows::Line;
 use rlp::{PayloadInfo, Rlp};
-use rlp_rows::Line;
 use std::fmt;
 use std::fmt::Write;
 

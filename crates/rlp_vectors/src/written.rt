@@ -1,11 +1,12 @@
 //! Values of each type, and the bytes that they are written as. The bytes were worked out by hand.
 
-use crate::compare::{finishes_as, is_again, is_listed, is_written, put};
+use crate::compare::{is_again, is_listed, is_written, put};
+use crate::guarded::finishes_as;
+use crate::rows::{bytes_of, cut, number};
 use crate::structs::{Columns, LastField, Tagged};
 use bytes::{Bytes, BytesMut};
 use rlp::{EMPTY_LIST_RLP, Encodable, NULL_RLP, RlpStream};
 use rlp_examples::{HalfWritten, Nonce, Pair, Refusing, Trio, bytes_of_three};
-use rlp_rows::{bytes_of, cut, number};
 use std::alloc::{AllocError, Global};
 use std::test::Fail;
 

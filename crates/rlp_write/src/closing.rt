@@ -1,9 +1,7 @@
 //! Closing of open lists. One pass over the bytes closes all lists that a call fills.
 
-ghost use Rattle.std.specs.Prelude.{◌≡◌, ◌+◌, ◌*◌, ◌^◌, ◌<◌, ◌≤◌, [], length, take, drop};
-ghost use Rattle.std.specs.Option.{SomeIff};
-ghost use Rattle.rlp_write.specs.Streams.Placeholders.{Descends};
-ghost use Rattle.rlp_write.specs.Streams.Closing.{filled, closed_bytes, closed_len, growth, left_of};
+ghost use Rattle.std.specs.{Prelude.{◌≡◌, ◌+◌, ◌*◌, ◌^◌, ◌<◌, ◌≤◌, [], length, take, drop}, Option.SomeIff};
+ghost use Rattle.rlp_write.specs.{Streams.Placeholders.Descends, Streams.Closing.{filled, closed_bytes, closed_len, growth, left_of}};
 
 use crate::buffer::Buffer;
 use crate::header::list_header_len;

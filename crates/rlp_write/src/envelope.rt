@@ -2,8 +2,7 @@
 
 ghost use Rattle.std.specs.Prelude.{◌≡◌, ◌≤◌, ◌∷◌, OnOk, OnErr};
 ghost use Rattle.rlp_format.specs.Format.Encoding.{encoding, string};
-ghost use Rattle.rlp_write.specs.Streams.Stream.{IsAsBefore, put_item};
-ghost use Rattle.rlp_write.specs.Streams.Growth.{GrowsTo};
+ghost use Rattle.rlp_write.specs.{Streams.Stream.{IsAsBefore, put_item}, Streams.Growth.GrowsTo};
 
 use crate::stream::RlpStream;
 use crate::traits::Encodable;

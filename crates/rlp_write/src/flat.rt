@@ -2,13 +2,10 @@
 //! fields of a stream: all others see its state.
 
 ghost use Rattle.std.specs.Prelude.{◌≡◌, ◌≤◌, ◌<◌, ◌+◌, ◌*◌, ◌^◌, ◌++◌, ◌↔◌, ℕ, List, IsTrue, IsOk, OnOk, OnErr, false, length, min};
-ghost use Rattle.std.specs.Iterator.{IsFiniteIterable};
-ghost use Rattle.std.specs.Option.{SomeIff};
+ghost use Rattle.std.specs.{Iterator.IsFiniteIterable, Option.SomeIff};
 ghost use Rattle.rlp_format.specs.Format.Encoding.{string, encoding};
 ghost use Rattle.rlp_write.specs.Streams.Stream.{AwaitsSome, awaited, is_counted_after, is_unbounded, unbounded_count, clear, effect, State, IsAsBefore, IsFinished, MovesWithin, closed_size, closed_size_with, count, initial_state, put, raw_text, with_awaiting, with_is_counted, with_list};
-ghost use Rattle.rlp_write.specs.Streams.Growth.{GrowsTo};
-ghost use Rattle.rlp_write.specs.Streams.Places.{place_of};
-ghost use Rattle.rlp_write.specs.Streams.Iterated.{GivesAll};
+ghost use Rattle.rlp_write.specs.{Streams.Growth.GrowsTo, Streams.Places.place_of, Streams.Iterated.GivesAll};
 
 use crate::buffer::Buffer;
 use crate::buffer::strings::{write_string, write_string_of};
@@ -48,9 +45,7 @@ pub struct RlpStream {
 }
 
 impl Model for RlpStream {
-    ghost use Rattle.rlp_write.specs.Streams.Stream.{Seen};
-    ghost use Rattle.rlp_write.specs.Streams.Placeholders.{IsLaid};
-    ghost use Rattle.rlp_write.specs.Streams.Layout.{state_of};
+    ghost use Rattle.rlp_write.specs.{Streams.Stream.Seen, Streams.Placeholders.IsLaid, Streams.Layout.state_of};
 
     ghost Value = { Seen };
 

@@ -1,12 +1,10 @@
 //! Writing: a stream of encodings.
 
-ghost use Rattle.std.specs.Prelude.{◌≡◌, ◌≤◌, ◌<◌, ◌^◌, ℕ, List, IsTrue, IsOk, IfOk, IfErr, OnOk, OnErr, [], length, map, min, All, false};
-ghost use Rattle.std.specs.Borrow.{sem};
+ghost use Rattle.std.specs.{Prelude.{◌≡◌, ◌≤◌, ◌<◌, ◌^◌, ℕ, List, IsTrue, IsOk, IfOk, IfErr, OnOk, OnErr, [], length, map, min, All, false}, Borrow.sem};
 ghost use Rattle.std.specs.Iterator.{IsFiniteIterable};
 ghost use Rattle.rlp_format.specs.Format.Encoding.{string, list_of, encoding};
 ghost use Rattle.rlp_write.specs.Streams.Stream.{unbounded_count, append, append_empty_data, append_raw, append_raw_checked, begin_list, begin_unbounded_list, finalize_unbounded_list, append_internal, effect, finalized, is_admitted, is_within_size, initial_state, IsFinished, IsAsBefore, MovedGrows, MovesWithin, closed_size, closed_size_with};
-ghost use Rattle.rlp_write.specs.Streams.Iterated.{GivesAll};
-ghost use Rattle.rlp_write.specs.Streams.Chain.{stays_if_refused, rests_if_refused, HoldsStream};
+ghost use Rattle.rlp_write.specs.{Streams.Iterated.GivesAll, Streams.Chain.{stays_if_refused, rests_if_refused, HoldsStream}};
 
 mod chain;
 mod encoded;

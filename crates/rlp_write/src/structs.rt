@@ -2,9 +2,7 @@
 
 ghost use Rattle.std.specs.Prelude.{◌≡◌, ◌++◌, ◌∷◌, [], ◌^◌, ◌≤◌, List, OnOk, OnErr, length, MatchOption, ⊤};
 ghost use Rattle.rlp_format.specs.Format.Encoding.{Item, list_of};
-ghost use Rattle.rlp_write.specs.Streams.Stream.{MovedGrows, add_all, put_item};
-ghost use Rattle.rlp_write.specs.Streams.Growth.{GrowsTo};
-ghost use Rattle.rlp_write.specs.Streams.Fields.{AppendsSome};
+ghost use Rattle.rlp_write.specs.{Streams.Stream.{MovedGrows, add_all, put_item}, Streams.Growth.GrowsTo, Streams.Fields.AppendsSome};
 
 mod optional;
 mod parts;

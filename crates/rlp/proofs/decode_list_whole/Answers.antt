@@ -1,8 +1,8 @@
 use Rattle.std.proofs.Common.{arith}
 use Rattle.std.specs.Vec.{vec_items}
 use Rattle.rlp_format.proofs.Lemmas.Digits.{bytes_held}
-use Rattle.rlp_codec.specs.Laws.{form_of}
-use Rattle.rlp_codec.proofs.Corollaries.{strict_list_alike, strict_list_memory, strict_list_only, strict_list_whole}
+use Rattle.rlp_reading.specs.Laws.{form_of}
+use Rattle.rlp_reading.proofs.Corollaries.{strict_list_alike, strict_list_memory, strict_list_only, strict_list_whole}
 use Rattle.rlp.proofs.decode_list_whole.Goals as goal
 
 pub returns-clause-whole : goal.returns-clause-whole

@@ -1,8 +1,7 @@
 use Rattle.std.proofs.Common.{IsTrue, arith, true}
-use Rattle.rlp_reading.specs.Views.View.{strict_view_of}
+use Rattle.rlp_reading.specs.{Views.View.strict_view_of, Laws.form_of}
 use Rattle.rlp_format.proofs.Lemmas.Digits.{bytes_held}
-use Rattle.rlp_codec.specs.Laws.{form_of}
-use Rattle.rlp_codec.proofs.Corollaries.{answers_alike, answers_memory, answers_only, answers_whole}
+use Rattle.rlp_reading.proofs.Corollaries.{answers_alike, answers_memory, answers_only, answers_whole}
 use Rattle.rlp.proofs.decode_whole.Goals as goal
 
 pub returns-clause-whole : goal.returns-clause-whole

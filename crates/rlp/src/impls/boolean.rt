@@ -1,6 +1,6 @@
 //! `bool`: written as the numbers 0 and 1.
 
-ghost use Rattle.rlp_codec.proofs.StringLaws.{truth_scalar};
+ghost use Rattle.rlp_reading.proofs.StringLaws.{truth_scalar};
 ghost use Rattle.rlp.specs.Codec.{truth_value};
 
 use crate::rlpin::Rlp;
@@ -13,13 +13,12 @@ use std::alloc::Global;
 impl Decodable for bool {
     ghost reading = { truth_value.reading };
 
-    #[tactic(auto, using(rlp_codec::proofs::StringLaws::other_bool))]
+    #[tactic(auto, using(rlp_reading::proofs::StringLaws::other_bool))]
     fn decode(alloc: Global, rlp: &Rlp<'_>) -> Result<bool, DecoderError> {
-        match u8::decode(alloc, rlp) {
-            Ok(0) => Ok(false),
-            Ok(1) => Ok(true),
-            Ok(_) => Err(DecoderError::Custom("invalid boolean value")),
-            Err(fault) => Err(fault),
+        match u8::decode(alloc, rlp)? {
+            0 => Ok(false),
+            1 => Ok(true),
+            _ => Err(DecoderError::Custom("invalid boolean value")),
         }
     }
 }

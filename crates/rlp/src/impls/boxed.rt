@@ -1,10 +1,8 @@
 //! Boxes: written as the value that they hold.
 
-ghost use Rattle.std.specs.Prelude.{false, true};
-ghost use Rattle.std.specs.Box.{box_value};
-ghost use Rattle.rlp_codec.proofs.ListLaws.{holding_lawful, holding_only, holding_read_back};
-ghost use Rattle.rlp_codec.specs.Form.{held_reading};
-ghost use Rattle.rlp_codec.specs.Laws.{form_of};
+ghost use Rattle.std.specs.{Prelude.{false, true}, Box.box_value};
+ghost use Rattle.rlp_reading.proofs.ListLaws.{holding_lawful, holding_only, holding_read_back};
+ghost use Rattle.rlp_reading.specs.{Form.held_reading, Laws.form_of};
 
 use crate::rlpin::Rlp;
 use crate::traits::{Decodable, RoundTrip, Scalar, StrictRead};

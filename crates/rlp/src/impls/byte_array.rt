@@ -1,6 +1,6 @@
 //! Byte arrays: written as the string of the bytes.
 
-ghost use Rattle.rlp_codec.proofs.StringLaws.{array_scalar};
+ghost use Rattle.rlp_reading.proofs.StringLaws.{array_scalar};
 ghost use Rattle.rlp.specs.Codec.{byte_array};
 
 use crate::rlpin::Rlp;

@@ -1,7 +1,7 @@
 //! Byte strings: written as the string of the bytes.
 
 ghost use Rattle.std.specs.Vec.{vec_items};
-ghost use Rattle.rlp_codec.proofs.StringLaws.{bytes_scalar};
+ghost use Rattle.rlp_reading.proofs.StringLaws.{bytes_scalar};
 ghost use Rattle.rlp.specs.Codec.{byte_string};
 
 use crate::rlpin::Rlp;

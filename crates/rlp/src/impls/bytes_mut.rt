@@ -1,6 +1,6 @@
 //! Buffers that grow: written as the string of the bytes.
 
-ghost use Rattle.rlp_codec.proofs.StringLaws.{bytes_scalar};
+ghost use Rattle.rlp_reading.proofs.StringLaws.{bytes_scalar};
 ghost use Rattle.rlp.specs.Codec.{byte_string};
 
 use crate::rlpin::Rlp;

@@ -1,10 +1,9 @@
 //! Numbers: written as the string of their digits to the base 256, the most significant first.
 
-ghost use Rattle.std.specs.Prelude.{◌≡◌, ◌≤◌, ◌<◌, length, Ok, Err, IfOk, IfErr, IfSome};
-ghost use Rattle.std.specs.Int.Digits.{number_from_digits};
+ghost use Rattle.std.specs.{Prelude.{◌≡◌, ◌≤◌, ◌<◌, length, Ok, Err, IfOk, IfErr, IfSome}, Int.Digits.number_from_digits};
 ghost use Rattle.rlp_format.specs.Values.Value.{FitsBytes};
-ghost use Rattle.rlp_codec.specs.Form.{and_then, fault_of, number_of, string_of};
-ghost use Rattle.rlp_codec.proofs.StringLaws.{number_scalar};
+ghost use Rattle.rlp_reading.specs.Form.{and_then, fault_of, number_of, string_of};
+ghost use Rattle.rlp_reading.proofs.StringLaws.{number_scalar};
 ghost use Rattle.rlp.specs.Codec.{number};
 
 use crate::rlpin::{Rlp, may_end_at, short_string};

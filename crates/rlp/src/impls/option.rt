@@ -1,8 +1,7 @@
 //! Options: written as a list of no items or of one item.
 
-ghost use Rattle.rlp_codec.proofs.ListLaws.{option_lawful, option_read_back};
-ghost use Rattle.rlp_codec.specs.Form.{option_reading};
-ghost use Rattle.rlp_codec.specs.Laws.{form_of};
+ghost use Rattle.rlp_reading.proofs.ListLaws.{option_lawful, option_read_back};
+ghost use Rattle.rlp_reading.specs.{Form.option_reading, Laws.form_of};
 
 use crate::rlpin::{Fields, Rlp};
 use crate::traits::{Decodable, RoundTrip, StrictRead};
@@ -18,7 +17,7 @@ use std::alloc::Global;
 impl<T: Decodable> Decodable for Option<T> {
     ghost reading = { option_reading T.reading };
 
-    #[tactic(auto, using(rlp_codec::proofs::ListLaws::items_told, rlp_codec::proofs::ListLaws::items_faulty))]
+    #[tactic(auto, using(rlp_reading::proofs::ListLaws::items_told, rlp_reading::proofs::ListLaws::items_faulty))]
     fn decode(alloc: Global, rlp: &Rlp<'_>) -> Result<Option<T>, DecoderError> {
         let mut items = Fields::framed(rlp)?;
         let first = items.next();

@@ -1,15 +1,11 @@
 //! Items of any kind, kept as the bytes of their encodings.
 
-ghost use Rattle.std.specs.Prelude.{◌≡◌, ◌⊎◌, Ok, Err, IfOk, IfErr, false, nat_eq};
-ghost use Rattle.std.specs.Cmp.{partial_equiv_from_equiv};
+ghost use Rattle.std.specs.{Prelude.{◌≡◌, ◌⊎◌, Ok, Err, IfOk, IfErr, false, nat_eq}, Cmp.partial_equiv_from_equiv};
 ghost use Rattle.std.specs.Cmp.Lexicographic.{nat_list_eq_equiv, pointwise};
-ghost use Rattle.rlp_reading.specs.declared.error.DecoderError.TheVariants.{OutOfMemory};
-ghost use Rattle.rlp_reading.specs.Views.View.{strict_view_of};
+ghost use Rattle.rlp_reading.specs.{declared.error.DecoderError.TheVariants.OutOfMemory, Views.View.strict_view_of, Format.Framing.IsCanonicalWithin};
+ghost use Rattle.rlp_reading.specs.{Values.RawItem.{IsRawItem, deepest_raw_item, raw_item_of}, Form.{fault_of, raw_of}};
 ghost use Rattle.rlp_format.specs.Format.Encoding.{encoding};
-ghost use Rattle.rlp_reading.specs.Format.Framing.{IsCanonicalWithin};
-ghost use Rattle.rlp_reading.specs.Values.RawItem.{IsRawItem, deepest_raw_item, raw_item_of};
-ghost use Rattle.rlp_codec.specs.Form.{fault_of, raw_of};
-ghost use Rattle.rlp_codec.proofs.RawLaws.{raw_only};
+ghost use Rattle.rlp_reading.proofs.RawLaws.{raw_only};
 ghost use Rattle.rlp.specs.Codec.{raw_item};
 
 use crate::rlpin::Rlp;
@@ -61,7 +57,7 @@ impl RawItem {
     /// let item = rlp::RawItem::new(alloc, &[0xc1, 0x05])?;
     /// assert!(rt; rlp::RawItem::new(alloc, &[0x81, 0x05]).is_err());
     /// ```
-    #[tactic(auto, using(rlp_codec::proofs::RawLaws::raw_readings, rlp_reading::proofs::Lemmas::RawItems::raw_if))]
+    #[tactic(auto, using(rlp_reading::proofs::RawLaws::raw_readings, rlp_reading::proofs::Lemmas::RawItems::raw_if))]
     pub fn new(alloc: Global, bytes: &[u8]) -> Result<RawItem, DecoderError>
         ensures value { IfOk result (λ r. (r ≡ bytes.now) × IsRawItem bytes.now) }
         ensures read { IfOk result (λ r. raw_of bytes.now ≡ Ok r) }
@@ -111,6 +107,16 @@ impl PartialEq for RawItem {
 
 impl Eq for RawItem {
     ghost laws = { nat_list_eq_equiv };
+}
+
+/// Copies the bytes. Fails with `AllocError` if memory is refused.
+impl Clone for RawItem {
+    ghost is_clone = { λ r copy. copy ≡ r };
+
+    fn clone(&self) -> Result<RawItem, AllocError> {
+        let bytes = self.bytes.clone()?;
+        Ok(RawItem { bytes })
+    }
 }
 
 /// Writes the bytes as they are.

@@ -1,7 +1,7 @@
 //! Text: written as the string of its bytes in UTF-8.
 
 ghost use Rattle.std.specs.String.{string_bytes};
-ghost use Rattle.rlp_codec.proofs.StringLaws.{text_scalar};
+ghost use Rattle.rlp_reading.proofs.StringLaws.{text_scalar};
 ghost use Rattle.rlp.specs.Codec.{text};
 
 use crate::rlpin::Rlp;
@@ -14,7 +14,7 @@ use std::alloc::Global;
 impl Decodable for String {
     ghost reading = { (text string_bytes).reading };
 
-    #[tactic(auto, using(rlp_codec::proofs::StringLaws::texts))]
+    #[tactic(auto, using(rlp_reading::proofs::StringLaws::texts))]
     fn decode(alloc: Global, rlp: &Rlp<'_>) -> Result<String, DecoderError> {
         let string = rlp.decoder().string()?;
         let Ok(text) = str::from_utf8(string) else {

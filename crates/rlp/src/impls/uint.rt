@@ -1,10 +1,8 @@
 //! Numbers of any width, kept as their bytes.
 
-ghost use Rattle.std.specs.Prelude.{◌≡◌, ◌≤◌, false, length};
-ghost use Rattle.std.specs.Int.Digits.{number_from_digits};
-ghost use Rattle.rlp_codec.proofs.ListLaws.{newtype_only};
-ghost use Rattle.rlp_codec.proofs.StringLaws.{number_scalar};
-ghost use Rattle.rlp_codec.specs.Form.{number};
+ghost use Rattle.std.specs.{Prelude.{◌≡◌, ◌≤◌, false, length}, Int.Digits.number_from_digits};
+ghost use Rattle.rlp_reading.proofs.{ListLaws.newtype_only, StringLaws.number_scalar};
+ghost use Rattle.rlp_reading.specs.Form.{number};
 ghost use Rattle.rlp.specs.Codec.{uint};
 
 use crate::impls::number::number_digits;

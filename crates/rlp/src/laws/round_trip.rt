@@ -1,14 +1,9 @@
 //! Encodings are read back, for every type with the law of `RoundTrip`.
 
 ghost use Rattle.std.specs.Prelude.{◌≡◌, ◌↔◌, ◌++◌, ◌∷◌, ℕ, List, All, IfErr, IfOk, IsOkAnd, IsTrue, length, map};
-ghost use Rattle.rlp_reading.specs.declared.error.DecoderError.TheVariants.{OutOfMemory};
-ghost use Rattle.rlp_format.specs.Format.Encoding.{BeginsWith, encoding, list_of};
-ghost use Rattle.rlp_reading.specs.Values.RoundTrip.{ReadsBack};
-ghost use Rattle.rlp_reading.specs.Values.ValueReading.{GivesValue};
-ghost use Rattle.rlp_reading.specs.Format.Framing.{items};
-ghost use Rattle.rlp_format.specs.Values.Value.{AreAlike};
-ghost use Rattle.rlp_reading.specs.Views.View.{HoldsItem, view_of};
-ghost use Rattle.rlp_codec.specs.Form.{Faults, Gives, list_reading, reading_at};
+ghost use Rattle.rlp_reading.specs.{declared.error.DecoderError.TheVariants.OutOfMemory, Values.RoundTrip.ReadsBack, Values.ValueReading.GivesValue};
+ghost use Rattle.rlp_reading.specs.{Format.Framing.items, Views.View.{HoldsItem, view_of}, Form.{Faults, Gives, list_reading, reading_at}};
+ghost use Rattle.rlp_format.specs.{Format.Encoding.{BeginsWith, encoding, list_of}, Values.Value.AreAlike};
 
 use crate::traits::{RoundTrip, Scalar};
 use rlp_reading::error::DecoderError;

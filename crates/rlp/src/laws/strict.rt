@@ -2,13 +2,12 @@
 
 ghost use Rattle.std.specs.Prelude.{◌≡◌, ◌+◌, ◌<◌, ◌^◌, ◌↔◌, ◌⊎◌, ℕ, List, All, if◌then◌else◌, length, Ok, Err, Some, None, IfErr, IfOk, IsOkAnd, map};
 ghost use Rattle.rlp_reading.specs.declared.error.DecoderError.TheVariants.{OutOfMemory, RlpExpectedToBeList, RlpIsTooBig};
-ghost use Rattle.rlp_format.specs.Format.Encoding.{BeginsWith, encoding, AreBytes, Item, list_of, string};
 ghost use Rattle.rlp_reading.specs.Format.Framing.{HasHeader, IsFramed, fault, framing, value, begins_as_list, items, read_string, IsCanonical, strict_fault};
-ghost use Rattle.rlp_reading.specs.Values.RoundTrip.{ReadsStrictly};
-ghost use Rattle.rlp_reading.specs.Values.ValueReading.{HasOneReading};
-ghost use Rattle.rlp_codec.specs.Form.{Faults, Gives, byte_array, byte_string, number, option_reading, text, truth_value};
-ghost use Rattle.rlp_format.specs.Values.Value.{AreAlike, bit, number_item, option_item};
+ghost use Rattle.rlp_reading.specs.{Values.RoundTrip.ReadsStrictly, Values.ValueReading.HasOneReading};
+ghost use Rattle.rlp_reading.specs.Form.{Faults, Gives, byte_array, byte_string, number, option_reading, text, truth_value};
 ghost use Rattle.rlp_reading.specs.Views.View.{HoldsItem, View, item_by, item_count, item_with_place, list_fault, strict_view_of, view_header, view_of, view_string, view_value};
+ghost use Rattle.rlp_format.specs.Format.Encoding.{BeginsWith, encoding, AreBytes, Item, list_of, string};
+ghost use Rattle.rlp_format.specs.Values.Value.{AreAlike, bit, number_item, option_item};
 
 use crate::traits::{Decodable, StrictRead};
 use rlp_reading::error::DecoderError;

@@ -1,9 +1,6 @@
 //! Numbers that are kept as their bytes.
 
-ghost use Rattle.std.specs.Cmp.Lexicographic.{slice_cmp};
-ghost use Rattle.std.specs.Ordering.{nat_cmp};
-ghost use Rattle.std.specs.Prelude.{◌≡◌, length};
-ghost use Rattle.std.specs.Int.Digits.{number_from_digits};
+ghost use Rattle.std.specs.{Cmp.Lexicographic.slice_cmp, Ordering.nat_cmp, Prelude.{◌≡◌, length}, Int.Digits.number_from_digits};
 
 use rlp_format::Uint;
 

@@ -1,7 +1,7 @@
 //! The items of a list, read in order with their places.
 
 ghost use Rattle.std.specs.Prelude.{◌≡◌, ◌-◌, ◌∷◌, ◌↔◌, [], length, Ok, Err, IsTrue, MatchOption, MatchResult};
-ghost use Rattle.rlp_codec.specs.Form.{fault_of, items_of};
+ghost use Rattle.rlp_reading.specs.Form.{fault_of, items_of};
 ghost use Rattle.rlp.specs.Left.{ItemsCounted};
 
 use crate::rlpin::fields::Fields;

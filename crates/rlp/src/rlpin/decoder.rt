@@ -1,9 +1,7 @@
 //! A decoder of one string.
 
-ghost use Rattle.std.specs.Prelude.{◌≡◌, ◌+◌, ◌-◌, length, IsTrue, None, Ok, Err, IfOk, IfErr, IfSome, IsErrAnd, MatchResult};
-ghost use Rattle.std.specs.Fn.{FnReturnsAt};
-ghost use Rattle.rlp_reading.specs.Format.Framing.{strict_fault, value};
-ghost use Rattle.rlp_reading.specs.Views.View.{HoldsNoString, HoldsString, view_of, view_string, View};
+ghost use Rattle.std.specs.{Prelude.{◌≡◌, ◌+◌, ◌-◌, length, IsTrue, None, Ok, Err, IfOk, IfErr, IfSome, IsErrAnd, MatchResult}, Fn.FnReturnsAt};
+ghost use Rattle.rlp_reading.specs.{Format.Framing.{strict_fault, value}, Views.View.{HoldsNoString, HoldsString, view_of, view_string, View}};
 
 use crate::rlpin::rlp::Rlp;
 use rlp_reading::error::DecoderError;

@@ -1,10 +1,9 @@
 //! Strings that hold a tag and the encoding of a payload.
 
 ghost use Rattle.std.specs.Prelude.{◌≡◌, ◌∷◌, ◌⊎◌, [], Err, IfErr, IfOk, IsTrue, Ok};
-ghost use Rattle.rlp_reading.specs.declared.error.DecoderError.TheVariants.{OutOfMemory, RlpIsTooShort};
+ghost use Rattle.rlp_reading.specs.{declared.error.DecoderError.TheVariants.{OutOfMemory, RlpIsTooShort}, Views.View.strict_view_of};
+ghost use Rattle.rlp_reading.specs.Form.{Faults, fault_of, string_of};
 ghost use Rattle.rlp_format.specs.Format.Encoding.{encoding};
-ghost use Rattle.rlp_reading.specs.Views.View.{strict_view_of};
-ghost use Rattle.rlp_codec.specs.Form.{Faults, fault_of, string_of};
 
 use crate::decode_whole;
 use crate::rlpin::Rlp;
@@ -33,11 +32,7 @@ impl<'a> Envelope<'a> {
         ensures fault { IfErr result (λ e. (string_of rlp.now ≡ Err (fault_of e))
             ⊎ ((string_of rlp.now ≡ Ok []) × (e ≡ RlpIsTooShort))) }
     {
-        match rlp.decoder().string() {
-            Ok([tag, payload @ ..]) => Ok(Envelope { tag: *tag, payload }),
-            Ok([]) => Err(DecoderError::RlpIsTooShort),
-            Err(fault) => Err(fault),
-        }
+        Envelope::split(rlp.decoder().string()?)
     }
 
     /// Splits an envelope that isn't in a string: the first byte, and the bytes after it. Fails

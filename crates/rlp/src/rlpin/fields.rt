@@ -1,10 +1,9 @@
 //! The items of a list, read in order as values.
 
 ghost use Rattle.std.specs.Prelude.{◌≡◌, ◌≢◌, ◌≤◌, ◌<◌, ◌^◌, ◌∷◌, ◌⊎◌, ◌↔◌, [], ℕ, length, map, None, Ok, Err, Some, IfOk, IfErr, IsOkAnd, IsTrue, MatchOption, MatchResult, OnOk};
-ghost use Rattle.rlp_reading.specs.declared.error.DecoderError.TheVariants.{OutOfMemory, RlpIncorrectListLen};
-ghost use Rattle.rlp_reading.specs.Format.Framing.{fault, split, after_items};
+ghost use Rattle.rlp_reading.specs.{declared.error.DecoderError.TheVariants.{OutOfMemory, RlpIncorrectListLen}, Format.Framing.{fault, split, after_items}};
 ghost use Rattle.rlp_reading.specs.Views.View.{View, item_at, item_count, item_views, items_fault};
-ghost use Rattle.rlp_codec.specs.Form.{and_then, fault_of, items_of, list_of_views, list_reading, seen_fault};
+ghost use Rattle.rlp_reading.specs.Form.{and_then, fault_of, items_of, list_of_views, list_reading, seen_fault};
 ghost use Rattle.rlp.specs.Left.{ItemsLeft, after_next, next_item};
 
 use crate::rlpin::rlp::Rlp;
@@ -49,7 +48,7 @@ impl<'a> Rlp<'a> {
     /// A reader of the items of the list that the view begins with, in order.
     ///
     /// Fails as [`Rlp::item_count`] does.
-    #[tactic(auto, using(rlp_codec::proofs::ListLaws::items_told))]
+    #[tactic(auto, using(rlp_reading::proofs::ListLaws::items_told))]
     pub fn fields(&self) -> Result<Fields<'a>, DecoderError>
         ensures items { IfOk result (λ f. items_of self.now ≡ Ok f.views) }
         ensures past { IfOk result (λ f. (i : ℕ) → length f.views ≤ i
@@ -62,7 +61,7 @@ impl<'a> Rlp<'a> {
 
     /// The same as [`Rlp::fields`] for a list of `len` items. Fails with `RlpIncorrectListLen` if
     /// the list has a different number of items.
-    #[tactic(auto, using(rlp_codec::proofs::ListLaws::items_told, rlp_reading::proofs::Views::InOrder::counted_told))]
+    #[tactic(auto, using(rlp_reading::proofs::ListLaws::items_told, rlp_reading::proofs::Views::InOrder::counted_told))]
     pub fn fields_of(&self, len: usize) -> Result<Fields<'a>, DecoderError>
         ensures items { IfOk result (λ f. items_of self.now ≡ Ok f.views) }
         ensures past { IfOk result (λ f. (i : ℕ) → length f.views ≤ i
@@ -82,16 +81,14 @@ impl<'a> Fields<'a> {
     /// A reader of the items of the list that the view begins with. Fails as [`Rlp::item_count`]
     /// does. It walks over the items of a strict view, but not over those of a lenient view.
     #[inline(always)]
-    #[tactic(auto, using(rlp_codec::proofs::ListLaws::items_told))]
+    #[tactic(auto, using(rlp_reading::proofs::ListLaws::items_told))]
     pub fn of(rlp: &Rlp<'a>) -> Result<Fields<'a>, DecoderError>
         ensures items { MatchResult result (λ f. items_of rlp.now ≡ Ok f.views)
             (λ e. items_of rlp.now ≡ Err (fault_of e)) }
         ensures few { IfOk result (λ f. length f.views < 2 ^ 64) }
     {
-        match rlp.check_items() {
-            Ok(()) => Ok(Fields::over(rlp)),
-            Err(fault) => Err(fault),
-        }
+        rlp.check_items()?;
+        Ok(Fields::over(rlp))
     }
 
     /// A reader of the items of a view that is read as a list. A strict view fails as
@@ -127,10 +124,8 @@ impl<'a> Fields<'a> {
             ↔ (items_of rlp.now ≡ Ok f.views)) }
         ensures fault { IfErr result (λ e. items_of rlp.now ≡ Err (fault_of e)) }
     {
-        match rlp.framed_items() {
-            Ok(items) => Ok(Fields::over_items(items, rlp.is_strict())),
-            Err(fault) => Err(fault),
-        }
+        let items = rlp.framed_items()?;
+        Ok(Fields::over_items(items, rlp.is_strict()))
     }
 
     /// A reader of the items of a view that is read as a list. It is [`Fields::framed`] of a strict

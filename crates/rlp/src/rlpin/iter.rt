@@ -1,10 +1,8 @@
 //! The items of a view, one by one.
 
-ghost use Rattle.std.specs.Prelude.{◌≡◌, ◌≤◌, ◌^◌, ◌<◌, [], length, true, false, IfSome, IsOk, Some, map};
-ghost use Rattle.std.specs.Iterator.{item_count, UpTo, at_most};
+ghost use Rattle.std.specs.{Prelude.{◌≡◌, ◌≤◌, ◌^◌, ◌<◌, [], length, true, false, IfSome, IsOk, Some, map}, Iterator.{item_count, UpTo, at_most}};
 ghost use Rattle.std.specs.Iterator.SizeHint.{IsWithinCount};
-ghost use Rattle.rlp_reading.specs.Format.Framing.{framing, begins_as_list, split};
-ghost use Rattle.rlp_reading.specs.Views.View.{IsStep, item_views, Remaining};
+ghost use Rattle.rlp_reading.specs.{Format.Framing.{framing, begins_as_list, split}, Views.View.{IsStep, item_views, Remaining}};
 
 use crate::rlpin::rlp::Rlp;
 use rlp_reading::items::{ItemReader, count_items};

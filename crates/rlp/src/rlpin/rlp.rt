@@ -2,13 +2,11 @@
 
 ghost use Rattle.std.specs.Vec.{vec_items};
 ghost use Rattle.std.specs.Prelude.{◌≡◌, ◌≤◌, ◌<◌, ◌^◌, ◌↔◌, ◌⊎◌, ℕ, List, [], length, true, false, IsTrue, IsOk, None, Some, Ok, Err, IfOk, IfErr, IfSome, MatchResult};
-ghost use Rattle.rlp_reading.specs.declared.error.DecoderError.TheVariants.{OutOfMemory};
-ghost use Rattle.rlp_reading.specs.Format.Flat.{IsFlat};
+ghost use Rattle.rlp_reading.specs.{declared.error.DecoderError.TheVariants.OutOfMemory, Format.Flat.IsFlat};
 ghost use Rattle.rlp_reading.specs.Format.Framing.{begins_as_list, items, split, fault, framing, total_len, value, IsCanonicalWithin, after_items, strict_fault, strict_list_fault};
-ghost use Rattle.rlp_reading.specs.Format.TreeFaults.{IsFlatFault};
-ghost use Rattle.rlp_reading.specs.Views.Depth.{depth};
+ghost use Rattle.rlp_reading.specs.{Format.TreeFaults.IsFlatFault, Views.Depth.depth};
 ghost use Rattle.rlp_reading.specs.Views.View.{begins_as_data, begins_as_empty, begins_as_int, data_size, has_nonzero_at, item_at, item_count, item_views, item_with_place, items_fault, list_fault, prototype_of, strict_view_of, view_header, view_of, view_string, view_value, HoldsString, View};
-ghost use Rattle.rlp_codec.specs.Form.{Faults, Gives, list_reading, reading_at};
+ghost use Rattle.rlp_reading.specs.Form.{Faults, Gives, list_reading, reading_at};
 ghost use Rattle.rlp.specs.Left.{HasValueAfter};
 
 use crate::rlpin::decoder::{BasicDecoder, item_string};
@@ -135,10 +133,8 @@ impl<'a> Rlp<'a> {
         ensures { MatchResult result (λ d. view_value self.now ≡ Ok d.now)
             (λ e. view_value self.now ≡ Err e) }
     {
-        match self.payload_info() {
-            Ok(header) => Ok(&self.bytes[header.header_len..header.total()]),
-            Err(fault) => Err(fault),
-        }
+        let header = self.payload_info()?;
+        Ok(&self.bytes[header.header_len..header.total()])
     }
 
     /// The number of items in the list that the view begins with.
@@ -311,7 +307,7 @@ impl<'a> Rlp<'a> {
     /// let list = rlp::Rlp::new(&[0xc2, 0x05, 0x06]);
     /// assert_eq!(rt; list.as_list::<u64>(alloc)?.as_slice(), [5, 6].as_slice());
     /// ```
-    #[tactic(auto, using(rlp_codec::proofs::ListLaws::pushed, rlp_codec::proofs::ListLaws::all_pushed, crate::proofs::Readers::list_told, crate::proofs::Readers::list_faulty))]
+    #[tactic(auto, using(rlp_reading::proofs::ListLaws::pushed, rlp_reading::proofs::ListLaws::all_pushed, crate::proofs::Readers::list_told, crate::proofs::Readers::list_faulty))]
     pub fn as_list<T: Decodable>(&self, alloc: Global) -> Result<Vec<T>, DecoderError>
         ensures value { IfOk result
             (λ values. Gives (list_reading vec_items T.reading) self.now values) }
@@ -522,10 +518,8 @@ impl<'a> Rlp<'a> {
         if !self.strict {
             return Ok(self.items());
         }
-        match whole_framed(self.bytes) {
-            Ok(list) => Ok(list.content),
-            Err(fault) => Err(fault),
-        }
+        let list = whole_framed(self.bytes)?;
+        Ok(list.content)
     }
 
     /// The bytes that begin with the items of the list that the view begins with, and the number of
@@ -567,13 +561,9 @@ impl<'a> Rlp<'a> {
         if !self.is_list() {
             return Err(DecoderError::RlpExpectedToBeList);
         }
-        match whole_framed(self.bytes) {
-            Ok(list) => match try_count_items(list.content) {
-                Ok(count) => Ok((list.content, count)),
-                Err(fault) => Err(fault),
-            },
-            Err(fault) => Err(fault),
-        }
+        let list = whole_framed(self.bytes)?;
+        let count = try_count_items(list.content)?;
+        Ok((list.content, count))
     }
 
     /// Fails if the view can't be read as a list.
@@ -584,10 +574,8 @@ impl<'a> Rlp<'a> {
         if !self.strict {
             return Ok(());
         }
-        match self.strict_items() {
-            Ok(_) => Ok(()),
-            Err(fault) => Err(fault),
-        }
+        self.strict_items()?;
+        Ok(())
     }
 
     /// Fails if the view has no items by number.

@@ -1,8 +1,7 @@
 //! The first item of a view, and the bytes after it.
 
 ghost use Rattle.std.specs.Prelude.{◌≡◌, ◌++◌, Ok, Err, IfOk, IfErr};
-ghost use Rattle.rlp_reading.specs.Views.View.{Holds, view_header};
-ghost use Rattle.rlp_reading.specs.Values.RawItem.{view_frame};
+ghost use Rattle.rlp_reading.specs.{Views.View.{Holds, view_header}, Values.RawItem.view_frame};
 
 use crate::rlpin::rlp::Rlp;
 use rlp_reading::error::DecoderError;
@@ -31,14 +30,10 @@ impl<'a> Rlp<'a> {
         ensures fault { IfErr result (λ e. (view_frame self.now ≡ Err e)
             × (view_header self.now ≡ Err e)) }
     {
-        match first_framed(self.as_raw()) {
-            Ok((framed, rest)) => {
-                if self.is_strict() && !rest.is_empty() {
-                    return Err(DecoderError::RlpIsTooBig);
-                }
-                Ok((Rlp::of_item(&framed, self.is_strict()), rest))
-            }
-            Err(fault) => Err(fault),
+        let (framed, rest) = first_framed(self.as_raw())?;
+        if self.is_strict() && !rest.is_empty() {
+            return Err(DecoderError::RlpIsTooBig);
         }
+        Ok((Rlp::of_item(&framed, self.is_strict()), rest))
     }
 }

@@ -1,11 +1,8 @@
 //! Groups of fields at the end of a struct, one group after another in the same list.
 
-ghost use Rattle.std.specs.Prelude.{◌≡◌, ◌≤◌, ◌^◌, MatchOption};
-ghost use Rattle.std.specs.Vec.{vec_items};
-ghost use Rattle.rlp_codec.specs.Form.{group_fields, one_field, part_fields};
-ghost use Rattle.rlp_codec.specs.Laws.{TakeWidth};
-ghost use Rattle.rlp_codec.proofs.GroupLaws.{groups_possible};
-ghost use Rattle.rlp_codec.proofs.FieldLaws.{end_wide, group_wide, one_wide, part_wide};
+ghost use Rattle.std.specs.{Prelude.{◌≡◌, ◌≤◌, ◌^◌, MatchOption}, Vec.vec_items};
+ghost use Rattle.rlp_reading.specs.{Form.{group_fields, one_field, part_fields}, Laws.TakeWidth};
+ghost use Rattle.rlp_reading.proofs.{GroupLaws.groups_possible, FieldLaws.{end_wide, group_wide, one_wide, part_wide}};
 
 use crate::rlpin::Fields;
 use crate::structs::DecodeFields;
@@ -48,10 +45,10 @@ impl<T: Decodable, Q: FixedFields> FixedFields for (T, Q) {
         (one_wide T.reading) (part_wide (λ x. x.1) Q.reading Q.takes) };
 }
 
-impl<G: FixedFields> DecodeFields for Groups<G> {
+impl<G: FixedFields + Drop> DecodeFields for Groups<G> {
     ghost reading = { group_fields (λ x. vec_items x.0) G.reading };
 
-    #[tactic(auto, using(rlp_codec::proofs::GroupLaws::whole_groups))]
+    #[tactic(auto, using(rlp_reading::proofs::GroupLaws::whole_groups))]
     fn accepts(len: usize) -> bool {
         match G::width() {
             Some(width) => {
@@ -64,7 +61,7 @@ impl<G: FixedFields> DecodeFields for Groups<G> {
         }
     }
 
-    #[tactic(auto, using(rlp_codec::proofs::GroupLaws::take_groups))]
+    #[tactic(auto, using(rlp_reading::proofs::GroupLaws::take_groups))]
     fn decode_fields(alloc: Global, fields: &mut Fields<'_>) -> Result<Groups<G>, DecoderError> {
         let mut groups = Vec::new(alloc);
         if let Some(0) = G::width() {

@@ -1,7 +1,7 @@
 //! Last fields of a struct that may be missing.
 
-ghost use Rattle.rlp_codec.specs.Form.{one_field, optional_fields};
-ghost use Rattle.rlp_codec.proofs.FieldLaws.{one_possible, optional_possible};
+ghost use Rattle.rlp_reading.specs.Form.{one_field, optional_fields};
+ghost use Rattle.rlp_reading.proofs.FieldLaws.{one_possible, optional_possible};
 
 use crate::rlpin::Fields;
 use crate::structs::DecodeFields;

@@ -1,7 +1,7 @@
 //! Structs whose lists begin with the fields of another struct.
 
-ghost use Rattle.rlp_codec.specs.Form.{group_before, part_fields};
-ghost use Rattle.rlp_codec.proofs.FieldLaws.{group_possible, part_possible};
+ghost use Rattle.rlp_reading.specs.Form.{group_before, part_fields};
+ghost use Rattle.rlp_reading.proofs.FieldLaws.{group_possible, part_possible};
 
 use crate::rlpin::Fields;
 use crate::structs::{DecodeFields, FixedFields};
@@ -12,10 +12,10 @@ use std::alloc::Global;
 #[derive(Drop)]
 pub struct Joined<P, Q>(pub P, pub Q);
 
-impl<P: FixedFields, Q: DecodeFields> DecodeFields for Joined<P, Q> {
+impl<P: FixedFields + Drop, Q: DecodeFields> DecodeFields for Joined<P, Q> {
     ghost reading = { group_before (λ x. x.0) P.reading (part_fields (λ x. x.1) Q.reading) };
 
-    #[tactic(auto, using(rlp_codec::proofs::StructLaws::too_wide))]
+    #[tactic(auto, using(rlp_reading::proofs::StructLaws::too_wide))]
     fn accepts(len: usize) -> bool {
         match P::width() {
             Some(width) => width <= len && Q::accepts(len - width),

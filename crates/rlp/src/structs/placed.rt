@@ -1,7 +1,7 @@
 //! Where in its list a struct can't be read.
 
 ghost use Rattle.std.specs.Prelude.{◌≡◌, ◌⊎◌, IfOk, IsOkAnd, IsTrue, OnOk};
-ghost use Rattle.rlp_codec.specs.Form.{IsFound, IsPlaced, in_list, struct_reading};
+ghost use Rattle.rlp_reading.specs.Form.{IsFound, IsPlaced, in_list, struct_reading};
 
 use crate::rlpin::{CountedFields, Rlp};
 use crate::structs::{DecodeFields, FixedFields, Groups, Joined, OptionalField, OptionalGroup};
@@ -54,7 +54,7 @@ impl<T: DecodePlaced, Q: DecodeFieldsPlaced> DecodeFieldsPlaced for (T, Q) {
     }
 }
 
-impl<P: DecodeFieldsPlaced + FixedFields, Q: DecodeFieldsPlaced> DecodeFieldsPlaced
+impl<P: DecodeFieldsPlaced + FixedFields + Drop, Q: DecodeFieldsPlaced> DecodeFieldsPlaced
     for Joined<P, Q> {
     fn put_path(
         alloc: Global,
@@ -94,8 +94,8 @@ impl<S: DecodeFieldsPlaced> DecodeFieldsPlaced for OptionalGroup<S> {
     }
 }
 
-impl<G: DecodeFieldsPlaced + FixedFields> DecodeFieldsPlaced for Groups<G> {
-    #[tactic(auto, using(rlp_codec::proofs::PathLaws::groups_found))]
+impl<G: DecodeFieldsPlaced + FixedFields + Drop> DecodeFieldsPlaced for Groups<G> {
+    #[tactic(auto, using(rlp_reading::proofs::PathLaws::groups_found))]
     fn put_path(
         alloc: Global,
         fields: &mut CountedFields<'_>,

@@ -1,8 +1,7 @@
 //! Types whose values are read.
 
 ghost use Rattle.std.specs.Prelude.{◌≡◌, ◌⊎◌, IfOk, IfErr, IsTrue};
-ghost use Rattle.rlp_reading.specs.declared.error.DecoderError.TheVariants.{OutOfMemory};
-ghost use Rattle.rlp_codec.specs.Form.{Faults, Gives, Reading};
+ghost use Rattle.rlp_reading.specs.{declared.error.DecoderError.TheVariants.OutOfMemory, Form.{Faults, Gives, Reading}};
 
 use crate::rlpin::Rlp;
 use rlp_reading::error::DecoderError;

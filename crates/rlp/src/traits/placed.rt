@@ -2,7 +2,7 @@
 
 ghost use Rattle.std.specs.Prelude.{◌≡◌, ◌⊎◌, IfOk, IfErr, IsSome, IsTrue, OnOk, ◌↔◌, List};
 ghost use Rattle.rlp_reading.specs.declared.error.DecoderError.TheVariants.{OutOfMemory};
-ghost use Rattle.rlp_codec.specs.Form.{Faults, Gives, IsFound, IsPlaced, fault_path, list_reading, within};
+ghost use Rattle.rlp_reading.specs.Form.{Faults, Gives, IsFound, IsPlaced, fault_path, list_reading, within};
 
 use crate::rlpin::{Fields, Rlp};
 use crate::traits::Decodable;
@@ -88,7 +88,7 @@ pub(crate) fn put_item_path<T: DecodePlaced>(
 
 /// Appends the path of the first item that isn't a value of `T`, for a view that is read as a list
 /// of values.
-#[tactic(auto, using(rlp_codec::proofs::PathLaws::items_found))]
+#[tactic(auto, using(rlp_reading::proofs::PathLaws::items_found))]
 pub fn put_list_path<T: DecodePlaced>(
     alloc: Global,
     rlp: &Rlp<'_>,

@@ -1,7 +1,7 @@
 //! Types whose values are read back from their encodings.
 
 ghost use Rattle.std.specs.Prelude.{false};
-ghost use Rattle.rlp_codec.specs.Laws.{GivesOnly, IsLawful, IsReadBack, form_of};
+ghost use Rattle.rlp_reading.specs.Laws.{GivesOnly, IsLawful, IsReadBack, form_of};
 
 use crate::traits::decodable::Decodable;
 use rlp_write::Encodable;

@@ -2,11 +2,8 @@
 //! no value is kept, and no memory is taken.
 
 ghost use Rattle.std.specs.Prelude.{◌≡◌, false, Err, MatchResult, None, Ok, OnOk};
-ghost use Rattle.rlp_reading.specs.Format.Framing.{strict_list_fault};
-ghost use Rattle.rlp_reading.specs.Views.View.{strict_view_of};
-ghost use Rattle.rlp_codec.specs.Form.{fault_of, struct_reading};
-ghost use Rattle.rlp_c.specs.Fields.{numbered, record_result};
-ghost use Rattle.rlp_c.specs.Records.{most_fields};
+ghost use Rattle.rlp_reading.specs.{Format.Framing.strict_list_fault, Views.View.strict_view_of, Form.{fault_of, struct_reading}};
+ghost use Rattle.rlp_c.specs.{Fields.{numbered, record_result}, Records.most_fields};
 
 use super::unkept::{AnyString, EachOf, Joined, Step, StructOf, TestFields, Unkept};
 use rlp::{DecoderError, OptionalGroup, Rlp, Uint, decode_struct};

@@ -2,12 +2,11 @@
 
 ghost use Rattle.std.specs.Prelude.{ℕ, ◌≡◌, ◌≤◌, ◌^◌, ◌⊎◌, ⊤, Err, IfErr, IsOkAnd, IsTrue, List, MatchOption, Ok, OnOk, Option, false};
 ghost use Rattle.rlp_reading.specs.declared.error.DecoderError.TheVariants.{OutOfMemory};
-ghost use Rattle.rlp_codec.specs.Form.{FieldsReading, Reading, fault_of, group_before, held_reading, list_reading, no_fields, one_field, optional_fields, part_fields, struct_reading, take_item};
+ghost use Rattle.rlp_reading.specs.Form.{FieldsReading, Reading, fault_of, group_before, held_reading, list_reading, no_fields, one_field, optional_fields, part_fields, struct_reading, take_item};
+ghost use Rattle.rlp_reading.specs.Laws.{TakePossible, TakeWidth};
 ghost use Rattle.rlp.specs.Codec.{byte_string};
-ghost use Rattle.rlp_c.specs.Fields.{without_value};
-ghost use Rattle.rlp_codec.specs.Laws.{TakePossible, TakeWidth};
-ghost use Rattle.rlp_codec.proofs.FieldLaws.{end_possible, end_wide, group_possible, group_wide, one_wide, optional_possible, part_possible, part_wide};
-ghost use Rattle.rlp_c.specs.Forgotten.{forgotten, forgotten_possible};
+ghost use Rattle.rlp_c.specs.{Fields.without_value, Forgotten.{forgotten, forgotten_possible}};
+ghost use Rattle.rlp_reading.proofs.FieldLaws.{end_possible, end_wide, group_possible, group_wide, one_wide, optional_possible, part_possible, part_wide};
 
 use rlp::{Decodable, DecodeFields, DecoderError, Fields, OptionalGroup, Rlp, decode_struct};
 use std::alloc::Global;
@@ -104,7 +103,7 @@ impl TestFixed for () {
 }
 
 /// Last fields that are read and let go.
-impl<S: DecodeFields> TestFields for OptionalGroup<S> {
+impl<S: DecodeFields + Drop> TestFields for OptionalGroup<S> {
     ghost Value = { Option S };
 
     ghost tested = { optional_fields (λ o. o) S.reading };
@@ -230,7 +229,7 @@ impl<P: TestFixed, Q: TestFields> TestFields for Joined<P, Q> {
 
     ghost tested = { group_before (λ s. s.0) P.tested (part_fields (λ s. s.1) Q.tested) };
 
-    #[tactic(auto, using(rlp_codec::proofs::StructLaws::too_wide))]
+    #[tactic(auto, using(rlp_reading::proofs::StructLaws::too_wide))]
     fn accepts(len: usize) -> bool {
         match P::width() {
             Some(width) => width <= len && Q::accepts(len - width),

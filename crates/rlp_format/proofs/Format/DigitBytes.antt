@@ -1,12 +1,9 @@
 -- Digits of numbers as they are read and written: the number of two parts, and the last bytes of a number, highest first.
 use Rattle.std.proofs.Common.{◌≡◌, ℕ, zero, suc, ◌+◌, ◌*◌, ◌/◌, ◌%◌, ◌^◌, ◌<◌, ◌≤◌, List, [], ◌∷◌, ◌++◌, length, take, drop, length-take, length-drop}
 use Rattle.std.proofs.Common.{take-append-drop, refl, sym, ap, ◌∙◌, arith}
-use Rattle.std.proofs.Math.Nat.{pow-suc, pow-succ', one-le-pow, div-div-eq-div-mul, pow-le-pow_right}
-use Rattle.std.proofs.lemmas.Nat.{div_below, le-div, leading_top}
-use Rattle.std.proofs.lemmas.List.Elements.{All-take}
-use Rattle.std.specs.Int.Digits.{number_from_digits, number_from_digits_after}
-use Rattle.std.proofs.lemmas.Int.Digits.{number_after_append}
-use Rattle.std.specs.Int.{byte_at, bytes_high_first}
+use Rattle.std.proofs.{Math.Nat.{pow-suc, pow-succ', one-le-pow, div-div-eq-div-mul, pow-le-pow_right}, lemmas.Nat.{div_below, le-div, leading_top}}
+use Rattle.std.proofs.{lemmas.List.Elements.All-take, lemmas.Int.Digits.number_after_append}
+use Rattle.std.specs.{Int.Digits.{number_from_digits, number_from_digits_after}, Int.{byte_at, bytes_high_first}}
 use Rattle.std.specs.Int.Count.{count_leading_zeros, leading_of_zero}
 use Rattle.rlp_format.specs.Format.Encoding.{big_endian, AreBytes}
 use Rattle.rlp_format.proofs.Lemmas.Digits.{big_endian_zero, big_endian_digit, big_endian_step, digits_fit, pow-bytes}

@@ -1,14 +1,11 @@
 -- `big_endian` writes a number's digits: they denote the number, begin with no zero, and are the only digits that do both.
 use Rattle.std.proofs.Common.{◌≡◌, ℕ, zero, suc, ◌+◌, ◌*◌, ◌/◌, ◌%◌, ◌^◌, ◌<◌, ◌≤◌, List, [], ◌∷◌, ◌++◌, length, get_or, lt_of_lt_of_le, refl, false}
 use Rattle.std.proofs.Common.{Fits, w8, eqb, ne_eqb, sym, ap, ◌∙◌, arith, append_assoc, length-append, append-nil, zero-add}
-use Rattle.std.specs.Int.Digits.{digits_of, digits_with_fuel, number_from_digits, number_from_digits_after, AllBelowBase}
 use Rattle.std.proofs.lemmas.Int.Digits.{number_lt, number_digits_of, first_digits_of, length-digits_of-le, all_below_base_digits_of, digits_of_step}
-use Rattle.std.proofs.lemmas.Nat.{div-mul-add, mod-mul-add, pow-add}
-use Rattle.std.proofs.Math.Nat.{pow-suc, pow-le-pow_right}
-use Rattle.std.proofs.lemmas.List.Elements.{All-from_get_or, All-from_recursion, recursion_from_All}
-use Rattle.std.proofs.lemmas.Bool.{cond-false}
-use Rattle.rlp_format.specs.Format.Encoding.{big_endian, big_endian_within, AreBytes}
-use Rattle.rlp_format.specs.Values.Value.{FitsBytes}
+use Rattle.std.proofs.{lemmas.Nat.{div-mul-add, mod-mul-add, pow-add}, Math.Nat.{pow-suc, pow-le-pow_right}}
+use Rattle.std.proofs.{lemmas.List.Elements.{All-from_get_or, All-from_recursion, recursion_from_All}, lemmas.Bool.cond-false}
+use Rattle.std.specs.Int.Digits.{digits_of, digits_with_fuel, number_from_digits, number_from_digits_after, AllBelowBase}
+use Rattle.rlp_format.specs.{Format.Encoding.{big_endian, big_endian_within, AreBytes}, Values.Value.FitsBytes}
 
 -- digits by a number of turns, in the words of the standard library
 pub big_endian_within_is : (turns n : ℕ) → big_endian_within turns n ≡ digits_with_fuel 256 turns n

@@ -1,14 +1,11 @@
 -- No encoding begins another.
 use Rattle.std.proofs.Common.{◌≡◌, ℕ, ◌^◌, ◌<◌, ◌≤◌, ◌⊎◌, inl, inr, ⊎_elim, List, [], ◌∷◌, ◌++◌, length, refl, sym, ap, ◌∙◌, arith, true, ltb-true}
-use Rattle.std.proofs.Common.{All, length-append, append_assoc}
-use Rattle.std.proofs.lemmas.Bool.{cases_Bool, cond-true, cond-false}
-use Rattle.std.proofs.lemmas.List.{append_cancel_left}
+use Rattle.std.proofs.{Common.{All, length-append, append_assoc}, lemmas.Bool.{cases_Bool, cond-true, cond-false}, lemmas.List.append_cancel_left}
+use Rattle.std.proofs.lemmas.List.Elements.{recursion_from_All}
 use Rattle.rlp_format.specs.Format.Encoding.{Item, string, list, Items, no_items, item_and, items_from, listed, list_of, written_header, IsBase}
 use Rattle.rlp_format.specs.Format.Encoding.{encoding, join, join_items, string_encoding, is_low_byte, IsSized}
 use Rattle.std.specs.List.{AllByRecursion}
-use Rattle.std.proofs.lemmas.List.Elements.{recursion_from_All}
-use Rattle.rlp_format.proofs.Lemmas.Headers.{shape, written_header_prefix_free}
-use Rattle.rlp_format.proofs.Lemmas.Lists.{same_front, head_same, tail_same}
+use Rattle.rlp_format.proofs.{Lemmas.Headers.{shape, written_header_prefix_free}, Lemmas.Lists.{same_front, head_same, tail_same}}
 
 -- bytes that are one byte below 0x80, or a header and as many bytes as it says
 pub record IsLone (b : List ℕ) : Type 0 where

@@ -2,8 +2,7 @@
 use Rattle.std.proofs.Common.{◌≡◌, ℕ, ◌+◌, ◌^◌, ◌<◌, ◌≤◌, ◌⊎◌, inl, inr, ⊎_elim, List, [], ◌∷◌, ◌++◌, length, refl, sym, ap, ◌∙◌, arith, leb, le-leb}
 use Rattle.std.proofs.lemmas.Bool.{cases_lt, lt-leb, cond-true, cond-false}
 use Rattle.rlp_format.specs.Format.Encoding.{big_endian, written_header, IsBase}
-use Rattle.rlp_format.proofs.Lemmas.Digits.{big_endian_same, big_endian_some, big_endian_length}
-use Rattle.rlp_format.proofs.Lemmas.Lists.{same_front, head_same, tail_same}
+use Rattle.rlp_format.proofs.{Lemmas.Digits.{big_endian_same, big_endian_some, big_endian_length}, Lemmas.Lists.{same_front, head_same, tail_same}}
 
 -- the header of at most 55 bytes
 pub written_header_short : (base n : ℕ) → n ≤ 55 → written_header base n ≡ (base + n) ∷ []

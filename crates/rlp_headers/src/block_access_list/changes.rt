@@ -1,7 +1,6 @@
 //! What a block read and changed of an account.
 
-ghost use Rattle.rlp.specs.Codec.{codec_of};
-ghost use Rattle.rlp.specs.Laws.{form_of};
+ghost use Rattle.rlp.specs.{Codec.codec_of, Laws.form_of};
 ghost use Rattle.rlp_headers.specs.Changes.{account_changes, change, change_form, slot_changes};
 
 use rlp::{

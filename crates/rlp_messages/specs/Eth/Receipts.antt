@@ -1,8 +1,7 @@
 -- How answers with receipts are written and read.
 use Rattle.std.specs.Vec.{vec_items}
 use Rattle.rlp.specs.Codec.{Codec, list_type}
-use Rattle.rlp_messages.specs.declared.eth.receipts.BlockReceipts.{BlockReceipts}
-use Rattle.rlp_messages.specs.declared.eth.receipts.Receipts.{Receipts}
+use Rattle.rlp_messages.specs.{declared.eth.receipts.BlockReceipts.BlockReceipts, declared.eth.receipts.Receipts.Receipts}
 use Rattle.rlp_headers.specs.TypedReceipt.{any_receipt}
 
 -- the list of the receipts of a block

@@ -1,11 +1,9 @@
 -- How answers with receipts are written and read since eth/69.
 use Rattle.std.specs.Vec.{vec_items}
 use Rattle.rlp.specs.Codec.{Codec, Fields, end, field, list_type, number, struct_of}
-use Rattle.rlp_messages.specs.declared.eth.receipts69.BlockReceipts69.{BlockReceipts69}
-use Rattle.rlp_messages.specs.declared.eth.receipts69.Receipt69.{Receipt69}
+use Rattle.rlp_messages.specs.{declared.eth.receipts69.BlockReceipts69.BlockReceipts69, declared.eth.receipts69.Receipt69.Receipt69}
 use Rattle.rlp_messages.specs.declared.eth.receipts69.Receipts69.{Receipts69}
-use Rattle.rlp_headers.specs.Log.{log}
-use Rattle.rlp_headers.specs.ReceiptStatus.{receipt_status}
+use Rattle.rlp_headers.specs.{Log.log, ReceiptStatus.receipt_status}
 
 -- [tx-type, post-state-or-status, cumulative-gas, logs] of EIP-7642: the fields, in order
 abbrev pub receipt69_fields : Fields Receipt69

@@ -1,18 +1,15 @@
 -- How requests and their answers are written and read.
 use Rattle.std.specs.Vec.{vec_items}
 use Rattle.rlp.specs.Codec.{Codec, Fields, end, field, list_type, number, struct_of, truth_value}
-use Rattle.rlp_messages.specs.declared.eth.requests.GetBlockHeaders.{GetBlockHeaders}
-use Rattle.rlp_messages.specs.declared.eth.requests.BlockHeaders.{BlockHeaders}
-use Rattle.rlp_messages.specs.declared.eth.requests.GetBlockBodies.{GetBlockBodies}
-use Rattle.rlp_messages.specs.declared.eth.requests.BlockBodies.{BlockBodies}
+use Rattle.rlp_messages.specs.{declared.eth.requests.GetBlockHeaders.GetBlockHeaders, declared.eth.requests.BlockHeaders.BlockHeaders}
+use Rattle.rlp_messages.specs.{declared.eth.requests.GetBlockBodies.GetBlockBodies, declared.eth.requests.BlockBodies.BlockBodies}
 use Rattle.rlp_messages.specs.declared.eth.requests.GetPooledTransactions.{GetPooledTransactions}
-use Rattle.rlp_messages.specs.declared.eth.requests.PooledTransactions.{PooledTransactions}
-use Rattle.rlp_messages.specs.declared.eth.requests.GetReceipts.{GetReceipts}
+use Rattle.rlp_messages.specs.{declared.eth.requests.PooledTransactions.PooledTransactions, declared.eth.requests.GetReceipts.GetReceipts}
+use Rattle.rlp_messages.specs.Eth.HashOrNumberLaws.{hash_or_number}
 use Rattle.rlp_blocks.specs.Body.{body}
 use Rattle.rlp_records.specs.Hash.{hash}
 use Rattle.rlp_headers.specs.Header.{header}
 use Rattle.rlp_transactions.specs.PooledTransaction.{pooled_transaction}
-use Rattle.rlp_messages.specs.Eth.HashOrNumber.{hash_or_number}
 
 -- [startblock: {P, B_32}, limit: P, skip: P, reverse: {0, 1}] of GetBlockHeaders
 abbrev pub get_block_headers_fields : Fields GetBlockHeaders

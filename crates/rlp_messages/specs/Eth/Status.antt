@@ -1,8 +1,6 @@
 -- How messages that say what a client knows are written and read.
 use Rattle.rlp.specs.Codec.{Codec, Fields, byte_array, end, field, newtype, number, struct_of, uint}
-use Rattle.rlp_messages.specs.declared.eth.status.ForkHash.{ForkHash}
-use Rattle.rlp_messages.specs.declared.eth.status.ForkId.{ForkId}
-use Rattle.rlp_messages.specs.declared.eth.status.Status68.{Status68}
+use Rattle.rlp_messages.specs.{declared.eth.status.ForkHash.ForkHash, declared.eth.status.ForkId.ForkId, declared.eth.status.Status68.Status68}
 use Rattle.rlp_messages.specs.declared.eth.status.Status69.{Status69}
 use Rattle.rlp_records.specs.Hash.{hash}
 

@@ -1,6 +1,5 @@
 -- How messages with the number of a request are written and read.
-use Rattle.rlp.specs.Codec.{Codec, Fields, end, field, number, struct_of}
-use Rattle.rlp.specs.Form.{Reading, group_before, no_fields, one_field, struct_reading}
+use Rattle.rlp.specs.{Codec.{Codec, Fields, end, field, number, struct_of}, Form.{Reading, group_before, no_fields, one_field, struct_reading}}
 use Rattle.rlp_messages.specs.declared.eth.with_request_id.WithRequestId.{WithRequestId}
 
 -- EIP-2481: [request-id: P, content]

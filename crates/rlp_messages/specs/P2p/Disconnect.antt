@@ -1,10 +1,8 @@
 -- How the end of a connection is written and read.
 use Rattle.std.specs.Prelude.{ℕ, ◌≢◌, ◌<◌, ⊤, ◌⊎◌, refl}
 use Rattle.std.proofs.Common.{inl, inr}
-use Rattle.rlp.specs.Codec.{Codec, Fields, end, field, newtype, number, struct_of}
-use Rattle.rlp.specs.Codec.{list_or_string}
-use Rattle.rlp_messages.specs.declared.p2p.disconnect.Disconnect.{Disconnect}
-use Rattle.rlp_messages.specs.declared.p2p.disconnect.Disconnect.TheVariants.{Bare, Listed}
+use Rattle.rlp.specs.{Codec.{Codec, Fields, end, field, newtype, number, struct_of}, Codec.list_or_string}
+use Rattle.rlp_messages.specs.{declared.p2p.disconnect.Disconnect.Disconnect, declared.p2p.disconnect.Disconnect.TheVariants.{Bare, Listed}}
 use Rattle.rlp_messages.specs.declared.p2p.disconnect.DisconnectReason.{DisconnectReason}
 use Rattle.rlp_messages.specs.declared.p2p.disconnect.DisconnectReason.TheVariants.{AlreadyConnected, ClientQuitting, IncompatibleVersion, NullIdentity, Other, OwnIdentity, PingTimeout, ProtocolBreach, Requested, SubprotocolError, TcpError, TooManyPeers, UnexpectedIdentity, UselessPeer}
 

@@ -1,11 +1,7 @@
 -- How greetings are written and read.
-use Rattle.std.specs.Prelude.{refl}
-use Rattle.std.specs.Vec.{vec_items}
-use Rattle.rlp.specs.Codec.{Codec, Fields, byte_array, byte_string, end, field, groups, list_type, newtype, number, struct_of}
-use Rattle.rlp.specs.Codec.{raw_item}
-use Rattle.rlp_messages.specs.declared.p2p.hello.NodeId.{NodeId}
-use Rattle.rlp_messages.specs.declared.p2p.hello.Capability.{Capability}
-use Rattle.rlp_messages.specs.declared.p2p.hello.FurtherItem.{FurtherItem}
+use Rattle.std.specs.{Prelude.refl, Vec.vec_items}
+use Rattle.rlp.specs.{Codec.{Codec, Fields, byte_array, byte_string, end, field, groups, list_type, newtype, number, struct_of}, Codec.raw_item}
+use Rattle.rlp_messages.specs.{declared.p2p.hello.NodeId.NodeId, declared.p2p.hello.Capability.Capability, declared.p2p.hello.FurtherItem.FurtherItem}
 use Rattle.rlp_messages.specs.declared.p2p.hello.Hello.{Hello}
 
 -- the string of its 64 bytes

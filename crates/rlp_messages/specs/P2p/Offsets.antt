@@ -1,13 +1,7 @@
 -- Which ids the messages of a capability have on a connection.
 use Rattle.std.specs.Prelude.{ℕ, ◌+◌, ◌==◌, ◌&&◌, ◌||◌, not, nat_lt, if◌then◌else◌, Bool, true, List, [], ◌∷◌, map, sum_by, Option, Some, None}
-use Rattle.std.specs.Cmp.Lexicographic.{slice_cmp}
-use Rattle.std.specs.List.{list_all, list_any}
-use Rattle.std.specs.Ordering.{is_lt, nat_cmp}
-use Rattle.std.specs.Str.{bytes_eq}
-use Rattle.std.specs.Vec.{vec_items}
-use Rattle.rlp_messages.specs.declared.p2p.hello.Capability.{Capability}
-use Rattle.rlp_messages.specs.declared.p2p.hello.Hello.{Hello}
-use Rattle.rlp_messages.specs.declared.p2p.offsets.Protocol.{Protocol}
+use Rattle.std.specs.{Cmp.Lexicographic.slice_cmp, List.{list_all, list_any}, Ordering.{is_lt, nat_cmp}, Str.bytes_eq, Vec.vec_items}
+use Rattle.rlp_messages.specs.{declared.p2p.hello.Capability.Capability, declared.p2p.hello.Hello.Hello, declared.p2p.offsets.Protocol.Protocol}
 
 -- a capability in a greeting: its name, and its version
 pub record Named : Type 0 where

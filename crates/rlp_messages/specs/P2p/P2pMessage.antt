@@ -1,16 +1,11 @@
 -- The messages of `p2p`.
 use Rattle.std.specs.Prelude.{◌⊎◌, refl}
 use Rattle.std.proofs.Common.{inl, inr}
-use Rattle.rlp_messages.specs.declared.p2p.disconnect.Disconnect.{Disconnect}
-use Rattle.rlp_messages.specs.declared.p2p.hello.Hello.{Hello}
-use Rattle.rlp_messages.specs.declared.p2p.p2p_message.P2pMessage.{P2pMessage}
-use Rattle.rlp_messages.specs.declared.p2p.p2p_message.P2pMessage.TheVariants as message
-use Rattle.rlp_messages.specs.declared.p2p.session.Ping.{Ping}
-use Rattle.rlp_messages.specs.declared.p2p.session.Pong.{Pong}
-use Rattle.rlp_messages.specs.Message.{Bodies, Table, and_message, last_message}
-use Rattle.rlp_messages.specs.P2p.Disconnect.{disconnect}
-use Rattle.rlp_messages.specs.P2p.Hello.{hello}
+use Rattle.rlp_messages.specs.{declared.p2p.disconnect.Disconnect.Disconnect, declared.p2p.hello.Hello.Hello}
+use Rattle.rlp_messages.specs.{declared.p2p.p2p_message.P2pMessage.P2pMessage, declared.p2p.session.Ping.Ping, declared.p2p.session.Pong.Pong}
+use Rattle.rlp_messages.specs.{Message.{Bodies, Table, and_message, last_message}, P2p.Disconnect.disconnect, P2p.Hello.hello}
 use Rattle.rlp_messages.specs.P2p.Session.{ping, pong}
+use Rattle.rlp_messages.specs.declared.p2p.p2p_message.P2pMessage.TheVariants as message
 
 -- the types of the bodies
 abbrev pub P2pBody : Type 0

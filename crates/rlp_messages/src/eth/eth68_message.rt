@@ -19,7 +19,7 @@ pub const ETH_68: Protocol<'static> = Protocol {
 
 /// A message of `eth/68`. The clients' `Hello` messages give the offset of [`ETH_68`] by
 /// [`Protocol::offset`]: it is 0x10, and more if a shared capability's name comes before `eth`.
-#[derive(Debug, PartialEq, Eq, Drop)]
+#[derive(Debug, Clone, PartialEq, Eq, Drop)]
 pub enum Eth68Message {
     /// 0x00.
     Status(Status68),

@@ -1,6 +1,6 @@
 //! Names of blocks: a hash, or a number.
 
-ghost use Rattle.rlp_messages.specs.Eth.HashOrNumber.{hash_or_number};
+ghost use Rattle.rlp_messages.specs.Eth.HashOrNumberLaws.{hash_or_number};
 
 use rlp::{
     Decodable, DecodePlaced, DecoderError, Encodable, Rlp, RlpStream, RoundTrip, StrictRead,

@@ -218,7 +218,7 @@ impl StrictRead for GetPooledTransactions {
 
 /// The answer to [`GetPooledTransactions`], in message 0x0a of `eth`: the list of the transactions.
 /// One of type 3 has its blobs, as in EIP-4844 or EIP-7594.
-#[derive(Debug, PartialEq, Eq, Drop)]
+#[derive(Debug, Clone, PartialEq, Eq, Drop)]
 pub struct PooledTransactions(pub Vec<PooledTransaction>);
 
 impl Encodable for PooledTransactions {

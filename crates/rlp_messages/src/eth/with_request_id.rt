@@ -1,9 +1,7 @@
 //! Messages with the number of a request.
 
 ghost use Rattle.std.specs.Prelude.{[], ◌∷◌, ⊤};
-ghost use Rattle.rlp.specs.Format.Encoding.{list_of};
-ghost use Rattle.rlp.specs.Values.Value.{FitsBytes, number_item};
-ghost use Rattle.rlp.specs.Codec.{codec_of};
+ghost use Rattle.rlp.specs.{Format.Encoding.list_of, Values.Value.{FitsBytes, number_item}, Codec.codec_of};
 ghost use Rattle.rlp_messages.specs.Eth.WithRequestId.{with_request_id, with_request_id_reading};
 
 use rlp::{

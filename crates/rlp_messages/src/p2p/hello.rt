@@ -93,7 +93,7 @@ impl StrictRead for Capability {
 }
 
 /// An item of a greeting after its five fields.
-#[derive(Debug, PartialEq, Eq, Drop)]
+#[derive(Debug, Clone, PartialEq, Eq, Drop)]
 pub struct FurtherItem {
     /// The item, of any kind.
     pub item: RawItem,
@@ -150,7 +150,7 @@ impl FixedFields for FurtherItem {
 ///
 /// EIP-8 asks a reader to ignore items after the five fields. They are kept, so that the value is
 /// written as the bytes that it was read from. A client that writes a greeting has none.
-#[derive(Debug, PartialEq, Eq, Drop)]
+#[derive(Debug, Clone, PartialEq, Eq, Drop)]
 pub struct Hello {
     /// The version of the capability `p2p`.
     pub protocol_version: u64,

@@ -7,7 +7,7 @@ use rlp::{DecoderError, Encodable, RlpStream};
 use std::alloc::{AllocError, Global};
 
 /// A message of `p2p`. RLPx gives this capability the offset 0.
-#[derive(Debug, PartialEq, Eq, Drop)]
+#[derive(Debug, Clone, PartialEq, Eq, Drop)]
 pub enum P2pMessage {
     /// 0x00.
     Hello(Hello),

@@ -1,13 +1,10 @@
 -- Bytes that follow a framed item don't change what is read from it.
 use Rattle.std.proofs.Common.{◌≡◌, ℕ, ◌<◌, Bool, true, false, List, [], ◌∷◌, ◌++◌, length, take, drop, Result, Ok, Err, refl, sym, ap, ◌∙◌, arith}
-use Rattle.std.proofs.Common.{length-append, length-drop, subst, take-append-drop, ◌≤◌}
-use Rattle.std.proofs.lemmas.List.{take-append-le, drop-append-le}
-use Rattle.rlp_reading.specs.declared.error.DecoderError.{DecoderError}
-use Rattle.rlp_reading.specs.declared.header.PayloadInfo.{PayloadInfo}
+use Rattle.std.proofs.{Common.{length-append, length-drop, subst, take-append-drop, ◌≤◌}, lemmas.List.{take-append-le, drop-append-le}}
+use Rattle.rlp_reading.specs.{declared.error.DecoderError.DecoderError, declared.header.PayloadInfo.PayloadInfo}
 use Rattle.rlp_reading.specs.Format.Framing.{HasHeader, IsFramedItem, framing, total_len, value, begins_as_list, payload, payload_in, items, split}
+use Rattle.rlp_reading.specs.{Views.Text.{text, text_by, framed_text}, Views.Depth.{depth, depth_by, framed_depth}}
 use Rattle.rlp_format.specs.Format.Encoding.{AreBytes}
-use Rattle.rlp_reading.specs.Views.Text.{text, text_by, framed_text}
-use Rattle.rlp_reading.specs.Views.Depth.{depth, depth_by, framed_depth}
 use Rattle.rlp_reading.proofs.Lemmas.Frames.{Frames, frame_item, framing_reads, longer, framing_is, value_is, item_some}
 use Rattle.rlp_reading.proofs.Lemmas.Texts.{text_is, depth_is}
 

@@ -1,9 +1,7 @@
 -- The items of a view, one after another.
 use Rattle.std.proofs.Common.{ℕ, zero, suc, ◌+◌, ◌-◌, ◌<◌, ◌≤◌, ◌≡◌, List, [], ◌∷◌, length, drop, map, Result, Ok, Err, refl, sym, ◌∙◌, ap, arith}
-use Rattle.std.proofs.Common.{length-drop, add-one}
-use Rattle.std.proofs.lemmas.List.{drop_all, drop-map, length-map}
-use Rattle.rlp_reading.specs.declared.error.DecoderError.{DecoderError}
-use Rattle.rlp_reading.specs.Format.Framing.{frame, split, split_within, frame_and_more, items, payload}
+use Rattle.std.proofs.{Common.{length-drop, add-one}, lemmas.List.{drop_all, drop-map, length-map}}
+use Rattle.rlp_reading.specs.{declared.error.DecoderError.DecoderError, Format.Framing.{frame, split, split_within, frame_and_more, items, payload}}
 use Rattle.rlp_reading.specs.Views.View.{View, item_views}
 
 frame_and_more-shorter : (turns : ℕ) (p : List ℕ) (r : Result (List ℕ) DecoderError) → ((q : List ℕ) → length (split_within turns q) ≤ turns)

@@ -1,11 +1,9 @@
 -- Whether a strict view is exactly one list.
 use Rattle.std.proofs.Common.{◌≡◌, ℕ, zero, suc, ◌+◌, ◌<◌, Bool, true, false, List, [], ◌∷◌, ◌++◌, length, drop, refl, sym, ap, ◌∙◌, arith}
-use Rattle.std.proofs.Common.{length-append, ◌==◌, Option, Some, None, Ok, Result, Err, IfOk, MatchResult}
-use Rattle.std.specs.List.{concat}
-use Rattle.std.proofs.lemmas.Bool.Decides.{nat_tests}
+use Rattle.std.proofs.{Common.{length-append, ◌==◌, Option, Some, None, Ok, Result, Err, IfOk, MatchResult}, lemmas.Bool.Decides.nat_tests}
 use Rattle.std.proofs.lemmas.Bool.{cond-true, cond-false}
-use Rattle.rlp_reading.specs.declared.error.DecoderError.{DecoderError}
-use Rattle.rlp_reading.specs.declared.error.DecoderError.TheVariants.{RlpExpectedToBeList}
+use Rattle.std.specs.List.{concat}
+use Rattle.rlp_reading.specs.{declared.error.DecoderError.DecoderError, declared.error.DecoderError.TheVariants.RlpExpectedToBeList}
 use Rattle.rlp_reading.specs.Format.Framing.{fault, value, begins_as_list, items, payload, payload_in, rest, split}
 use Rattle.rlp_reading.specs.Format.Framing.{after_items, fault_of_some, first_fault, strict_fault, strict_list_fault}
 use Rattle.rlp_reading.specs.Views.View.{View, item_count, items_fault, list_fault}

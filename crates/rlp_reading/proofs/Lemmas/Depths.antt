@@ -1,16 +1,12 @@
 -- The depth of the bytes of an item is the item's.
 use Rattle.std.proofs.Common.{◌≡◌, ℕ, suc, max, ◌<◌, true, false, List, [], ◌∷◌, ◌++◌, length, map, fold, refl, sym, ap, ◌∙◌, subst, arith, ⊎_elim}
-use Rattle.std.proofs.Common.{Ok, Err, Result, append-nil}
-use Rattle.std.proofs.lemmas.Bool.{lt-leb}
-use Rattle.rlp_reading.specs.declared.error.DecoderError.{DecoderError}
+use Rattle.std.proofs.{Common.{Ok, Err, Result, append-nil}, lemmas.Bool.lt-leb}
+use Rattle.rlp_reading.specs.{declared.error.DecoderError.DecoderError, Format.Framing.{value, begins_as_list}}
+use Rattle.rlp_reading.specs.Views.Depth.{depth, framed_depth, greatest}
 use Rattle.rlp_format.specs.Format.Encoding.{Item, string, list, Items, no_items, item_and, items_from, listed, list_of, item_depth, items_depth}
 use Rattle.rlp_format.specs.Format.Encoding.{encoding, IsSized, BeginsWith}
-use Rattle.rlp_reading.specs.Format.Framing.{value, begins_as_list}
-use Rattle.rlp_reading.specs.Views.Depth.{depth, framed_depth, greatest}
-use Rattle.rlp_format.proofs.Lemmas.Headers.{shape}
-use Rattle.rlp_format.proofs.Lemmas.Encodings.{AllSized, parts_sized, list_written, items_from-listed, string_cases}
-use Rattle.rlp_reading.proofs.Lemmas.Texts.{depth_is}
-use Rattle.rlp_reading.proofs.Lemmas.Views.{list_shape, items_of_list}
+use Rattle.rlp_format.proofs.{Lemmas.Headers.shape, Lemmas.Encodings.{AllSized, parts_sized, list_written, items_from-listed, string_cases}}
+use Rattle.rlp_reading.proofs.{Lemmas.Texts.depth_is, Lemmas.Views.{list_shape, items_of_list}}
 
 greatest_from : (a : ℕ) (xs : List Item) → fold max a (map item_depth xs) ≡ max a (items_depth (items_from xs))
 greatest_from a [] = omega arith

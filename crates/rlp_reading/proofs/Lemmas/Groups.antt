@@ -1,9 +1,7 @@
 -- Groups of fields: their encodings are read back, and they are read strictly.
-use Rattle.std.proofs.Common.{◌≡◌, ℕ, ◌+◌, ◌*◌, ◌%◌, ◌<◌, List, [], ◌∷◌, ◌++◌, length}
-use Rattle.std.proofs.Common.{sym, ap, ◌∙◌, arith, length-append}
+use Rattle.std.proofs.{Common.{◌≡◌, ℕ, ◌+◌, ◌*◌, ◌%◌, ◌<◌, List, [], ◌∷◌, ◌++◌, length}, Common.{sym, ap, ◌∙◌, arith, length-append}}
 use Rattle.std.proofs.Math.Nat.{mod-eq_of_lt, mul-add-mod_self_right, suc-mul}
-use Rattle.rlp_format.specs.Format.Encoding.{Item}
-use Rattle.rlp_format.specs.Values.Value.{all_items}
+use Rattle.rlp_format.specs.{Format.Encoding.Item, Values.Value.all_items}
 
 -- some groups are a whole number of groups
 pub groups_right : (width n : ℕ) → 0 < width → (n * width) % width ≡ 0

@@ -1,9 +1,7 @@
 -- The value that follows a header that was read.
 use Rattle.std.proofs.Common.{◌≡◌, ℕ, ◌-◌, ◌≤◌, List, length, length-take-le, take, drop, Option, None, Some, Ok, Err, true, sym, ap, ◌∙◌, arith}
-use Rattle.std.proofs.lemmas.List.{length-drop}
-use Rattle.std.proofs.lemmas.Bool.{cond-true}
-use Rattle.rlp_reading.specs.declared.error.DecoderError.{DecoderError}
-use Rattle.rlp_reading.specs.declared.header.PayloadInfo.{PayloadInfo}
+use Rattle.std.proofs.{lemmas.List.length-drop, lemmas.Bool.cond-true}
+use Rattle.rlp_reading.specs.{declared.error.DecoderError.DecoderError, declared.header.PayloadInfo.PayloadInfo}
 use Rattle.rlp_reading.specs.Format.Framing.{framing, map_ok, total_len, value, unless}
 use Rattle.rlp_reading.specs.Views.View.{View, begins_as_data, data_size, frame_fault, value_length, view_header, view_value}
 

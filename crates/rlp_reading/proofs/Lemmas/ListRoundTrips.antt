@@ -1,13 +1,9 @@
 -- Values whose items are lists, and whose encodings are read back.
 use Rattle.std.proofs.Common.{◌≡◌, ◌↔◌, ℕ, ◌^◌, ◌<◌, List, [], ◌∷◌, ◌++◌, length, sym, subst, arith, append-nil, Result}
-use Rattle.std.proofs.Common.{Ok, IsOkAnd, MatchResult, map, length-append}
-use Rattle.std.proofs.lemmas.List.{length-map}
-use Rattle.std.proofs.lemmas.List.{map-append}
-use Rattle.rlp_reading.specs.declared.error.DecoderError.{DecoderError}
-use Rattle.rlp_format.specs.Format.Encoding.{Item, list_of, BeginsWith, encoding, join, IsSized}
-use Rattle.rlp_reading.specs.Views.View.{View, view_of, item_at}
-use Rattle.rlp_reading.specs.Values.ListReading.{GivesAt, FaultsAt}
+use Rattle.std.proofs.{Common.{Ok, IsOkAnd, MatchResult, map, length-append}, lemmas.List.length-map, lemmas.List.map-append}
+use Rattle.rlp_reading.specs.{declared.error.DecoderError.DecoderError, Views.View.{View, view_of, item_at}, Values.ListReading.{GivesAt, FaultsAt}}
 use Rattle.rlp_reading.specs.Values.RoundTrip.{AlwaysReadsBack, ReadsBack}
+use Rattle.rlp_format.specs.Format.Encoding.{Item, list_of, BeginsWith, encoding, join, IsSized}
 use Rattle.rlp_format.proofs.Lemmas.Encodings.{encoding_list, small_payload, front_sized}
 use Rattle.rlp_reading.proofs.Lemmas.Numbered.{item_at-list_item}
 

@@ -1,18 +1,15 @@
 -- The items of a view by number.
 use Rattle.std.proofs.Common.{ℕ, ◌<◌, ◌≤◌, ◌≡◌, ◌⊎◌, inl, inr, ⊎_elim, Bool, true, false, List, [], ◌∷◌, ◌++◌, length, map, take, drop, get_or, Option}
 use Rattle.std.proofs.Common.{Some, None, option_map, Result, Ok, Err, ◌↔◌, refl, sym, ◌∙◌, ap, arith, ltb, lt-ltb, le-ltb}
+use Rattle.std.proofs.{lemmas.Bool.{cases_Bool, cases_lt, cond-true, cond-false}, lemmas.List.length-map}
+use Rattle.std.proofs.{lemmas.Option.{slice_get-map, slice_get_past, slice_get-get_or}, lemmas.Simd.map-map}
 use Rattle.std.specs.List.{slice_get}
-use Rattle.std.proofs.lemmas.Bool.{cases_Bool, cases_lt, cond-true, cond-false}
-use Rattle.std.proofs.lemmas.List.{length-map}
-use Rattle.std.proofs.lemmas.Option.{slice_get-map, slice_get_past, slice_get-get_or}
-use Rattle.std.proofs.lemmas.Simd.{map-map}
-use Rattle.rlp_reading.specs.declared.error.DecoderError.{DecoderError}
-use Rattle.rlp_reading.specs.declared.error.DecoderError.TheVariants.{RlpExpectedToBeList}
+use Rattle.rlp_reading.specs.{declared.error.DecoderError.DecoderError, declared.error.DecoderError.TheVariants.RlpExpectedToBeList}
 use Rattle.rlp_reading.specs.declared.header.PayloadInfo.{PayloadInfo}
-use Rattle.rlp_format.specs.Format.Encoding.{Item, list_of, BeginsWith, encoding, IsSized}
 use Rattle.rlp_reading.specs.Format.Framing.{fault, framing, map_ok, value, begins_as_list, items, payload, payload_in, rest, split}
 use Rattle.rlp_reading.specs.Views.View.{View, view_of, item_views, item_count, item_with_place, item_by, item_at, list_fault, items_fault}
 use Rattle.rlp_reading.specs.Format.Framing.{fault_of_some, first_fault, strict_fault, strict_list_fault, unless}
+use Rattle.rlp_format.specs.Format.Encoding.{Item, list_of, BeginsWith, encoding, IsSized}
 use Rattle.rlp_reading.proofs.Lemmas.Views.{items_of_list, list_shape}
 
 -- ---- a view whose items are asked for by number is a framed list

@@ -1,16 +1,12 @@
 -- A view that begins with the digits of a number gives the number.
 use Rattle.std.proofs.Common.{◌≡◌, ◌≢◌, pos_of_ne-zero, get_or, ℕ, zero, suc, ◌≤◌, List, [], ◌∷◌, ◌++◌, length, take, replicate, Fits, w8, refl, sym}
-use Rattle.std.proofs.Common.{ap, subst, ◌^◌, arith, IsTrue, ◌<◌, ◌+◌}
-use Rattle.std.proofs.lemmas.List.Elements.{All-from_recursion}
+use Rattle.std.proofs.{Common.{ap, subst, ◌^◌, arith, IsTrue, ◌<◌, ◌+◌}, lemmas.List.Elements.All-from_recursion}
 use Rattle.std.specs.Int.Digits.{number_from_digits}
-use Rattle.rlp_format.specs.Format.Encoding.{big_endian, AreBytes}
-use Rattle.rlp_format.specs.Values.Value.{FitsBytes}
+use Rattle.rlp_format.specs.{Format.Encoding.{big_endian, AreBytes}, Values.Value.FitsBytes}
 use Rattle.rlp_reading.specs.declared.error.DecoderError.TheVariants.{RlpInvalidIndirection}
-use Rattle.rlp_reading.specs.Values.ValueReading.{IsDigitsFault, too_long, leading_zero, GivesNumber}
-use Rattle.rlp_reading.specs.Views.View.{View, HoldsString}
+use Rattle.rlp_reading.specs.{Values.ValueReading.{IsDigitsFault, too_long, leading_zero, GivesNumber}, Views.View.{View, HoldsString}}
 use Rattle.rlp_reading.proofs.Lemmas.StringsHeld.{low_held}
-use Rattle.rlp_format.proofs.Lemmas.Digits.{bytes_held}
-use Rattle.rlp_format.proofs.Lemmas.Digits.{digits_fit, digits_again}
+use Rattle.rlp_format.proofs.{Lemmas.Digits.bytes_held, Lemmas.Digits.{digits_fit, digits_again}}
 
 -- at most n bytes that don't begin with a zero are the digits of a number that fits
 pub leading_is_value : (width : ℕ) (digits : List ℕ) → ((i : ℕ) → Fits w8 (get_or digits i 0)) → length digits ≤ width → get_or digits 0 0 ≢ 0

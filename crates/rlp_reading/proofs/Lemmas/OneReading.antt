@@ -1,9 +1,6 @@
 -- Bytes give one value of a type that is read from one string, or have one fault.
-use Rattle.std.proofs.Common.{ℕ, ◌^◌, ◌<◌, ◌≤◌, List, [], ◌∷◌, ◌++◌, length}
-use Rattle.std.proofs.Common.{arith}
-use Rattle.std.proofs.lemmas.Int.Digits.{length-digits_of-le}
-use Rattle.rlp_format.specs.Format.Encoding.{big_endian}
-use Rattle.rlp_format.specs.Values.Value.{FitsBytes}
+use Rattle.std.proofs.{Common.{ℕ, ◌^◌, ◌<◌, ◌≤◌, List, [], ◌∷◌, ◌++◌, length}, Common.arith, lemmas.Int.Digits.length-digits_of-le}
+use Rattle.rlp_format.specs.{Format.Encoding.big_endian, Values.Value.FitsBytes}
 use Rattle.rlp_format.proofs.Lemmas.Digits.{big_endian_is, pow-bytes}
 use Rattle.rlp_reading.proofs.Lemmas.Reading.{Bytes}
 

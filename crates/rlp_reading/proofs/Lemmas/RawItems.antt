@@ -1,21 +1,16 @@
 -- A raw item stands for the item that its bytes encode.
 use Rattle.std.proofs.Common.{◌≡◌, ◌≤◌, ◌<◌, ◌^◌, ℕ, zero, suc, Bool, true, false, List, [], ◌∷◌, ◌++◌, length, map, refl, sym, ap, ◌∙◌, subst, arith}
 use Rattle.std.proofs.Common.{append-nil, Result, Ok, Err, leb-true}
-use Rattle.rlp_reading.specs.declared.error.DecoderError.{DecoderError}
-use Rattle.rlp_reading.specs.declared.error.DecoderError.TheVariants.{RlpExpectedToBeData}
-use Rattle.rlp_format.specs.Format.Encoding.{Item, Items, is_list, string, list, no_items, item_and, items_from, listed, list_of, item_depth, items_depth}
-use Rattle.rlp_format.specs.Format.Encoding.{BeginsWith, encoding, IsSized}
+use Rattle.rlp_reading.specs.{declared.error.DecoderError.DecoderError, declared.error.DecoderError.TheVariants.RlpExpectedToBeData}
 use Rattle.rlp_reading.specs.Format.Framing.{frame, begins_as_list, items, IsCanonicalWithin, unless, read_string}
 use Rattle.rlp_reading.specs.Views.View.{View, Holds, HoldsItem, strict_view_of, view_string}
 use Rattle.rlp_reading.specs.Values.RawItem.{IsRawItem, deepest_raw_item, item_by, item_within}
 use Rattle.rlp_reading.specs.Values.RawItem.{raw_item_of, string_or_none, view_frame}
+use Rattle.rlp_format.specs.Format.Encoding.{Item, Items, is_list, string, list, no_items, item_and, items_from, listed, list_of, item_depth, items_depth}
+use Rattle.rlp_format.specs.Format.Encoding.{BeginsWith, encoding, IsSized}
 use Rattle.rlp_format.proofs.Lemmas.Encodings.{AllSized, front_sized, items_from-listed, list_written, parts_sized}
-use Rattle.rlp_reading.proofs.Lemmas.Frames.{encoding_framed}
-use Rattle.rlp_reading.proofs.Lemmas.Strings.{string_list, string_only}
-use Rattle.rlp_reading.proofs.Lemmas.Views.{items_of_list, list_shape}
-use Rattle.rlp_reading.proofs.Lemmas.Depths.{not_list}
-use Rattle.rlp_reading.proofs.Lemmas.StringsHeld.{held_begins, held_read}
-use Rattle.rlp_reading.proofs.Lemmas.WholeItems.{strict_fault-encoding}
+use Rattle.rlp_reading.proofs.{Lemmas.Frames.encoding_framed, Lemmas.Strings.{string_list, string_only}, Lemmas.Views.{items_of_list, list_shape}}
+use Rattle.rlp_reading.proofs.{Lemmas.Depths.not_list, Lemmas.StringsHeld.{held_begins, held_read}, Lemmas.WholeItems.strict_fault-encoding}
 
 -- a list isn't read as a string
 list_unread : (b : List ℕ) → begins_as_list b ≡ true → (e : DecoderError) × (read_string b ≡ Err e)

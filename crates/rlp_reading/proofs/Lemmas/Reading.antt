@@ -2,20 +2,15 @@
 use Rattle.std.proofs.Common.{◌≡◌, ℕ, zero, suc, ◌+◌, ◌-◌, ◌^◌, ◌<◌, ◌≤◌, inl, inr, ⊎_elim, List, [], ◌∷◌, ◌++◌, length, take, get_or, refl, sym, ap}
 use Rattle.std.proofs.Common.{◌∙◌, subst, arith, Ok, Err, Result, false, ◌==◌, leb, ltb, ne_eqb, le-ltb, take_at, length-append}
 use Rattle.std.proofs.Common.{MatchResult, ◌≢◌, length-take-le, lt_of_lt_of_le, take-append-drop, drop, ltb-true, ltb-false, eqb-true, leb-false}
-use Rattle.std.proofs.lemmas.Bool.Decides.{nat_tests}
-use Rattle.std.proofs.lemmas.Bool.{cases_lt, cond_both, eqb-false, cond-false, lt-leb}
-use Rattle.std.specs.List.{AllByRecursion}
-use Rattle.std.proofs.Math.Nat.{pow-le-pow_right}
-use Rattle.std.proofs.lemmas.List.Elements.{recursion_from_All}
-use Rattle.std.proofs.lemmas.Int.Digits.{number_lt}
-use Rattle.std.specs.Int.Digits.{number_from_digits}
+use Rattle.std.proofs.{lemmas.Bool.Decides.nat_tests, lemmas.Bool.{cases_lt, cond_both, eqb-false, cond-false, lt-leb}, Math.Nat.pow-le-pow_right}
+use Rattle.std.proofs.{lemmas.List.Elements.recursion_from_All, lemmas.Int.Digits.number_lt}
+use Rattle.std.specs.{List.AllByRecursion, Int.Digits.number_from_digits}
 -- what a slice of `u8` holds, passed on
 pub use Rattle.rlp_format.proofs.Lemmas.Digits.{bytes_held}
-use Rattle.rlp_reading.specs.declared.error.DecoderError.{DecoderError}
-use Rattle.rlp_reading.specs.declared.header.PayloadInfo.{PayloadInfo}
+use Rattle.rlp_reading.specs.{declared.error.DecoderError.DecoderError, declared.header.PayloadInfo.PayloadInfo}
 use Rattle.rlp_reading.specs.declared.error.DecoderError.TheVariants.{RlpIsTooShort, RlpDataLenWithZeroPrefix, RlpListLenWithZeroPrefix, RlpInvalidIndirection}
-use Rattle.rlp_format.specs.Format.Encoding.{big_endian, written_header, IsBase, AreBytes}
 use Rattle.rlp_reading.specs.Format.Framing.{HasHeader, lone, written, header, long_header, header_fault, HasNoHeader, announced, ReadsHeader, payload_info}
+use Rattle.rlp_format.specs.Format.Encoding.{big_endian, written_header, IsBase, AreBytes}
 use Rattle.rlp_format.proofs.Lemmas.Digits.{big_endian_value, big_endian_first, big_endian_again}
 use Rattle.rlp_format.proofs.Lemmas.Headers.{shape, Parts, written_header_short, written_header_long}
 

@@ -1,14 +1,11 @@
 -- Lists of values of a type that is read strictly are read strictly.
 use Rattle.std.proofs.Common.{◌≡◌, ℕ, ◌^◌, ◌<◌, List, [], ◌∷◌, ◌++◌, length, subst, ap, arith, append_assoc, length-append}
-use Rattle.std.specs.List.{AllByRecursion, concat}
 use Rattle.std.proofs.lemmas.List.Elements.{All-from_recursion, recursion_from_All}
+use Rattle.std.specs.List.{AllByRecursion, concat}
 use Rattle.rlp_format.specs.Format.Encoding.{AreBytes}
 use Rattle.rlp_reading.specs.Format.Framing.{items, payload, rest}
-use Rattle.rlp_reading.proofs.Lemmas.OneReading.{front_bytes, back_bytes}
-use Rattle.rlp_reading.proofs.Lemmas.Reading.{Bytes}
-use Rattle.rlp_reading.proofs.Lemmas.Slices.{payload_short}
-use Rattle.rlp_reading.proofs.Lemmas.Views.{payload_bytes}
-use Rattle.rlp_reading.proofs.Lemmas.WholeLists.{payload_parts}
+use Rattle.rlp_reading.proofs.{Lemmas.OneReading.{front_bytes, back_bytes}, Lemmas.Reading.Bytes, Lemmas.Slices.payload_short}
+use Rattle.rlp_reading.proofs.{Lemmas.Views.payload_bytes, Lemmas.WholeLists.payload_parts}
 
 -- bytes that a slice can hold
 pub record IsPart (f : List ℕ) : Type 0 where

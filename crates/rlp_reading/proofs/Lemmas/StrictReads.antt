@@ -1,9 +1,6 @@
 -- Values that are read strictly.
-use Rattle.std.proofs.Common.{◌≡◌, ℕ, ⊎_elim, true, List, length, sym, refl, ◌∙◌}
-use Rattle.std.proofs.Common.{None, Ok, Err}
-use Rattle.std.proofs.lemmas.Bool.{cond-true}
-use Rattle.rlp_reading.specs.Format.Framing.{begins_as_list, items, strict_list_fault}
-use Rattle.rlp_reading.specs.Views.View.{View, item_count, items_fault, strict_view_of}
+use Rattle.std.proofs.{Common.{◌≡◌, ℕ, ⊎_elim, true, List, length, sym, refl, ◌∙◌}, Common.{None, Ok, Err}, lemmas.Bool.cond-true}
+use Rattle.rlp_reading.specs.{Format.Framing.{begins_as_list, items, strict_list_fault}, Views.View.{View, item_count, items_fault, strict_view_of}}
 use Rattle.rlp_reading.proofs.Lemmas.Numbered.{item_count-fault, item_count-told, fault_cases, told_begins}
 
 -- ---- types that are read from one string

@@ -2,20 +2,16 @@
 use Rattle.std.proofs.Common.{◌≡◌, ℕ, suc, ◌+◌, ◌-◌, ◌^◌, ◌<◌, ◌≤◌, inl, inr, ⊎_elim, Bool, true, false, if◌then◌else◌, slice_index, ◌==◌, ltb, leb}
 use Rattle.std.proofs.Common.{List, [], ◌∷◌, ◌++◌, length, take, drop, get_or, refl, sym, ap, ◌∙◌, subst, arith, Ok, Err, Result, MatchResult, ne_eqb}
 use Rattle.std.proofs.Common.{le-ltb, lt-ltb, ltb-false, leb-false, take_at, drop_at, length-append, length-take-le, append_assoc, take-append-drop}
-use Rattle.std.proofs.Common.{pos_of_ne-zero}
-use Rattle.std.specs.Bool.{⊤}
-use Rattle.std.specs.Int.Digits.{number_from_digits}
-use Rattle.std.proofs.lemmas.Bool.{cases_Bool, cases_lt, cond_both, cond-true, cond-false, lt-leb, eqb-false}
-use Rattle.std.proofs.lemmas.Bool.Decides.{nat_tests}
-use Rattle.std.proofs.lemmas.List.Elements.{recursion_from_All}
+use Rattle.std.proofs.{Common.pos_of_ne-zero, lemmas.Bool.{cases_Bool, cases_lt, cond_both, cond-true, cond-false, lt-leb, eqb-false}}
+use Rattle.std.proofs.{lemmas.Bool.Decides.nat_tests, lemmas.List.Elements.recursion_from_All}
+use Rattle.std.specs.{Bool.⊤, Int.Digits.number_from_digits}
 use Rattle.rlp_reading.specs.declared.error.DecoderError.{DecoderError}
 use Rattle.rlp_reading.specs.declared.error.DecoderError.TheVariants.{RlpIsTooShort, RlpExpectedToBeData, RlpInvalidIndirection}
 use Rattle.rlp_reading.specs.declared.error.DecoderError.TheVariants.{RlpInconsistentLengthAndData, RlpInvalidLength}
-use Rattle.rlp_format.specs.Format.Encoding.{string, written_header, AreBytes, encoding, string_encoding, is_low_byte}
 use Rattle.rlp_reading.specs.Format.Framing.{IsString, ReadsString, short_string, long_value, long_string, read_string, short_string_fault}
 use Rattle.rlp_reading.specs.Format.Framing.{long_value_fault, long_string_fault, string_fault}
-use Rattle.rlp_format.proofs.Lemmas.Digits.{big_endian_first, big_endian_value}
-use Rattle.rlp_format.proofs.Lemmas.Headers.{Parts, shape, written_header_short}
+use Rattle.rlp_format.specs.Format.Encoding.{string, written_header, AreBytes, encoding, string_encoding, is_low_byte}
+use Rattle.rlp_format.proofs.{Lemmas.Digits.{big_endian_first, big_endian_value}, Lemmas.Headers.{Parts, shape, written_header_short}}
 use Rattle.rlp_format.proofs.Lemmas.Encodings.{low_byte, small_payload, front_sized}
 use Rattle.rlp_reading.proofs.Lemmas.Reading.{Bytes, long_whole}
 

@@ -2,15 +2,12 @@
 use Rattle.std.proofs.Common.{◌≡◌, ℕ, zero, suc, ◌^◌, ◌<◌, ◌≤◌, ◌+◌, ◌-◌, ⊎_elim, Bool, true, false, IsTrue, if◌then◌else◌, ltb, List, [], ◌∷◌, ◌++◌, length, take, drop, get_or, refl, sym, ap, ◌∙◌, subst}
 use Rattle.std.proofs.Common.{arith, append-nil, length-append, length-take-le, take_all, take-append-drop, le-ltb, lt-ltb, Result, Ok, Err, MatchResult, IfErr}
 use Rattle.std.proofs.lemmas.Bool.{cases_lt, cond-true, cond-false}
-use Rattle.rlp_reading.specs.declared.error.DecoderError.{DecoderError}
-use Rattle.rlp_reading.specs.declared.error.DecoderError.TheVariants.{RlpIsTooBig}
-use Rattle.rlp_format.specs.Format.Encoding.{Item, string, AreBytes, written_header, encoding, is_low_byte, BeginsWith, IsSized}
+use Rattle.rlp_reading.specs.{declared.error.DecoderError.DecoderError, declared.error.DecoderError.TheVariants.RlpIsTooBig}
 use Rattle.rlp_reading.specs.Format.Framing.{HasHeader, IsString, ReadsString, read_string, is_followed, is_longer, whole_string}
 use Rattle.rlp_reading.specs.Views.View.{View, Holds, HoldsItem, HoldsNoString, HoldsString, view_string}
-use Rattle.rlp_format.proofs.Lemmas.Encodings.{front_sized}
-use Rattle.rlp_format.proofs.Lemmas.Headers.{written_header_short}
-use Rattle.rlp_reading.proofs.Lemmas.Frames.{encoding_item, framing_is, longer}
-use Rattle.rlp_reading.proofs.Lemmas.Strings.{string_only, string_reads}
+use Rattle.rlp_format.specs.Format.Encoding.{Item, string, AreBytes, written_header, encoding, is_low_byte, BeginsWith, IsSized}
+use Rattle.rlp_format.proofs.{Lemmas.Encodings.front_sized, Lemmas.Headers.written_header_short}
+use Rattle.rlp_reading.proofs.{Lemmas.Frames.{encoding_item, framing_is, longer}, Lemmas.Strings.{string_only, string_reads}}
 
 begins_by : (strict : Bool) (b s : List ℕ) → Holds strict b s → BeginsWith b s
 begins_by false b s holds = holds

@@ -1,17 +1,12 @@
 -- The text and the depth of bytes, by those of their items.
 use Rattle.std.proofs.Common.{◌≡◌, ℕ, zero, suc, ◌+◌, ◌<◌, ◌≤◌, Bool, true, false, List, [], ◌∷◌, ◌++◌, length, take, drop, map, codes, refl, sym, ap}
 use Rattle.std.proofs.Common.{◌∙◌, arith, Ok, Err, Result, length-take, length-drop, leb-true, ltb-true, ltb, ◌==◌, leb, MatchResult, le-add_right}
-use Rattle.std.proofs.Common.{le_refl}
-use Rattle.std.specs.Bool.{⊤}
-use Rattle.std.specs.List.{AllByRecursion}
-use Rattle.std.specs.Int.Digits.{number_from_digits}
-use Rattle.std.proofs.lemmas.Bool.{cond_both}
-use Rattle.rlp_reading.specs.declared.error.DecoderError.{DecoderError}
-use Rattle.rlp_reading.specs.declared.header.PayloadInfo.{PayloadInfo}
+use Rattle.std.proofs.{Common.le_refl, lemmas.Bool.cond_both}
+use Rattle.std.specs.{Bool.⊤, List.AllByRecursion, Int.Digits.number_from_digits}
+use Rattle.rlp_reading.specs.{declared.error.DecoderError.DecoderError, declared.header.PayloadInfo.PayloadInfo}
 use Rattle.rlp_reading.specs.Format.Framing.{header, long_header, payload_info, framing, framing_in, frame, value, map_ok, total_len}
 use Rattle.rlp_reading.specs.Format.Framing.{split, split_within, frame_and_more, begins_as_list, payload, payload_in, items}
-use Rattle.rlp_reading.specs.Views.ByItems.{by_items_within, by_items}
-use Rattle.rlp_reading.specs.Views.Text.{text, text_by, framed_text, separated}
+use Rattle.rlp_reading.specs.{Views.ByItems.{by_items_within, by_items}, Views.Text.{text, text_by, framed_text, separated}}
 use Rattle.rlp_reading.specs.Views.Depth.{depth, depth_by, framed_depth, greatest}
 
 -- each of the lists has at most n elements

@@ -1,6 +1,5 @@
 -- Values that fit and have equal items agree.
-use Rattle.std.proofs.Common.{ℕ, ◌^◌, ◌<◌, ⊎_elim, List, length}
-use Rattle.std.proofs.Common.{ap, arith}
+use Rattle.std.proofs.{Common.{ℕ, ◌^◌, ◌<◌, ⊎_elim, List, length}, Common.{ap, arith}}
 use Rattle.rlp_format.specs.Format.Encoding.{string, IsSized, encoding}
 use Rattle.rlp_format.proofs.Lemmas.Encodings.{string_cases}
 

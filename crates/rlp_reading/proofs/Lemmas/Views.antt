@@ -1,15 +1,12 @@
 -- A view of the encoding of a list.
 use Rattle.std.proofs.Common.{◌≡◌, ℕ, zero, suc, ◌+◌, ◌^◌, ◌<◌, ◌≤◌, Bool, true, false, List, [], ◌∷◌, ◌++◌, length, take, drop, map, refl, sym, ap}
 use Rattle.std.proofs.Common.{◌∙◌, subst, arith, Ok, Err, Result, le-leb, length-append, append_assoc, take_at, drop_at, inr, get_or, le_refl}
-use Rattle.std.proofs.lemmas.List.{drop_all}
+use Rattle.std.proofs.{lemmas.List.drop_all, lemmas.List.Elements.{All-nil, All-take, All-drop}}
 use Rattle.std.specs.List.{concat}
 use Rattle.rlp_format.specs.Format.Encoding.{Item, list_of, written_header, AreBytes, encoding, join, IsSized, BeginsWith}
 use Rattle.rlp_reading.specs.Format.Framing.{written, IsFramed, framing, map_ok, value, split, split_within, begins_as_list, payload, payload_in, items, rest}
-use Rattle.rlp_reading.specs.declared.error.DecoderError.{DecoderError}
-use Rattle.rlp_reading.specs.declared.header.PayloadInfo.{PayloadInfo}
-use Rattle.std.proofs.lemmas.List.Elements.{All-nil, All-take, All-drop}
-use Rattle.rlp_format.proofs.Lemmas.Encodings.{encoding_list, small_payload}
-use Rattle.rlp_format.proofs.Lemmas.Headers.{shape}
+use Rattle.rlp_reading.specs.{declared.error.DecoderError.DecoderError, declared.header.PayloadInfo.PayloadInfo}
+use Rattle.rlp_format.proofs.{Lemmas.Encodings.{encoding_list, small_payload}, Lemmas.Headers.shape}
 use Rattle.rlp_reading.proofs.Lemmas.Frames.{walk, value_is, split_join, join_is}
 
 list_first : (n : ℕ) (more : List ℕ) → n < 2 ^ 64 → begins_as_list (written_header 0xc0 n ++ more) ≡ true

@@ -4,8 +4,7 @@ use Rattle.std.proofs.Common.{◌∙◌, subst, arith, ltb, leb-true, le-ltb, ap
 use Rattle.std.proofs.lemmas.Bool.{cond-false, lt-leb}
 use Rattle.rlp_format.specs.Format.Encoding.{Item, list_of, written_header, encoding, join, IsSized}
 use Rattle.rlp_reading.specs.Format.Framing.{HasHeader, lone, written, value, begins_as_list, payload, payload_in, strict_fault, strict_fault_in}
-use Rattle.rlp_format.proofs.Lemmas.Headers.{shape}
-use Rattle.rlp_format.proofs.Lemmas.Encodings.{encoding_list}
+use Rattle.rlp_format.proofs.{Lemmas.Headers.shape, Lemmas.Encodings.encoding_list}
 use Rattle.rlp_reading.proofs.Lemmas.Frames.{encoding_item, framing_is, value_is}
 
 -- b is the header of a list and a payload of the announced length

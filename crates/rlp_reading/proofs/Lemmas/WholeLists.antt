@@ -1,22 +1,17 @@
 -- Bytes that are exactly one list.
 use Rattle.std.proofs.Common.{◌≡◌, ℕ, ◌^◌, ◌<◌, ◌≤◌, ⊎_elim, true, List, [], ◌∷◌, ◌++◌, length, map, drop, refl, sym, ap}
-use Rattle.std.proofs.Common.{◌∙◌, subst, arith, ltb, lt-ltb, le_refl, append-nil, drop_at, Option, Some}
-use Rattle.std.proofs.Common.{None, Result, Ok, Err}
+use Rattle.std.proofs.{Common.{◌∙◌, subst, arith, ltb, lt-ltb, le_refl, append-nil, drop_at, Option, Some}, Common.{None, Result, Ok, Err}}
+use Rattle.std.proofs.{lemmas.Bool.{cases_Bool, cases_lt, cond-true, cond-false}, lemmas.List.length-map}
 use Rattle.std.specs.List.{concat, slice_get}
-use Rattle.std.proofs.lemmas.Bool.{cases_Bool, cases_lt, cond-true, cond-false}
-use Rattle.std.proofs.lemmas.List.{length-map}
-use Rattle.rlp_reading.specs.declared.error.DecoderError.{DecoderError}
-use Rattle.rlp_reading.specs.declared.error.DecoderError.TheVariants.{RlpExpectedToBeList, RlpIsTooBig}
+use Rattle.rlp_reading.specs.{declared.error.DecoderError.DecoderError, declared.error.DecoderError.TheVariants.{RlpExpectedToBeList, RlpIsTooBig}}
 use Rattle.rlp_reading.specs.declared.header.PayloadInfo.{PayloadInfo}
-use Rattle.rlp_format.specs.Format.Encoding.{Item, list_of, AreBytes, encoding, join, IsSized}
 use Rattle.rlp_reading.specs.Format.Framing.{framing, total_len, begins_as_list, items, payload, rest, split, split_within}
 use Rattle.rlp_reading.specs.Format.Framing.{fault_of_some, first_fault, strict_fault, strict_fault_in, strict_list_fault}
 use Rattle.rlp_reading.specs.Views.View.{item_at, item_count, items_fault, strict_view_of}
+use Rattle.rlp_format.specs.Format.Encoding.{Item, list_of, AreBytes, encoding, join, IsSized}
 use Rattle.rlp_format.proofs.Lemmas.Encodings.{front_sized}
-use Rattle.rlp_reading.proofs.Lemmas.Frames.{Frames, framing_reads, join_is, walk}
-use Rattle.rlp_reading.proofs.Lemmas.Views.{items_of_list, list_shape, payload_bytes}
-use Rattle.rlp_reading.proofs.Lemmas.WholeItems.{strict_fault-encoding, whole_by}
-use Rattle.rlp_reading.proofs.Lemmas.Numbered.{item_count-told, slice_get-item_at}
+use Rattle.rlp_reading.proofs.{Lemmas.Frames.{Frames, framing_reads, join_is, walk}, Lemmas.Views.{items_of_list, list_shape, payload_bytes}}
+use Rattle.rlp_reading.proofs.{Lemmas.WholeItems.{strict_fault-encoding, whole_by}, Lemmas.Numbered.{item_count-told, slice_get-item_at}}
 
 -- ---- a list without a strict fault is read whole
 

@@ -3,13 +3,11 @@ use Rattle.std.proofs.Common.{◌≡◌, ℕ, suc, max, ◌-◌, ◌^◌, ◌<�
 use Rattle.std.proofs.Common.{subst, arith, append-nil, length-append, IsTrue, Some, None}
 use Rattle.std.specs.List.{concat}
 use Rattle.rlp_reading.specs.declared.error.DecoderError.{DecoderError}
-use Rattle.rlp_format.specs.Format.Encoding.{Item, Items, string, list, items_from, listed, list_of, item_depth, items_depth, encoding, join, IsSized}
 use Rattle.rlp_reading.specs.Format.Framing.{begins_as_list, items, payload, split, IsCanonicalWithin, strict_fault}
+use Rattle.rlp_format.specs.Format.Encoding.{Item, Items, string, list, items_from, listed, list_of, item_depth, items_depth, encoding, join, IsSized}
 use Rattle.rlp_format.proofs.Lemmas.Encodings.{front_sized, items_from-listed}
-use Rattle.rlp_reading.proofs.Lemmas.Frames.{join_is}
-use Rattle.rlp_reading.proofs.Lemmas.Views.{items_of_list, list_shape, payload_of_list}
-use Rattle.rlp_reading.proofs.Lemmas.WholeItems.{strict_fault-encoding}
-use Rattle.rlp_reading.proofs.Lemmas.Depths.{not_list}
+use Rattle.rlp_reading.proofs.{Lemmas.Frames.join_is, Lemmas.Views.{items_of_list, list_shape, payload_of_list}}
+use Rattle.rlp_reading.proofs.{Lemmas.WholeItems.strict_fault-encoding, Lemmas.Depths.not_list}
 
 sized_whole : (x : Item) (b : List ℕ) → length b < 2 ^ 64 → b ≡ encoding x → IsSized x
 sized_whole x b fits is = front_sized x b [] fits (is ∙ sym (append-nil (encoding x)))

@@ -1,14 +1,11 @@
 -- The first fault of a walk, step by step.
 use Rattle.std.proofs.Common.{◌≡◌, ◌≢◌, ℕ, zero, suc, ◌-◌, ◌<◌, true, false, List, [], ◌∷◌, ◌++◌, length, map, refl, ap, ◌∙◌, arith, Option, Some, None}
 use Rattle.std.proofs.lemmas.Bool.{cond-true, cond-false}
-use Rattle.rlp_reading.specs.declared.error.DecoderError.{DecoderError}
-use Rattle.rlp_reading.specs.declared.error.DecoderError.TheVariants.{RlpInvalidIndirection}
+use Rattle.rlp_reading.specs.{declared.error.DecoderError.DecoderError, declared.error.DecoderError.TheVariants.RlpInvalidIndirection}
 use Rattle.rlp_reading.specs.Format.Framing.{fault, begins_as_list, payload, split, after_items, fault_of_some, strict_fault}
-use Rattle.rlp_reading.proofs.Format.Splits.{split-nil}
-use Rattle.rlp_reading.proofs.Format.StrictLists.{after_items-next, after_items-nil, after_items-none, fault_of_some-some}
-use Rattle.rlp_reading.specs.declared.flat.TreeFault.{TreeFault}
-use Rattle.rlp_reading.specs.declared.flat.TreeFault.TheVariants.{Decoding, TooDeep}
+use Rattle.rlp_reading.specs.{declared.flat.TreeFault.TreeFault, declared.flat.TreeFault.TheVariants.{Decoding, TooDeep}}
 use Rattle.rlp_reading.specs.Format.TreeFaults.{first_in, first_of, is_needless, payload_fault, needless_fault, tree_fault, walk_fault}
+use Rattle.rlp_reading.proofs.{Format.Splits.split-nil, Format.StrictLists.{after_items-next, after_items-nil, after_items-none, fault_of_some-some}}
 
 -- ---- one item
 

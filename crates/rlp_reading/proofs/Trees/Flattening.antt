@@ -1,11 +1,7 @@
 -- The flat form of a tree, by two walks.
 use Rattle.std.proofs.Common.{◌≡◌, ℕ, ◌+◌, ◌^◌, ◌<◌, List, [], ◌++◌, length, take, sym, ap, ◌∙◌, subst, arith, take_all, take_at, Result, Ok, Err, Some, None, IfErr, MatchResult}
-use Rattle.rlp_reading.specs.declared.flat.FlatItem.{FlatItem}
-use Rattle.rlp_reading.specs.declared.flat.TreeFault.{TreeFault}
-use Rattle.rlp_reading.specs.Format.Flat.{IsFlat, flat}
-use Rattle.rlp_reading.specs.Format.Framing.{strict_fault}
-use Rattle.rlp_reading.specs.Format.TreeFaults.{tree_fault, walk_fault}
-use Rattle.rlp_reading.specs.Format.Walk.{IsWalked}
+use Rattle.rlp_reading.specs.{declared.flat.FlatItem.FlatItem, declared.flat.TreeFault.TreeFault, Format.Flat.{IsFlat, flat}}
+use Rattle.rlp_reading.specs.{Format.Framing.strict_fault, Format.TreeFaults.{tree_fault, walk_fault}, Format.Walk.IsWalked}
 use Rattle.rlp_format.proofs.Lemmas.Encodings.{encoding_same}
 use Rattle.rlp_reading.proofs.Trees.Faults.{tree_fault-inside}
 

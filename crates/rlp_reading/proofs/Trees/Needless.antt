@@ -1,22 +1,15 @@
 -- Strings with and without a needless header.
 use Rattle.std.proofs.Common.{◌≡◌, ◌≢◌, ℕ, Bool, ◌+◌, ◌^◌, ◌<◌, ◌≤◌, inl, inr, ⊎_elim, true, false, List, [], ◌∷◌, ◌++◌, length, take, drop, refl, sym, ap, ◌∙◌}
 use Rattle.std.proofs.Common.{◌==◌, ltb, subst, arith, Ok, None, Result, append-nil, take_at, drop_at, length-append, le-leb, lt-ltb, pos_of_ne-zero}
-use Rattle.std.proofs.lemmas.Bool.{and_parts, cases_Bool, cond-false, cond-true, eqb-true, lt-leb, ltb-true}
-use Rattle.std.proofs.lemmas.List.{nil_from_length}
-use Rattle.rlp_reading.specs.declared.error.DecoderError.{DecoderError}
-use Rattle.rlp_reading.specs.declared.header.PayloadInfo.{PayloadInfo}
-use Rattle.rlp_format.specs.Format.Encoding.{AreBytes, string, written_header, encoding, is_low_byte}
+use Rattle.std.proofs.{lemmas.Bool.{and_parts, cases_Bool, cond-false, cond-true, eqb-true, lt-leb, ltb-true}, lemmas.List.nil_from_length}
+use Rattle.rlp_reading.specs.{declared.error.DecoderError.DecoderError, declared.header.PayloadInfo.PayloadInfo}
 use Rattle.rlp_reading.specs.Format.Framing.{HasHeader, header, lone, written, payload_info, IsFramedItem, framing, value, begins_as_list, strict_fault, IsCanonicalWithin}
-use Rattle.rlp_format.proofs.Lemmas.Encodings.{low_byte}
-use Rattle.rlp_format.proofs.Lemmas.Headers.{Parts, shape, written_header_short}
-use Rattle.rlp_reading.proofs.Lemmas.Frames.{framing_is, value_is}
-use Rattle.rlp_reading.proofs.Lemmas.Reading.{read}
-use Rattle.rlp_reading.specs.Views.View.{View, Holds, HoldsString, view_string}
-use Rattle.rlp_reading.proofs.Lemmas.StringsHeld.{held_only}
+use Rattle.rlp_reading.specs.{Views.View.{View, Holds, HoldsString, view_string}, Format.TreeFaults.is_needless}
+use Rattle.rlp_format.specs.Format.Encoding.{AreBytes, string, written_header, encoding, is_low_byte}
+use Rattle.rlp_format.proofs.{Lemmas.Encodings.low_byte, Lemmas.Headers.{Parts, shape, written_header_short}}
+use Rattle.rlp_reading.proofs.{Lemmas.Frames.{framing_is, value_is}, Lemmas.Reading.read, Lemmas.StringsHeld.held_only}
+use Rattle.rlp_reading.proofs.{Trees.Canonical.{not_true, refuted, string_canonical}, Trees.Placed.{Ok_same, string_placed}}
 use Rattle.rlp_reading.proofs.Views.ViewKinds as view_kinds
-use Rattle.rlp_reading.proofs.Trees.Canonical.{not_true, refuted, string_canonical}
-use Rattle.rlp_reading.specs.Format.TreeFaults.{is_needless}
-use Rattle.rlp_reading.proofs.Trees.Placed.{Ok_same, string_placed}
 
 -- a byte that is its own encoding, behind a header
 abbrev pub IsNeedless : List ℕ → PayloadInfo → Type 0

@@ -1,9 +1,8 @@
 -- Where the string that bytes begin with is.
 use Rattle.std.proofs.Common.{◌≡◌, ℕ, ◌+◌, ◌^◌, ◌<◌, ◌≤◌, List, ◌++◌, length, take, drop, refl, sym, ap, ◌∙◌, ⊎_elim, Ok, Result, append_assoc, take_at, drop_at, length-append, arith}
-use Rattle.rlp_reading.specs.declared.error.DecoderError.{DecoderError}
-use Rattle.rlp_reading.specs.declared.header.PayloadInfo.{PayloadInfo}
-use Rattle.rlp_format.specs.Format.Encoding.{string, encoding, written_header}
+use Rattle.rlp_reading.specs.{declared.error.DecoderError.DecoderError, declared.header.PayloadInfo.PayloadInfo}
 use Rattle.rlp_reading.specs.Format.Framing.{lone, written, header, payload_info, IsString}
+use Rattle.rlp_format.specs.Format.Encoding.{string, encoding, written_header}
 use Rattle.rlp_format.proofs.Lemmas.Encodings.{IsLone, IsWritten, front_sized, string_cases}
 use Rattle.rlp_reading.proofs.Lemmas.Reading.{read}
 

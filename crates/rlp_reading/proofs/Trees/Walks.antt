@@ -1,23 +1,16 @@
 -- The walk over the items of a list.
 use Rattle.std.proofs.Common.{◌≡◌, ◌≢◌, ℕ, ◌+◌, ◌-◌, ◌<◌, ◌≤◌, suc, true, false, List, [], ◌∷◌, ◌++◌, length, map, drop, refl, sym, ap, ◌∙◌}
 use Rattle.std.proofs.Common.{subst, arith, Result, Ok, Err, Some, None, MatchResult, append-nil, append_assoc, length-append, length-take-le, length-drop, pos_of_ne-zero}
-use Rattle.rlp_reading.specs.declared.error.DecoderError.{DecoderError}
-use Rattle.rlp_reading.specs.declared.header.PayloadInfo.{PayloadInfo}
-use Rattle.rlp_format.specs.Format.Encoding.{Item, string, items_from, list_of, item_depth, items_depth, encoding, join, join_items}
+use Rattle.rlp_reading.specs.{declared.error.DecoderError.DecoderError, declared.header.PayloadInfo.PayloadInfo}
 use Rattle.rlp_reading.specs.Format.Framing.{fault, value, begins_as_list, items, payload, split, IsCanonicalWithin}
-use Rattle.rlp_format.proofs.Lemmas.Encodings.{join_items_is}
-use Rattle.rlp_reading.proofs.Format.StrictLists.{value-payload}
-use Rattle.rlp_reading.proofs.Lemmas.WholeItems.{whole_by}
-use Rattle.rlp_reading.proofs.Trees.Canonical.{split_items}
-use Rattle.rlp_reading.specs.declared.flat.FlatItem.{FlatItem}
-use Rattle.rlp_reading.specs.declared.flat.TreeFault.{TreeFault}
-use Rattle.rlp_reading.specs.declared.flat.TreeFault.TheVariants.{Decoding}
+use Rattle.rlp_reading.specs.{declared.flat.FlatItem.FlatItem, declared.flat.TreeFault.TreeFault, declared.flat.TreeFault.TheVariants.Decoding}
 use Rattle.rlp_reading.specs.Format.Flat.{flat_item, flat_rows, flat_rows_inside, header_length}
-use Rattle.rlp_reading.specs.Format.TreeFaults.{payload_fault, needless_fault, walk_fault}
-use Rattle.rlp_reading.specs.Format.Walk.{Extends, IsNeverCanonical, IsWalked}
+use Rattle.rlp_reading.specs.{Format.TreeFaults.{payload_fault, needless_fault, walk_fault}, Format.Walk.{Extends, IsNeverCanonical, IsWalked}}
+use Rattle.rlp_format.specs.Format.Encoding.{Item, string, items_from, list_of, item_depth, items_depth, encoding, join, join_items}
+use Rattle.rlp_format.proofs.Lemmas.Encodings.{join_items_is}
+use Rattle.rlp_reading.proofs.{Format.StrictLists.value-payload, Lemmas.WholeItems.whole_by, Trees.Canonical.split_items}
 use Rattle.rlp_reading.proofs.Trees.Faults.{payload_fault-item, payload_fault-next, payload_fault-none, payload_fault-stray, walk_fault-list, walk_fault-string}
-use Rattle.rlp_reading.proofs.Trees.Needless.{IsNeedless, IsWhole, string_whole}
-use Rattle.rlp_reading.proofs.Trees.Rows.{extends_both}
+use Rattle.rlp_reading.proofs.{Trees.Needless.{IsNeedless, IsWhole, string_whole}, Trees.Rows.extends_both}
 
 -- a string with its row
 pub walked_string : {R : Type 0} (row_of : FlatItem → R)

@@ -1,6 +1,5 @@
 -- What decoding returns for the encoding of a value.
-use Rattle.std.proofs.Common.{◌≡◌, ℕ, ◌^◌, ◌<◌, List, length, map, ◌∙◌}
-use Rattle.std.proofs.lemmas.Simd.{map-map}
+use Rattle.std.proofs.{Common.{◌≡◌, ℕ, ◌^◌, ◌<◌, List, length, map, ◌∙◌}, lemmas.Simd.map-map}
 use Rattle.rlp_format.specs.Format.Encoding.{Item, list_of, BeginsWith, encoding}
 use Rattle.rlp_reading.specs.Format.Framing.{items}
 use Rattle.rlp_format.proofs.Lemmas.Encodings.{front_sized}

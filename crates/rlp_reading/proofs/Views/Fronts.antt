@@ -1,18 +1,13 @@
 -- The first item of bytes, by the header that was read.
 use Rattle.std.proofs.Common.{◌≡◌, ℕ, ◌-◌, ◌<◌, ◌≤◌, true, false, not, ◌==◌, ltb, lt-ltb, le-ltb, List, [], ◌∷◌, ◌++◌, length, length-append}
-use Rattle.std.proofs.Common.{length-take-le, take, drop, Some, None, Ok, Err, sym, ap, ◌∙◌, subst, arith}
-use Rattle.std.proofs.lemmas.Bool.{cond-true, cond-false}
-use Rattle.std.proofs.lemmas.Bool.Decides.{nat_tests}
-use Rattle.std.proofs.lemmas.List.{take_rest, drop-take}
-use Rattle.rlp_reading.specs.declared.error.DecoderError.{DecoderError}
-use Rattle.rlp_reading.specs.declared.header.PayloadInfo.{PayloadInfo}
+use Rattle.std.proofs.{Common.{length-take-le, take, drop, Some, None, Ok, Err, sym, ap, ◌∙◌, subst, arith}, lemmas.Bool.{cond-true, cond-false}}
+use Rattle.std.proofs.{lemmas.Bool.Decides.nat_tests, lemmas.List.{take_rest, drop-take}}
+use Rattle.rlp_reading.specs.{declared.error.DecoderError.DecoderError, declared.header.PayloadInfo.PayloadInfo}
 use Rattle.rlp_reading.specs.Format.Framing.{HasHeader, IsFramedItem, frame, framing, map_ok, total_len, value}
-use Rattle.rlp_format.specs.Format.Encoding.{AreBytes}
 use Rattle.rlp_reading.specs.declared.error.DecoderError.TheVariants.{RlpIsTooBig}
 use Rattle.rlp_reading.specs.Format.Framing.{is_followed, is_longer, strict_fault, strict_fault_in}
-use Rattle.rlp_reading.proofs.Lemmas.Frames.{frame_item}
-use Rattle.rlp_reading.proofs.Format.Following.{value-front}
-use Rattle.rlp_reading.proofs.Format.StrictLists.{no_bytes, some_bytes}
+use Rattle.rlp_format.specs.Format.Encoding.{AreBytes}
+use Rattle.rlp_reading.proofs.{Lemmas.Frames.frame_item, Format.Following.value-front, Format.StrictLists.{no_bytes, some_bytes}}
 
 -- the bytes of the item
 pub front_frame : (b item : List ℕ) (p : PayloadInfo) → framing b ≡ Ok p → item ≡ take (total_len p) b → frame b ≡ Ok item

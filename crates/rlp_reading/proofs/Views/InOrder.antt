@@ -1,14 +1,10 @@
 -- The items of a view, taken one after another.
 use Rattle.std.proofs.Common.{◌≡◌, ℕ, true, List, [], Ok, Err, None, sym, ap, ◌∙◌, arith}
-use Rattle.rlp_reading.specs.declared.error.DecoderError.{DecoderError}
-use Rattle.rlp_reading.specs.declared.header.PayloadInfo.{PayloadInfo}
+use Rattle.rlp_reading.specs.{declared.error.DecoderError.DecoderError, declared.header.PayloadInfo.PayloadInfo}
 use Rattle.rlp_reading.specs.Format.Framing.{fault, framing, value, items, payload, rest, split, after_items}
-use Rattle.rlp_reading.specs.Views.View.{View, item_count, items_fault}
-use Rattle.rlp_reading.specs.Values.FieldPlace.{IsAtPlace}
+use Rattle.rlp_reading.specs.{Views.View.{View, item_count, items_fault}, Values.FieldPlace.IsAtPlace}
 use Rattle.rlp_reading.proofs.Lemmas.Numbered.{Numbered, item_at-past, item_at-unframed, item_count-fault, item_there, no_item}
-use Rattle.rlp_reading.proofs.Lemmas.Numbered.{not_told, numbered, payload-fault, told_begins}
-use Rattle.rlp_reading.proofs.Views.ItemPlaces.{fault-err}
-use Rattle.rlp_reading.proofs.Format.Splits.{split-nil}
+use Rattle.rlp_reading.proofs.{Lemmas.Numbered.{not_told, numbered, payload-fault, told_begins}, Views.ItemPlaces.fault-err, Format.Splits.split-nil}
 use Rattle.rlp_reading.proofs.Format.StrictLists.{after_items-none, rest-after, value-items, value-payload}
 
 -- at the beginning of a framed list

@@ -1,15 +1,11 @@
 -- The places of the items of a list, found by going over them.
 use Rattle.std.proofs.Common.{ℕ, zero, suc, ◌+◌, ◌-◌, ◌<◌, ◌≤◌, ◌≡◌, false, List, [], ◌∷◌, ◌++◌, length, take, drop, get_or, Some, None, Ok}
 use Rattle.std.proofs.Common.{Err, refl, sym, ◌∙◌, ap, arith, append_assoc, append-nil, length-append, length-drop, add-one, ltb}
-use Rattle.std.proofs.Common.{lt-ltb, le-ltb, drop_at}
-use Rattle.std.proofs.lemmas.Bool.{cond-true, cond-false}
+use Rattle.std.proofs.{Common.{lt-ltb, le-ltb, drop_at}, lemmas.Bool.{cond-true, cond-false}}
 use Rattle.std.specs.List.{concat}
-use Rattle.rlp_reading.specs.declared.error.DecoderError.{DecoderError}
-use Rattle.rlp_reading.specs.declared.header.PayloadInfo.{PayloadInfo}
-use Rattle.rlp_reading.specs.Format.Framing.{fault, fault_in, framing, items, payload, rest, split}
-use Rattle.rlp_reading.specs.Views.View.{View, item_with_place, items_fault}
-use Rattle.rlp_reading.proofs.Lemmas.Numbered.{item_with_place-fault, item_with_place-told}
-use Rattle.rlp_reading.proofs.Format.Splits.{drop-next, drop-inside}
+use Rattle.rlp_reading.specs.{declared.error.DecoderError.DecoderError, declared.header.PayloadInfo.PayloadInfo}
+use Rattle.rlp_reading.specs.{Format.Framing.{fault, fault_in, framing, items, payload, rest, split}, Views.View.{View, item_with_place, items_fault}}
+use Rattle.rlp_reading.proofs.{Lemmas.Numbered.{item_with_place-fault, item_with_place-told}, Format.Splits.{drop-next, drop-inside}}
 
 -- the fault of bytes without any of the headers
 pub fault-err : (b : List ℕ) (e : DecoderError) → framing b ≡ Err e → e ≡ fault b

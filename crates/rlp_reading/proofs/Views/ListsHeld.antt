@@ -1,20 +1,16 @@
 -- The items by number of a view, lenient or strict, and of one that holds the encoding of a list.
 use Rattle.std.proofs.Common.{◌≡◌, ℕ, ◌^◌, ◌<◌, ◌≤◌, Bool, true, false, IsTrue, List, [], ◌∷◌, ◌++◌, length, map, refl, sym, ap, ◌∙◌, subst, arith, length-append, Some, None, Result, Ok, Err}
+use Rattle.std.proofs.{lemmas.Bool.cond-true, lemmas.List.length-map, lemmas.Simd.map-map}
 use Rattle.std.specs.List.{slice_get}
-use Rattle.std.proofs.lemmas.Bool.{cond-true}
-use Rattle.std.proofs.lemmas.List.{length-map}
-use Rattle.std.proofs.lemmas.Simd.{map-map}
-use Rattle.rlp_reading.specs.declared.error.DecoderError.{DecoderError}
-use Rattle.rlp_reading.specs.declared.error.DecoderError.TheVariants.{RlpExpectedToBeList, RlpIsTooShort}
+use Rattle.rlp_reading.specs.{declared.error.DecoderError.DecoderError, declared.error.DecoderError.TheVariants.{RlpExpectedToBeList, RlpIsTooShort}}
 use Rattle.rlp_reading.specs.declared.header.PayloadInfo.{PayloadInfo}
-use Rattle.rlp_format.specs.Format.Encoding.{Item, list_of, BeginsWith, IsSized, encoding}
 use Rattle.rlp_reading.specs.Format.Framing.{HasHeader, header, payload_info, fault, framing, begins_as_list, strict_fault, strict_fault_in}
 use Rattle.rlp_reading.specs.Views.View.{Holds, HoldsItem, View, item_at, item_count, item_views, items_fault, list_fault}
+use Rattle.rlp_format.specs.Format.Encoding.{Item, list_of, BeginsWith, IsSized, encoding}
 use Rattle.rlp_format.proofs.Lemmas.Encodings.{front_sized}
 use Rattle.rlp_reading.proofs.Lemmas.Frames.{encoding_item, framing_is, longer}
 use Rattle.rlp_reading.proofs.Lemmas.Numbered.{item_at-in_order, item_at-past, item_count-told, length-views, slice_get-middle}
-use Rattle.rlp_reading.proofs.Lemmas.StringsHeld.{held_begins}
-use Rattle.rlp_reading.proofs.Lemmas.Views.{items_of_list, list_shape}
+use Rattle.rlp_reading.proofs.{Lemmas.StringsHeld.held_begins, Lemmas.Views.{items_of_list, list_shape}}
 use Rattle.rlp_reading.proofs.Lemmas.WholeLists.{strict_list_fault-encoding, strict_told, whole_parts}
 
 no_bytes_short : fault [] ≡ RlpIsTooShort

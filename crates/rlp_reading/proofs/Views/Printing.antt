@@ -1,12 +1,11 @@
 -- The text and the depth of bytes of each kind, by their items one after another.
-use Rattle.std.proofs.Common.{◌≡◌, ℕ, suc, ◌-◌, ◌<◌, ◌≤◌, max, true, false, List, [], ◌∷◌, ◌++◌, length, map, fold, codes, refl, sym, ap, ◌∙◌, subst}
-use Rattle.std.proofs.Common.{arith, Ok, Err, Result, append_assoc, append-nil, IsTrue, ◌↔◌}
-use Rattle.std.proofs.lemmas.Bool.{false≢true}
-use Rattle.std.proofs.lemmas.List.{map-append}
+use Rattle.std.proofs.Common.{◌≡◌, ℕ, suc, ◌-◌, ◌<◌, ◌≤◌, max, true, false, List, [], ◌∷◌, ◌++◌, length, take, drop, map, fold, codes, refl, sym, ap, ◌∙◌, subst}
+use Rattle.std.proofs.{Common.{arith, Ok, Err, Result, append_assoc, append-nil, IsTrue, ◌↔◌}, lemmas.Bool.false≢true}
+use Rattle.std.proofs.lemmas.List.{map-append, take-append-drop}
+use Rattle.hex.specs.Hex.{encode_lower}
 use Rattle.rlp_reading.specs.declared.error.DecoderError.{DecoderError}
 use Rattle.rlp_reading.specs.Format.Framing.{framing, value, header, begins_as_list, items, payload, payload_in, split}
-use Rattle.rlp_reading.specs.Views.Text.{error_name, hex, separated, framed_text, text}
-use Rattle.rlp_reading.specs.Views.Depth.{greatest, framed_depth, depth}
+use Rattle.rlp_reading.specs.{Views.Text.{error_name, separated, framed_text, text}, Views.Depth.{greatest, framed_depth, depth}}
 use Rattle.rlp_reading.proofs.Lemmas.Texts.{AllWithinLength, items_short, items_nil, text_is, depth_is}
 
 -- the separator before the next item, after these texts
@@ -67,7 +66,7 @@ pub text-fault : (b : List ℕ) (e : DecoderError) → 0 < length b → value b 
 text-fault b e l is = sym (text-some b l ∙ ap (framed_text text b (begins_as_list b)) is)
 
 -- the text of a string is its digits in quotes
-pub text-string : (b v : List ℕ) → 0 < length b → begins_as_list b ≡ false → value b ≡ Ok v → codes "\"0x" ++ hex v ++ codes "\"" ≡ text b
+pub text-string : (b v : List ℕ) → 0 < length b → begins_as_list b ≡ false → value b ≡ Ok v → codes "\"0x" ++ encode_lower v ++ codes "\"" ≡ text b
 text-string b v l kind is = sym (text-some b l ∙ ap (λ k. framed_text text b k (value b)) kind ∙ ap (framed_text text b false) is)
 
 -- the text of a list is that of its items in brackets
@@ -180,3 +179,11 @@ done-more done all rest item others e s = append_assoc done (item ∷ []) (split
 -- if no item is left, all are done
 pub done-all : (done : List (List ℕ)) (all : List (List ℕ)) (rest : List ℕ) → done ++ split rest ≡ all → split rest ≡ [] → done ≡ all
 done-all done all rest e s = sym (append-nil done) ∙ ap (λ bs. done ++ bs) (sym s) ∙ e
+
+-- ---- bytes in pieces
+
+-- a cut doesn't change the bytes
+pub all-cut : (done rest front after bytes : List ℕ) (n : ℕ) → front ≡ take n rest → after ≡ drop n rest → done ++ rest ≡ bytes
+    → (done ++ front) ++ after ≡ bytes
+all-cut done rest front after bytes n f a e =
+    append_assoc done front after ∙ ap (λ bs. done ++ bs) (rw (f, a) (take-append-drop n rest)) ∙ e

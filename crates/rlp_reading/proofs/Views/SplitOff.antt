@@ -1,11 +1,8 @@
 -- Items one after another, split off bytes one by one.
 use Rattle.std.proofs.Common.{◌≡◌, ◌^◌, ◌<◌, List, [], ◌∷◌, ◌++◌, length, drop, drop_at, Result, Ok, Err, IfOk, IfErr, IsOkAnd, refl, sym, ap, ◌∙◌, ℕ}
-use Rattle.rlp_reading.specs.declared.error.DecoderError.{DecoderError}
-use Rattle.rlp_reading.specs.declared.error.DecoderError.TheVariants.{RlpIsTooShort}
+use Rattle.rlp_reading.specs.{declared.error.DecoderError.DecoderError, declared.error.DecoderError.TheVariants.RlpIsTooShort, Format.Framing.frame}
+use Rattle.rlp_reading.specs.{Views.View.{View, view_header, view_of}, Values.RawItem.view_frame}
 use Rattle.rlp_format.specs.Format.Encoding.{Item, encoding, join}
-use Rattle.rlp_reading.specs.Format.Framing.{frame}
-use Rattle.rlp_reading.specs.Views.View.{View, view_header, view_of}
-use Rattle.rlp_reading.specs.Values.RawItem.{view_frame}
 use Rattle.rlp_format.proofs.Lemmas.Encodings.{front_sized}
 use Rattle.rlp_reading.proofs.Lemmas.Frames.{encoding_framed, frame_nil}
 

@@ -1,13 +1,11 @@
 -- What lenient views return, and the strict fault, by the definitions of the format.
 use Rattle.std.proofs.Common.{◌≡◌, ℕ, ◌+◌, ◌^◌, ◌<◌, ⊎_elim, false, if◌then◌else◌, List, [], length, refl, sym, ap, ◌∙◌, arith, ltb, lt-ltb, le-ltb}
-use Rattle.std.proofs.Common.{append-nil, Some, None, Result, Ok, Err}
-use Rattle.std.proofs.lemmas.Bool.{cases_Bool, cases_lt, cond-true, cond-false}
-use Rattle.rlp_reading.specs.declared.error.DecoderError.{DecoderError}
-use Rattle.rlp_reading.specs.declared.error.DecoderError.TheVariants.{RlpExpectedToBeList, RlpIsTooBig}
+use Rattle.std.proofs.{Common.{append-nil, Some, None, Result, Ok, Err}, lemmas.Bool.{cases_Bool, cases_lt, cond-true, cond-false}}
+use Rattle.rlp_reading.specs.{declared.error.DecoderError.DecoderError, declared.error.DecoderError.TheVariants.{RlpExpectedToBeList, RlpIsTooBig}}
 use Rattle.rlp_reading.specs.declared.header.PayloadInfo.{PayloadInfo}
-use Rattle.rlp_format.specs.Format.Encoding.{AreBytes, encoding}
 use Rattle.rlp_reading.specs.Format.Framing.{HasHeader, IsFramed, IsFramedItem, fault, fault_in, framing, total_len, begins_as_list, items, IsCanonical, strict_fault, strict_fault_in}
 use Rattle.rlp_reading.specs.Views.View.{item_by, item_count, item_with_place, items_fault, view_of}
+use Rattle.rlp_format.specs.Format.Encoding.{AreBytes, encoding}
 use Rattle.rlp_format.proofs.Lemmas.Encodings.{front_sized}
 use Rattle.rlp_reading.proofs.Lemmas.Frames.{Frames, framing_is, framing_reads}
 use Rattle.rlp_reading.proofs.Lemmas.Numbered.{item_count-fault, item_count-told, item_with_place-fault, item_with_place-told, lenient_told}

@@ -1,10 +1,8 @@
 -- The first fault of bytes that should be a tree.
 use Rattle.std.specs.Prelude.{ℕ, ◌≡◌, zero, suc, Bool, false, ◌&&◌, if◌then◌else◌, ◌==◌, nat_lt, List, [], ◌∷◌, map, Option, Some, None}
-use Rattle.rlp_reading.specs.declared.error.DecoderError.{DecoderError}
-use Rattle.rlp_reading.specs.declared.error.DecoderError.TheVariants.{OutOfMemory, RlpInvalidIndirection}
+use Rattle.rlp_reading.specs.{declared.error.DecoderError.DecoderError, declared.error.DecoderError.TheVariants.{OutOfMemory, RlpInvalidIndirection}}
 use Rattle.rlp_reading.specs.Format.Framing.{begins_as_list, payload, split, IsCanonicalWithin, after_items, fault_of_some, strict_fault}
-use Rattle.rlp_reading.specs.declared.flat.TreeFault.{TreeFault}
-use Rattle.rlp_reading.specs.declared.flat.TreeFault.TheVariants.{Decoding, TooDeep}
+use Rattle.rlp_reading.specs.{declared.flat.TreeFault.TreeFault, declared.flat.TreeFault.TheVariants.{Decoding, TooDeep}}
 
 -- a header in front of one byte that is its own encoding
 abbrev pub is_needless : List ℕ → Bool

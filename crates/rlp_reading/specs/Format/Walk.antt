@@ -1,9 +1,7 @@
 -- What the walk over a tree has done.
 use Rattle.std.specs.Prelude.{ℕ, ◌≡◌, ◌+◌, ◌≤◌, List, ◌++◌, length, take, drop}
-use Rattle.rlp_reading.specs.declared.flat.FlatItem.{FlatItem}
+use Rattle.rlp_reading.specs.{declared.flat.FlatItem.FlatItem, Format.Flat.flat_rows, Format.Framing.IsCanonicalWithin}
 use Rattle.rlp_format.specs.Format.Encoding.{Item, item_depth, encoding}
-use Rattle.rlp_reading.specs.Format.Flat.{flat_rows}
-use Rattle.rlp_reading.specs.Format.Framing.{IsCanonicalWithin}
 
 -- The array has the same number of elements, and if there is room for them, the rows follow the first n elements. The elements behind the rows are as they
 -- were.

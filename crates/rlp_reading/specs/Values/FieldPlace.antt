@@ -1,7 +1,6 @@
 -- The place of a reader of fields.
 use Rattle.std.specs.Prelude.{ℕ, ◌≡◌, ◌≤◌, List, None, Err, length, drop}
-use Rattle.rlp_reading.specs.Format.Framing.{fault, items, split, after_items}
-use Rattle.rlp_reading.specs.Views.View.{View, item_at, items_fault}
+use Rattle.rlp_reading.specs.{Format.Framing.{fault, items, split, after_items}, Views.View.{View, item_at, items_fault}}
 
 -- These bytes are left after the first `place` items of a view. Past the last item each number has the fault of what follows the items.
 pub record IsAtPlace (v : View) (place : ℕ) (left : List ℕ) : Type 0 where

@@ -1,7 +1,6 @@
 -- The values that the items of a list give, and the value of an item by its number.
 use Rattle.std.specs.Prelude.{◌≡◌, ◌∷◌, ℕ, List, [], None, MatchResult, IsOkAnd}
-use Rattle.rlp_reading.specs.declared.error.DecoderError.{DecoderError}
-use Rattle.rlp_reading.specs.Views.View.{View, item_at, item_views, list_fault}
+use Rattle.rlp_reading.specs.{declared.error.DecoderError.DecoderError, Views.View.{View, item_at, item_views, list_fault}}
 
 -- there is one value for each view, and each view gives the value in its place
 abbrev pub GivesEach : {A : Type 0} → (View → A → Type 0) → List View → List A → Type 0

@@ -1,9 +1,7 @@
 -- What types promise about reading the encodings of their values.
 use Rattle.std.specs.Prelude.{◌≡◌, ◌↔◌, ◌<◌, ◌^◌, ℕ, List, length}
-use Rattle.rlp_reading.specs.declared.error.DecoderError.{DecoderError}
-use Rattle.rlp_format.specs.Format.Encoding.{Item, AreBytes, BeginsWith, encoding}
-use Rattle.rlp_format.specs.Values.Value.{AreAlike}
-use Rattle.rlp_reading.specs.Views.View.{View, strict_view_of, view_of}
+use Rattle.rlp_reading.specs.{declared.error.DecoderError.DecoderError, Views.View.{View, strict_view_of, view_of}}
+use Rattle.rlp_format.specs.{Format.Encoding.{Item, AreBytes, BeginsWith, encoding}, Values.Value.AreAlike}
 
 -- A view reads a value back: it gives exactly the values that fit and are alike to it, and has no fault.
 pub record ReadsBack {A : Type 0} (Fits : A → Type 0) (item : A → Item) (gives : View → A → Type 0) (faults : View → DecoderError → Type 0)

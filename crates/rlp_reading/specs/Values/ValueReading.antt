@@ -1,11 +1,8 @@
 -- The value that a view gives, and why it gives none: numbers, byte strings and text.
 use Rattle.std.specs.Prelude.{ℕ, ◌≡◌, ◌≤◌, ◌<◌, ◌⊎◌, List, ◌∷◌, length}
-use Rattle.rlp_reading.specs.declared.error.DecoderError.{DecoderError}
-use Rattle.rlp_reading.specs.declared.error.DecoderError.TheVariants.{RlpIsTooBig, RlpInvalidIndirection}
-use Rattle.rlp_format.specs.Format.Encoding.{Item}
-use Rattle.rlp_format.specs.Values.Value.{number_item, FitsBytes, AreAlike}
-use Rattle.rlp_reading.specs.Views.Text.{error_name}
-use Rattle.rlp_reading.specs.Views.View.{View, HoldsItem}
+use Rattle.rlp_reading.specs.{declared.error.DecoderError.DecoderError, declared.error.DecoderError.TheVariants.{RlpIsTooBig, RlpInvalidIndirection}}
+use Rattle.rlp_reading.specs.{Views.Text.error_name, Views.View.{View, HoldsItem}}
+use Rattle.rlp_format.specs.{Format.Encoding.Item, Values.Value.{number_item, FitsBytes, AreAlike}}
 
 -- The view gives the value x: x fits its type, and the view holds its item.
 pub record GivesValue {A : Type 0} (Fits : A → Type 0) (item : A → Item) (v : View) (x : A) : Type 0 where

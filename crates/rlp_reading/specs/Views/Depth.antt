@@ -1,8 +1,6 @@
 -- How deep the lists in bytes nest.
 use Rattle.std.specs.Prelude.{ℕ, suc, max, Bool, true, false, List, map, fold, Result, Ok, Err}
-use Rattle.rlp_reading.specs.declared.error.DecoderError.{DecoderError}
-use Rattle.rlp_reading.specs.Format.Framing.{value, begins_as_list, items}
-use Rattle.rlp_reading.specs.Views.ByItems.{by_items}
+use Rattle.rlp_reading.specs.{declared.error.DecoderError.DecoderError, Format.Framing.{value, begins_as_list, items}, Views.ByItems.by_items}
 
 -- the greatest of the numbers, or 0
 abbrev pub greatest : List ℕ → ℕ

@@ -1,11 +1,11 @@
 -- The text of a view, and of an error.
-use Rattle.std.specs.Prelude.{ℕ, ◌+◌, ◌/◌, ◌%◌, Bool, true, false, if◌then◌else◌, nat_lt, List, [], ◌∷◌, ◌++◌, map, flat_map, codes, Result, Ok, Err}
+use Rattle.std.specs.Prelude.{ℕ, Bool, true, false, List, [], ◌∷◌, ◌++◌, map, codes, Result, Ok, Err}
+use Rattle.hex.specs.Hex.{encode_lower}
 use Rattle.rlp_reading.specs.declared.error.DecoderError.{DecoderError}
 use Rattle.rlp_reading.specs.declared.error.DecoderError.TheVariants.{RlpIsTooBig, RlpIsTooShort, RlpExpectedToBeList, RlpExpectedToBeData}
 use Rattle.rlp_reading.specs.declared.error.DecoderError.TheVariants.{RlpIncorrectListLen, RlpDataLenWithZeroPrefix, RlpListLenWithZeroPrefix}
 use Rattle.rlp_reading.specs.declared.error.DecoderError.TheVariants.{RlpInvalidIndirection, RlpInconsistentLengthAndData, RlpInvalidLength, Custom}
-use Rattle.rlp_reading.specs.declared.error.DecoderError.TheVariants.{OutOfMemory}
-use Rattle.rlp_reading.specs.Format.Framing.{value, begins_as_list, items}
+use Rattle.rlp_reading.specs.{declared.error.DecoderError.TheVariants.OutOfMemory, Format.Framing.{value, begins_as_list, items}}
 use Rattle.rlp_reading.specs.Views.ByItems.{by_items}
 
 -- what an error prints: its name, and for `Custom` also the text
@@ -23,18 +23,6 @@ error_name RlpInvalidLength = codes "RlpInvalidLength"
 error_name (Custom text) = codes "Custom(\"" ++ text.now ++ codes "\")"
 error_name OutOfMemory = codes "OutOfMemory"
 
--- a digit below 16, in lower case
-abbrev pub hex_digit : ℕ → ℕ
-hex_digit d = if nat_lt d 10 then 48 + d else 87 + d
-
--- a byte as two digits
-abbrev pub hex_pair : ℕ → List ℕ
-hex_pair byte = hex_digit (byte / 16) ∷ hex_digit (byte % 16) ∷ []
-
--- bytes as digits, two for each
-abbrev pub hex : List ℕ → List ℕ
-hex bytes = flat_map hex_pair bytes
-
 -- the texts with `, ` between
 abbrev pub separated : List (List ℕ) → List ℕ
 separated [] = []
@@ -45,7 +33,7 @@ separated (t ∷ u ∷ ts) = t ++ codes ", " ++ separated (u ∷ ts)
 -- name.
 abbrev pub framed_text : (List ℕ → List ℕ) → List ℕ → Bool → Result (List ℕ) DecoderError → List ℕ
 framed_text text_of b is_list (Err e) = error_name e
-framed_text text_of b false (Ok v) = codes "\"0x" ++ hex v ++ codes "\""
+framed_text text_of b false (Ok v) = codes "\"0x" ++ encode_lower v ++ codes "\""
 framed_text text_of b true (Ok v) = codes "[" ++ separated (map text_of (items b)) ++ codes "]"
 
 -- the text of b, if text_of gives the texts of its items

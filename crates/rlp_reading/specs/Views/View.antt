@@ -1,16 +1,12 @@
 -- What contracts see of a view, and the results of its methods.
 use Rattle.std.specs.Prelude.{ℕ, ◌≡◌, ◌≤◌, ◌↔◌, ◌+◌, ◌-◌, Bool, IsTrue, IsNone, true, false, Option, Some, None, ◌||◌, ◌==◌, if◌then◌else◌, nat_lt}
-use Rattle.std.specs.Prelude.{nat_le, List, [], ◌∷◌, length, take, map, slice_index_or, Result, Ok, Err}
-use Rattle.std.specs.List.{concat}
-use Rattle.std.specs.Iterator.{YieldsFirst}
-use Rattle.rlp_reading.specs.declared.error.DecoderError.{DecoderError}
-use Rattle.rlp_reading.specs.declared.error.DecoderError.TheVariants.{RlpExpectedToBeList}
-use Rattle.rlp_reading.specs.declared.header.PayloadInfo.{PayloadInfo}
-use Rattle.rlp_reading.specs.declared.prototype.Prototype.{Prototype}
-use Rattle.rlp_reading.specs.declared.prototype.Prototype.TheVariants as prototype
-use Rattle.rlp_format.specs.Format.Encoding.{Item, string, BeginsWith, encoding}
+use Rattle.std.specs.{Prelude.{nat_le, List, [], ◌∷◌, length, take, map, slice_index_or, Result, Ok, Err}, List.concat, Iterator.YieldsFirst}
+use Rattle.rlp_reading.specs.{declared.error.DecoderError.DecoderError, declared.error.DecoderError.TheVariants.RlpExpectedToBeList}
+use Rattle.rlp_reading.specs.{declared.header.PayloadInfo.PayloadInfo, declared.prototype.Prototype.Prototype}
 use Rattle.rlp_reading.specs.Format.Framing.{fault, framing, map_ok, value, begins_as_list, items, rest, read_string}
 use Rattle.rlp_reading.specs.Format.Framing.{strict_fault, strict_list_fault, unless, whole_string}
+use Rattle.rlp_reading.specs.declared.prototype.Prototype.TheVariants as prototype
+use Rattle.rlp_format.specs.Format.Encoding.{Item, string, BeginsWith, encoding}
 
 -- A view has these bytes, and is lenient or strict.
 pub record View : Type 0 where

@@ -1,7 +1,6 @@
 //! What transactions of every type have.
 
-ghost use Rattle.std.specs.Prelude.{◌≡◌};
-ghost use Rattle.std.specs.Option.{option_copied};
+ghost use Rattle.std.specs.{Prelude.◌≡◌, Option.option_copied};
 ghost use Rattle.rlp_transactions.specs.TransactionParts.{access_list_of, account_in, gas_limit_of, gas_price_of, input_of, max_fee_of, max_priority_fee_of, nonce_of, recipient_of, value_of};
 
 use crate::{AccessList, Recipient, Transaction};

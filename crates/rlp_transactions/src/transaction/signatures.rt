@@ -1,11 +1,9 @@
 //! Signatures of transactions of every type.
 
 ghost use Rattle.std.specs.Prelude.{◌≡◌, ◌↔◌, Bool, IfNone, IfOk, IfSome, IsTrue};
-ghost use Rattle.rlp_transactions.specs.declared.unsigned_transaction.UnsignedTransaction.{UnsignedTransaction};
+ghost use Rattle.rlp_transactions.specs.{declared.unsigned_transaction.UnsignedTransaction.UnsignedTransaction, Secp256k1.IsLow};
+ghost use Rattle.rlp_transactions.specs.{Signatures.{HasNoV, IsChainOf, Signs, r_of, s_of}, UnsignedTransaction.unsigned_transaction};
 ghost use Rattle.rlp_records.specs.Alone.{bytes_alone};
-ghost use Rattle.rlp_transactions.specs.Secp256k1.{IsLow};
-ghost use Rattle.rlp_transactions.specs.Signatures.{HasNoV, IsChainOf, Signs, r_of, s_of};
-ghost use Rattle.rlp_transactions.specs.UnsignedTransaction.{unsigned_transaction};
 
 use crate::signed::Tagged;
 use crate::unsigned_legacy_transaction::unsigned_bytes;

@@ -1,6 +1,6 @@
 //! Values that are read from the items of lists.
 
-use crate::rows::check_rows;
+use crate::tables::check_rows;
 use crate::types::all_met;
 use std::test::Fail;
 

@@ -1,7 +1,7 @@
 //! Headers and items of views. None of the calls takes memory.
 
-use crate::rows::{check_row, check_rows};
-use rlp_rows::Line;
+use crate::rows::Line;
+use crate::tables::{check_row, check_rows};
 use std::test::Fail;
 
 /// A list of two numbers and two hashes.

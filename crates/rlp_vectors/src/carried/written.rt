@@ -1,10 +1,10 @@
 //! Values, and the bytes that they are written as.
 
 use crate::compare::is_listed;
-use crate::rows::check_rows;
+use crate::rows::bytes_of;
+use crate::tables::check_rows;
 use crate::written::all_met;
 use rlp::Encodable;
-use rlp_rows::bytes_of;
 use std::alloc::Global;
 use std::test::Fail;
 

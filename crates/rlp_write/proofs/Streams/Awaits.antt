@@ -1,8 +1,7 @@
 -- A list with an announced number of items is open only while it awaits an item.
-use Rattle.std.proofs.Common.{ℕ, zero, suc, ◌<◌, ◌≡◌, false, List, [], ◌∷◌, ◌++◌, Option, Some, None, arith}
-use Rattle.std.specs.List.{AllByRecursion}
-use Rattle.std.proofs.lemmas.Bool.{cond_both, leb-false}
+use Rattle.std.proofs.{Common.{ℕ, zero, suc, ◌<◌, ◌≡◌, false, List, [], ◌∷◌, ◌++◌, Option, Some, None, arith}, lemmas.Bool.{cond_both, leb-false}}
 use Rattle.std.proofs.lemmas.List.Elements.{All-from_recursion, recursion_from_All}
+use Rattle.std.specs.List.{AllByRecursion}
 use Rattle.rlp_format.specs.Format.Encoding.{string, list}
 use Rattle.rlp_write.specs.Streams.Stream.{OpenList, Stack, AwaitsSome, AllAwait, is_last, awaits_after, count_around, shut_around, State, list_encoding}
 use Rattle.rlp_write.specs.Streams.Stream.{Call, append, append_empty_data, append_raw, append_raw_checked, begin_list, begin_unbounded_list}

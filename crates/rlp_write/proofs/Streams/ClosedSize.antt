@@ -1,17 +1,14 @@
 -- The closed size is computed from the places of the open lists.
 use Rattle.std.proofs.Common.{◌≡◌, ℕ, ◌+◌, ◌-◌, ◌*◌, ◌^◌, ◌<◌, ◌≤◌, Bool, List, [], ◌∷◌, ◌++◌, length, take, drop, replicate, sym, ◌∙◌}
-use Rattle.std.proofs.Common.{ap, subst, arith, append-nil, length-append, length-drop, ⊎_elim, suc, Option, Some, None}
-use Rattle.std.specs.Option.{SomeIff}
-use Rattle.std.proofs.lemmas.Bool.{cases_lt}
+use Rattle.std.proofs.{Common.{ap, subst, arith, append-nil, length-append, length-drop, ⊎_elim, suc, Option, Some, None}, lemmas.Bool.cases_lt}
 use Rattle.std.proofs.lemmas.List.{length-take-le, length-replicate}
+use Rattle.std.specs.Option.{SomeIff}
 use Rattle.rlp_write.specs.declared.open_lists.Placeholder.{Placeholder}
-use Rattle.rlp_format.specs.Format.Encoding.{big_endian, written_header}
 use Rattle.rlp_write.specs.Streams.Stream.{closed_payload_around, State, list_encoding, closed_size, closed_size_with}
-use Rattle.rlp_write.specs.Streams.Placeholders.{begin_of, lists_of, IsLaid, Descends}
-use Rattle.rlp_write.specs.Streams.Closing.{header_len, closed_len, left_of}
+use Rattle.rlp_write.specs.{Streams.Placeholders.{begin_of, lists_of, IsLaid, Descends}, Streams.Closing.{header_len, closed_len, left_of}}
 use Rattle.rlp_write.specs.Streams.Layout.{state_of}
-use Rattle.rlp_format.proofs.Lemmas.Digits.{big_endian_length}
-use Rattle.rlp_format.proofs.Lemmas.Headers.{written_header_short, written_header_long}
+use Rattle.rlp_format.specs.Format.Encoding.{big_endian, written_header}
+use Rattle.rlp_format.proofs.{Lemmas.Digits.big_endian_length, Lemmas.Headers.{written_header_short, written_header_long}}
 use Rattle.rlp_write.proofs.Streams.FlatBuffer.{start_le}
 
 closed_len_is : (start : ℕ) (b x : List ℕ) (ps : List Placeholder) → IsLaid start b ps

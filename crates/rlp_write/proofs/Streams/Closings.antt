@@ -1,14 +1,12 @@
 -- What closing does, step by step, and the state after counting.
 use Rattle.std.proofs.Common.{◌≡◌, ℕ, zero, suc, ◌+◌, ◌-◌, ◌*◌, ◌<◌, ◌≤◌, Bool, true, false, min, List, [], ◌∷◌, ◌++◌, length, take, drop, reverse}
-use Rattle.std.proofs.Common.{get_or, set, Option, refl, sym, ◌∙◌, ap, arith, length-append, length-drop, ⊎_elim}
-use Rattle.std.proofs.lemmas.Bool.{cases_lt, cond-true}
+use Rattle.std.proofs.{Common.{get_or, set, Option, refl, sym, ◌∙◌, ap, arith, length-append, length-drop, ⊎_elim}, lemmas.Bool.{cases_lt, cond-true}}
 use Rattle.std.proofs.lemmas.List.{take-take, drop_at, drop-drop, drop-take, length-take-le, set_at}
 use Rattle.std.proofs.lemmas.List.{take-append-drop, reverse-append, length-reverse, get_or-reverse, set-append_left}
-use Rattle.rlp_write.specs.declared.open_lists.Placeholder.{Placeholder}
-use Rattle.rlp_format.specs.Format.Encoding.{big_endian, written_header}
-use Rattle.rlp_write.specs.Streams.Stream.{is_last, awaits_after, list_encoding}
+use Rattle.rlp_write.specs.{declared.open_lists.Placeholder.Placeholder, Streams.Stream.{is_last, awaits_after, list_encoding}}
 use Rattle.rlp_write.specs.Streams.Placeholders.{Descends, closes, with_innermost, with_awaits, unbounded_innermost}
 use Rattle.rlp_write.specs.Streams.Closing.{filled, counted, closed_bytes, header_len, growth}
+use Rattle.rlp_format.specs.Format.Encoding.{big_endian, written_header}
 use Rattle.rlp_write.proofs.Streams.MovedBytes.{follows}
 use Rattle.rlp_format.proofs.Lemmas.Headers.{written_header_short, written_header_long}
 

@@ -1,15 +1,10 @@
 -- Values that are appended one after another, such as the fields of a struct.
 use Rattle.std.proofs.Common.{◌≡◌, ◌<◌, ◌≤◌, ◌+◌, ◌^◌, ℕ, Option, Some, None, zero, suc, List, [], ◌∷◌, ◌++◌, length, take, drop, get_or, map, refl, sym}
-use Rattle.std.proofs.Common.{ap, ◌∙◌, subst, arith, append-nil, append_assoc, length-append}
-use Rattle.std.proofs.lemmas.List.{length-map, take_more, take-append-drop}
+use Rattle.std.proofs.{Common.{ap, ◌∙◌, subst, arith, append-nil, append_assoc, length-append}, lemmas.List.{length-map, take_more, take-append-drop}}
 use Rattle.std.proofs.lemmas.List.Concat.{flat_map-append, flat_map_single}
-use Rattle.std.specs.List.{All}
-use Rattle.std.specs.Prelude.{MatchOption, SomeIff}
-use Rattle.rlp_format.specs.Format.Encoding.{Item, list_of}
-use Rattle.rlp_write.specs.Streams.Stream.{State, Seen, add, add_all, put_item, with_list_of}
-use Rattle.rlp_write.specs.Streams.Growth.{GrowsTo}
-use Rattle.rlp_write.specs.Streams.Fields.{AppendsSome}
-use Rattle.rlp_format.specs.Values.Value.{all_items}
+use Rattle.std.specs.{List.All, Prelude.{MatchOption, SomeIff}}
+use Rattle.rlp_format.specs.{Format.Encoding.{Item, list_of}, Values.Value.all_items}
+use Rattle.rlp_write.specs.{Streams.Stream.{State, Seen, add, add_all, put_item, with_list_of}, Streams.Growth.GrowsTo, Streams.Fields.AppendsSome}
 use Rattle.rlp_write.proofs.Streams.Filling.{all_more, filled_list, grows_filling}
 
 add_all-append : (xs ys : List Item) (s : State) → add_all (xs ++ ys) s ≡ add_all ys (add_all xs s)

@@ -1,11 +1,9 @@
 -- A list that is opened, and filled item by item. Authors of an `Encodable` that is a list need these lemmas.
 use Rattle.std.proofs.Common.{◌≡◌, ℕ, zero, suc, ◌+◌, ◌-◌, ◌<◌, ◌||◌, Bool, false, List, [], ◌∷◌, ◌++◌, length, take, get_or, Some}
-use Rattle.std.proofs.Common.{refl, sym, ◌∙◌, ap, subst, arith, append_assoc, append-nil}
+use Rattle.std.proofs.{Common.{refl, sym, ◌∙◌, ap, subst, arith, append_assoc, append-nil}, lemmas.List.Elements.All-more}
 use Rattle.std.specs.List.{All}
-use Rattle.std.proofs.lemmas.List.Elements.{All-more}
 use Rattle.rlp_format.specs.Format.Encoding.{written_header, Item, list, Items, no_items, item_and, list_of, is_list, encoding, join_items}
-use Rattle.rlp_write.specs.Streams.Stream.{State, add, put_item, add_all, with_list_of}
-use Rattle.rlp_write.specs.Streams.Growth.{GrowsTo}
+use Rattle.rlp_write.specs.{Streams.Stream.{State, add, put_item, add_all, with_list_of}, Streams.Growth.GrowsTo}
 use Rattle.rlp_write.proofs.Streams.Listed.{in_list, list_filled, add_more, or_true}
 use Rattle.rlp_write.proofs.Streams.Growth.{grows_same, grows_put, grows_with_list, grows_in_list, grows_trans}
 

@@ -4,13 +4,11 @@ use Rattle.std.proofs.Common.{drop, is_none, refl, sym, ◌∙◌, ap, arith, ap
 use Rattle.std.proofs.lemmas.List.{take-take, take-append-le, drop-append-le, take_at, drop_all, drop_more, length-take, length-take-le, length_push, take-append-drop, get_or-take, get_or_at, get_or_append_left}
 use Rattle.rlp_write.specs.declared.open_lists.Placeholder.{Placeholder}
 use Rattle.rlp_write.specs.Streams.Stream.{OpenList, AwaitsSome, each_awaits, is_last, awaits_after, count_around, is_counted_after, unbounded_count, closed_payload_around}
-use Rattle.rlp_format.specs.Format.Encoding.{written_header}
 use Rattle.rlp_write.specs.Streams.Stream.{State, IsFinished, list_encoding, put, with_list, with_awaiting, count, raw_text, closed_size}
 use Rattle.rlp_write.specs.Streams.Placeholders.{begin_of, lists_of, Placed, IsLaid, Descends, closes, with_awaits, with_innermost, unbounded_innermost}
-use Rattle.rlp_write.specs.Streams.Closing.{filled, counted, closed_bytes, left_of}
-use Rattle.rlp_write.specs.Streams.Layout.{stack_of, state_of}
-use Rattle.rlp_write.proofs.Streams.States.{raw_text-put, raw_text-with_list, closed_text-count}
-use Rattle.rlp_write.proofs.Streams.Awaits.{await-after}
+use Rattle.rlp_write.specs.{Streams.Closing.{filled, counted, closed_bytes, left_of}, Streams.Layout.{stack_of, state_of}}
+use Rattle.rlp_format.specs.Format.Encoding.{written_header}
+use Rattle.rlp_write.proofs.{Streams.States.{raw_text-put, raw_text-with_list, closed_text-count}, Streams.Awaits.await-after}
 use Rattle.rlp_write.proofs.Streams.Closings.{header_some, counted_closed}
 
 -- ---- places

@@ -2,8 +2,7 @@
 use Rattle.std.proofs.Common.{◌≡◌, ℕ, true, false, List, [], ◌∷◌, ◌++◌, Option, refl, sym, ap, ◌∙◌, subst, append-nil, append_assoc}
 use Rattle.rlp_format.specs.Format.Encoding.{Item, string, list, encoding}
 use Rattle.rlp_write.specs.Streams.Stream.{OpenList, State, put, with_list, put_item, count, add, with_is_counted}
-use Rattle.rlp_write.specs.Streams.Growth.{AreSameAround, Stands, GrowsTo}
-use Rattle.rlp_write.specs.Streams.Growth.Stands.{here, within}
+use Rattle.rlp_write.specs.{Streams.Growth.{AreSameAround, Stands, GrowsTo}, Streams.Growth.Stands.{here, within}}
 
 same_around : (ls : List (OpenList ℕ)) → AreSameAround ls ls
 same_around [] = tt

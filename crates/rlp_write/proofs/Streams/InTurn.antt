@@ -1,7 +1,6 @@
 -- Unbounded lists that are finalized in turn.
 use Rattle.std.proofs.Common.{◌≡◌, ℕ, zero, suc, ◌+◌, ◌<◌, ◌≤◌, Bool, cond, IsTrue, List, [], ◌∷◌, ◌++◌, Option, None, Some, Ok}
-use Rattle.std.proofs.Common.{is_none, replicate, refl, ◌∙◌, arith}
-use Rattle.std.proofs.lemmas.Bool.{cond-true}
+use Rattle.std.proofs.{Common.{is_none, replicate, refl, ◌∙◌, arith}, lemmas.Bool.cond-true}
 use Rattle.rlp_write.specs.Streams.Stream.{OpenList, Stack, is_unbounded, unbounded_count, State, list_encoding}
 use Rattle.rlp_write.specs.Streams.Stream.{after_from, effect, finalize_unbounded_list, finalized, is_admitted}
 use Rattle.rlp_write.proofs.Streams.Finalizing.{count_unbounded, unbounded_around}

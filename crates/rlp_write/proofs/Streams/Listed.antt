@@ -1,7 +1,6 @@
 -- A list that is opened, and the values appended to it.
 use Rattle.std.proofs.Common.{◌≡◌, ℕ, suc, ◌-◌, ◌||◌, nat_le, Bool, true, false, List, [], ◌∷◌, ◌++◌, length, Some, refl, sym, ◌∙◌, ap, arith}
-use Rattle.std.proofs.Common.{append_assoc, append-nil}
-use Rattle.std.proofs.lemmas.Bool.Decides.{nat_tests}
+use Rattle.std.proofs.{Common.{append_assoc, append-nil}, lemmas.Bool.Decides.nat_tests}
 use Rattle.rlp_format.specs.Format.Encoding.{Item, list_of, is_list, encoding, join}
 use Rattle.rlp_write.specs.Streams.Stream.{State, list_encoding, add, put, put_item, count, with_is_counted, with_list, add_all}
 use Rattle.rlp_format.proofs.Lemmas.Encodings.{encoding_list}

@@ -1,12 +1,9 @@
 -- Bytes that are written from a place on, and bytes that are moved to a later place.
 use Rattle.std.proofs.Common.{◌≡◌, ℕ, suc, ◌+◌, ◌≤◌, List, ◌∷◌, ◌++◌, length, take, drop, sym, ap, subst, ◌∙◌, arith, take-append-drop, length-append}
-use Rattle.std.proofs.Common.{length-drop}
-use Rattle.std.proofs.Math.ListN.{set, get_or}
-use Rattle.std.proofs.Math.Seq.{take-add}
-use borrow.Rule.Slice.PartMut.{put_mid}
+use Rattle.std.proofs.{Common.length-drop, Math.ListN.{set, get_or}, Math.Seq.take-add}
 use Rattle.std.proofs.lemmas.List.{take-set-le, take-append-le, take-take, get_or-take, drop_at, drop_more, append_assoc, length-take-le}
-use Rattle.std.proofs.lemmas.Slice.{take-put_mid, drop-put_mid}
-use Rattle.std.proofs.lemmas.Grind.{drop-set_at}
+use Rattle.std.proofs.{lemmas.Slice.{take-put_mid, drop-put_mid}, lemmas.Grind.drop-set_at}
+use borrow.Rule.Slice.PartMut.{put_mid}
 
 -- the bytes before a place stay, and these come behind them
 pub record Follows (n : ℕ) (old behind new : List ℕ) : Type 0 where

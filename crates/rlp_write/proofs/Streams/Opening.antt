@@ -1,8 +1,6 @@
 -- The state of a stream, by its fields.
 use Rattle.std.proofs.Common.{◌≡◌, ap}
-use Rattle.rlp_write.specs.contracts.flat.RlpStream.{the_view}
-use Rattle.rlp_write.specs.declared.flat.RlpStream.TheInside.{Inside}
-use Rattle.rlp_write.specs.Streams.Placeholders.{IsLaid}
+use Rattle.rlp_write.specs.{contracts.flat.RlpStream.the_view, declared.flat.RlpStream.TheInside.Inside, Streams.Placeholders.IsLaid}
 use Rattle.rlp_write.specs.Streams.Stream.{Seen}
 use Rattle.rlp_write.proofs.Streams.FlatBuffer.{StandsFor}
 

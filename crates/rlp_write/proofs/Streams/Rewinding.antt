@@ -2,14 +2,10 @@
 -- number of items.
 use Rattle.std.proofs.Common.{◌≡◌, ◌+◌, ◌-◌, ◌≤◌, ℕ, suc, Bool, List, [], ◌∷◌, ◌++◌, length, get_or, take, drop, Option, refl, sym, ap, ◌∙◌, subst, arith, length-append, length-drop, take-append-drop}
 use Rattle.std.proofs.lemmas.List.{length-take-le, take-take, take_at, drop-take}
-use Rattle.rlp_write.specs.declared.open_lists.Placeholder.{Placeholder}
-use Rattle.rlp_write.specs.declared.flat.Place.{Place}
+use Rattle.rlp_write.specs.{declared.open_lists.Placeholder.Placeholder, declared.flat.Place.Place}
 use Rattle.rlp_write.specs.Streams.Stream.{OpenList, AwaitsSome, awaited, each_awaits, State, raw_text}
-use Rattle.rlp_write.specs.Streams.Growth.{AreSameAround, Stands, GrowsTo}
-use Rattle.rlp_write.specs.Streams.Growth.Stands.{here, within}
-use Rattle.rlp_write.specs.Streams.Places.{place_of}
-use Rattle.rlp_write.specs.Streams.Placeholders.{begin_of, lists_of, IsLaid, with_awaits, with_innermost}
-use Rattle.rlp_write.specs.Streams.Layout.{state_of}
+use Rattle.rlp_write.specs.{Streams.Growth.{AreSameAround, Stands, GrowsTo}, Streams.Growth.Stands.{here, within}, Streams.Places.place_of}
+use Rattle.rlp_write.specs.{Streams.Placeholders.{begin_of, lists_of, IsLaid, with_awaits, with_innermost}, Streams.Layout.state_of}
 use Rattle.rlp_write.proofs.Streams.FlatBuffer.{begin_le, bytes_around, bytes_longer, laid_bytes, laid_take, lists_append, length-lists_of, raw_state, StandsFor, stands_awaiting}
 use Rattle.rlp_write.proofs.Streams.Finalizing.{length-each_awaits}
 

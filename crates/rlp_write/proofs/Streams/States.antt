@@ -1,10 +1,7 @@
 -- How the steps of a stream change the texts of its state.
 use Rattle.std.proofs.Common.{◌≡◌, ℕ, zero, suc, ◌+◌, ◌<◌, ◌≤◌, ◌^◌, nat_le, arith, Bool, true, false, List, [], ◌∷◌, ◌++◌, length, replicate, flat_map}
-use Rattle.std.proofs.Common.{Option, refl, sym, ap, ◌∙◌, append-nil, append_assoc, length-append}
-use Rattle.std.proofs.lemmas.Bool.{cond_both}
-use Rattle.std.proofs.lemmas.Bool.Decides.{nat_tests}
-use Rattle.std.proofs.lemmas.List.{length-replicate}
-use Rattle.std.proofs.lemmas.List.Concat.{flat_map-append}
+use Rattle.std.proofs.{Common.{Option, refl, sym, ap, ◌∙◌, append-nil, append_assoc, length-append}, lemmas.Bool.cond_both}
+use Rattle.std.proofs.{lemmas.Bool.Decides.nat_tests, lemmas.List.length-replicate, lemmas.List.Concat.flat_map-append}
 use Rattle.rlp_format.specs.Format.Encoding.{Item, string, list, is_list, written_header, encoding}
 use Rattle.rlp_write.specs.Streams.Stream.{OpenList, Level, Stack, top_around, levels_around, closed_payload_around, count_around, is_last}
 use Rattle.rlp_write.specs.Streams.Stream.{effect, finalize_unbounded_list, finalized, is_within_size}

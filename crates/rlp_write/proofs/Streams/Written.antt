@@ -1,15 +1,11 @@
 -- Headers and strings that are written.
 use Rattle.std.proofs.Common.{◌≡◌, ℕ, ◌+◌, ◌-◌, ◌/◌, ◌%◌, ◌<◌, ◌≤◌, List, ◌∷◌, [], ◌++◌, length, take, drop, length-append, length-drop, append-nil, true}
-use Rattle.std.proofs.Common.{false, refl, sym, ap, ◌∙◌, arith, add-one, append_assoc}
-use Rattle.std.proofs.lemmas.Bool.Decides.{nat_tests}
-use Rattle.std.proofs.lemmas.Bool.{cond-true, cond-false}
-use Rattle.std.proofs.lemmas.List.{drop-set, take_at, drop_at, drop_all, take-append-drop, take_all}
+use Rattle.std.proofs.{Common.{false, refl, sym, ap, ◌∙◌, arith, add-one, append_assoc}, lemmas.Bool.Decides.nat_tests}
+use Rattle.std.proofs.{lemmas.Bool.{cond-true, cond-false}, lemmas.List.{drop-set, take_at, drop_at, drop_all, take-append-drop, take_all}}
 use Rattle.std.specs.Prelude.{slice_set}
-use Rattle.rlp_format.specs.Format.Encoding.{string, big_endian, written_header, encoding, is_low_byte, BeginsWith}
-use Rattle.rlp_format.specs.Values.Value.{number_item}
+use Rattle.rlp_format.specs.{Format.Encoding.{string, big_endian, written_header, encoding, is_low_byte, BeginsWith}, Values.Value.number_item}
 use Rattle.rlp_write.proofs.Streams.MovedBytes.{follows}
-use Rattle.rlp_format.proofs.Lemmas.Digits.{big_endian_step}
-use Rattle.rlp_format.proofs.Lemmas.Headers.{written_header_short, written_header_long}
+use Rattle.rlp_format.proofs.{Lemmas.Digits.big_endian_step, Lemmas.Headers.{written_header_short, written_header_long}}
 
 -- a string that is its own encoding
 pub encoding_low : (s : List ℕ) → is_low_byte s ≡ true → encoding (string s) ≡ s

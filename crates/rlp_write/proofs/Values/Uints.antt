@@ -1,10 +1,8 @@
 -- The bytes of a number without leading zeros are its digits.
 use Rattle.std.proofs.Common.{◌≡◌, ◌≢◌, ◌+◌, ◌*◌, ℕ, List, [], ◌∷◌, length, drop, get_or, Fits, w8, arith, pos_of_ne-zero, refl, subst, ap, le_refl}
 use Rattle.std.specs.Int.Digits.{number_from_digits, number_from_digits_after}
-use Rattle.rlp_format.specs.Format.Encoding.{big_endian}
-use Rattle.rlp_format.specs.Values.Value.{FitsBytes}
-use Rattle.rlp_format.proofs.Lemmas.Digits.{big_endian_zero, digits_again, digits_fit}
-use Rattle.rlp_format.proofs.Lemmas.Digits.{bytes_held}
+use Rattle.rlp_format.specs.{Format.Encoding.big_endian, Values.Value.FitsBytes}
+use Rattle.rlp_format.proofs.{Lemmas.Digits.{big_endian_zero, digits_again, digits_fit}, Lemmas.Digits.bytes_held}
 
 -- a leading zero doesn't change the number
 pub zero_in_front : (ds : List ℕ) → get_or ds 0 0 ≡ 0 → number_from_digits 256 (drop 1 ds) ≡ number_from_digits 256 ds

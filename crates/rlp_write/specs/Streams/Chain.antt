@@ -1,9 +1,6 @@
 -- What the calls share that return the stream for the next call.
-use Rattle.std.specs.Prelude.{◌≡◌, Result, IfOk}
-use Rattle.std.specs.Borrow.{Fml, MutBor, RestsIfErr}
-use Rattle.rlp_write.specs.contracts.flat.RlpStream.{the_row}
-use Rattle.rlp_write.specs.declared.stream.chain.Chain.{Chain}
-use Rattle.rlp_write.specs.Streams.Stream.{Seen, IsAsBefore, MovedGrows}
+use Rattle.std.specs.{Prelude.{◌≡◌, Result, IfOk}, Borrow.{Fml, MutBor, RestsIfErr}}
+use Rattle.rlp_write.specs.{contracts.flat.RlpStream.the_row, declared.stream.chain.Chain.Chain, Streams.Stream.{Seen, IsAsBefore, MovedGrows}}
 
 -- a refused call leaves the stream with its old state, and the count of moved bytes doesn't fall; after any other call the stream ends as the chain leaves it
 abbrev pub stays_if_refused : {E : Type 0} → MutBor Seen → Result Chain E → Fml

@@ -1,8 +1,7 @@
 -- The effect of closing on the bytes of a stream, for all lists that a call closes at once. The placeholders go from the inside out.
 use Rattle.std.specs.Prelude.{ℕ, zero, suc, ◌+◌, ◌-◌, if◌then◌else◌, List, [], ◌∷◌, ◌++◌, length, take, drop}
-use Rattle.rlp_write.specs.declared.open_lists.Placeholder.{Placeholder}
+use Rattle.rlp_write.specs.{declared.open_lists.Placeholder.Placeholder, Streams.Stream.{is_last, awaits_after, list_encoding}}
 use Rattle.rlp_format.specs.Format.Encoding.{written_header}
-use Rattle.rlp_write.specs.Streams.Stream.{is_last, awaits_after, list_encoding}
 
 -- the number of lists that the count of k items closes
 abbrev pub filled : ℕ → List Placeholder → ℕ

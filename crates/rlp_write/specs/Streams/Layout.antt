@@ -1,8 +1,6 @@
 -- The state that a stream's bytes and the places of its open lists stand for. The placeholders go from the inside out.
 use Rattle.std.specs.Prelude.{ℕ, Bool, List, take, drop}
-use Rattle.rlp_write.specs.declared.open_lists.Placeholder.{Placeholder}
-use Rattle.rlp_write.specs.Streams.Stream.{Stack, State}
-use Rattle.rlp_write.specs.Streams.Placeholders.{begin_of, lists_of}
+use Rattle.rlp_write.specs.{declared.open_lists.Placeholder.Placeholder, Streams.Stream.{Stack, State}, Streams.Placeholders.{begin_of, lists_of}}
 
 -- the stack that the bytes behind the front stand for, from the inside out
 abbrev pub stack_of : ℕ → List ℕ → List Placeholder → Stack ℕ

@@ -1,7 +1,6 @@
 -- The places of the open lists in a stream's bytes. The placeholders go from the inside out.
 use Rattle.std.specs.Prelude.{ℕ, zero, suc, if◌then◌else◌, ◌≡◌, ◌+◌, ◌<◌, ◌≤◌, List, [], ◌∷◌, length, get_or, take, drop, Option, None, Bool, false, is_none}
-use Rattle.rlp_write.specs.declared.open_lists.Placeholder.{Placeholder}
-use Rattle.rlp_write.specs.Streams.Stream.{OpenList, AwaitsSome, is_last}
+use Rattle.rlp_write.specs.{declared.open_lists.Placeholder.Placeholder, Streams.Stream.{OpenList, AwaitsSome, is_last}}
 
 -- the place where the innermost payload begins: behind the innermost placeholder, or behind the front
 abbrev pub begin_of : ℕ → List Placeholder → ℕ

@@ -1,7 +1,6 @@
 -- The place of a stream: what a call that may be refused on its way notes before it begins.
 use Rattle.std.specs.Prelude.{length}
-use Rattle.rlp_write.specs.declared.flat.Place.{Place}
-use Rattle.rlp_write.specs.Streams.Stream.{awaited, State, raw_text}
+use Rattle.rlp_write.specs.{declared.flat.Place.Place, Streams.Stream.{awaited, State, raw_text}}
 
 -- the place of a stream in this state: its numbers of bytes and of open lists, what the innermost awaits, and `is_counted`
 abbrev pub place_of : State → Place

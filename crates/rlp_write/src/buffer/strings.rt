@@ -1,9 +1,7 @@
 //! Encodings of strings at the end of a buffer.
 
-ghost use Rattle.std.specs.Prelude.{◌≡◌, ◌≤◌, ◌<◌, ◌+◌, ◌-◌, ◌++◌, ℕ, List, OnOk, OnErr, IfOk, length, take, drop, false};
-ghost use Rattle.std.specs.Iterator.{IsFiniteIterable};
-ghost use Rattle.rlp_format.specs.Format.Encoding.{string, encoding, is_low_byte, BeginsWith};
-ghost use Rattle.rlp_format.specs.Values.Value.{number_item};
+ghost use Rattle.std.specs.{Prelude.{◌≡◌, ◌≤◌, ◌<◌, ◌+◌, ◌-◌, ◌++◌, ℕ, List, OnOk, OnErr, IfOk, length, take, drop, false}, Iterator.IsFiniteIterable};
+ghost use Rattle.rlp_format.specs.{Format.Encoding.{string, encoding, is_low_byte, BeginsWith}, Values.Value.number_item};
 ghost use Rattle.rlp_write.specs.Streams.Iterated.{GivesAll};
 
 use super::counted::Buffer;

@@ -1,7 +1,6 @@
 //! Text: written as the string of its bytes in UTF-8.
 
-ghost use Rattle.std.specs.Prelude.{⊤, IsUtf8};
-ghost use Rattle.std.specs.String.{string_bytes};
+ghost use Rattle.std.specs.{Prelude.{⊤, IsUtf8}, String.string_bytes};
 ghost use Rattle.rlp_format.specs.Format.Encoding.{string};
 
 use crate::buffer::strings::encoded_string;

@@ -1,12 +1,9 @@
 //! Calls on a stream, one after another.
 
-ghost use Rattle.std.specs.Prelude.{◌≡◌, ◌≤◌, ℕ, List, IsTrue, IsOk, IfOk, OnOk, length, map, All};
-ghost use Rattle.std.specs.Borrow.{sem};
-ghost use Rattle.std.specs.Iterator.{IsFiniteIterable};
+ghost use Rattle.std.specs.{Prelude.{◌≡◌, ◌≤◌, ℕ, List, IsTrue, IsOk, IfOk, OnOk, length, map, All}, Borrow.sem, Iterator.IsFiniteIterable};
 ghost use Rattle.rlp_format.specs.Format.Encoding.{string, list_of, encoding};
 ghost use Rattle.rlp_write.specs.Streams.Stream.{append, append_empty_data, append_raw, append_internal, begin_list, begin_unbounded_list, effect, is_admitted, IsFinished, MovedGrows, MovesWithin};
-ghost use Rattle.rlp_write.specs.Streams.Iterated.{GivesAll};
-ghost use Rattle.rlp_write.specs.Streams.Chain.{stays_if_refused, rests_if_refused, HoldsStream};
+ghost use Rattle.rlp_write.specs.{Streams.Iterated.GivesAll, Streams.Chain.{stays_if_refused, rests_if_refused, HoldsStream}};
 
 use crate::stream::RlpStream;
 use crate::traits::Encodable;

@@ -1,10 +1,8 @@
 //! Strings that are written without being counted.
 
-ghost use Rattle.std.specs.Prelude.{◌≡◌, ◌≤◌, ℕ, List, IsOk, OnOk, OnErr, length};
-ghost use Rattle.std.specs.Iterator.{IsFiniteIterable};
+ghost use Rattle.std.specs.{Prelude.{◌≡◌, ◌≤◌, ℕ, List, IsOk, OnOk, OnErr, length}, Iterator.IsFiniteIterable};
 ghost use Rattle.rlp_format.specs.Format.Encoding.{string, encoding};
-ghost use Rattle.rlp_write.specs.Streams.Stream.{effect, encode_value, IsAsBefore};
-ghost use Rattle.rlp_write.specs.Streams.Iterated.{GivesAll};
+ghost use Rattle.rlp_write.specs.{Streams.Stream.{effect, encode_value, IsAsBefore}, Streams.Iterated.GivesAll};
 
 use crate::stream::RlpStream;
 use std::alloc::AllocError;

@@ -1,11 +1,9 @@
 //! The steps of a stream's public calls. They see its state alone.
 
-ghost use Rattle.std.specs.Prelude.{◌≡◌, ◌≤◌, ◌<◌, ℕ, List, IsOk, OnOk, OnErr, false, length};
-ghost use Rattle.std.specs.Iterator.{IsFiniteIterable};
+ghost use Rattle.std.specs.{Prelude.{◌≡◌, ◌≤◌, ◌<◌, ℕ, List, IsOk, OnOk, OnErr, false, length}, Iterator.IsFiniteIterable};
 ghost use Rattle.rlp_format.specs.Format.Encoding.{string, encoding};
 ghost use Rattle.rlp_write.specs.Streams.Stream.{unbounded_count, finalized, is_within_size, with_list_of, IsAsBefore, IsFinished, MovedGrows, MovesWithin, count, add, put_item};
-ghost use Rattle.rlp_write.specs.Streams.Growth.{GrowsTo};
-ghost use Rattle.rlp_write.specs.Streams.Iterated.{GivesAll};
+ghost use Rattle.rlp_write.specs.{Streams.Growth.GrowsTo, Streams.Iterated.GivesAll};
 
 use crate::EMPTY_LIST_RLP;
 use crate::stream::RlpStream;

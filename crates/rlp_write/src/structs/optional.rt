@@ -1,10 +1,7 @@
 //! Last fields that may be missing.
 
-ghost use Rattle.std.specs.Prelude.{◌∷◌, [], All, IfSome, map};
-ghost use Rattle.std.specs.Vec.{vec_items};
-ghost use Rattle.std.specs.declared.alloc.Global.{Global};
-ghost use Rattle.rlp_format.specs.Format.Encoding.{list_of};
-ghost use Rattle.rlp_format.specs.Values.Value.{items_if};
+ghost use Rattle.std.specs.{Prelude.{◌∷◌, [], All, IfSome, map}, Vec.vec_items, declared.alloc.Global.Global};
+ghost use Rattle.rlp_format.specs.{Format.Encoding.list_of, Values.Value.items_if};
 
 use crate::stream::{Listed, RlpStream};
 use crate::structs::AppendFields;

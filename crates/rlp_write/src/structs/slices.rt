@@ -1,8 +1,7 @@
 //! Fields that are the values of a slice.
 
 ghost use Rattle.std.specs.Prelude.{◌∷◌, [], All, map};
-ghost use Rattle.rlp_format.specs.Format.Encoding.{list_of};
-ghost use Rattle.rlp_format.specs.Values.Value.{all_items};
+ghost use Rattle.rlp_format.specs.{Format.Encoding.list_of, Values.Value.all_items};
 
 use crate::stream::{Listed, RlpStream};
 use crate::structs::AppendFields;

@@ -2,8 +2,7 @@
 
 ghost use Rattle.std.specs.Prelude.{◌≡◌, ◌≤◌, IsOk, OnOk, OnErr, IfOk, length};
 ghost use Rattle.rlp_format.specs.Format.Encoding.{Item, encoding};
-ghost use Rattle.rlp_write.specs.Streams.Stream.{IsFinished, MovedGrows, put_item};
-ghost use Rattle.rlp_write.specs.Streams.Growth.{GrowsTo};
+ghost use Rattle.rlp_write.specs.{Streams.Stream.{IsFinished, MovedGrows, put_item}, Streams.Growth.GrowsTo};
 
 use crate::stream::RlpStream;
 use bytes::BytesMut;

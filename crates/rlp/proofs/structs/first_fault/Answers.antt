@@ -1,4 +1,4 @@
-use Rattle.std.proofs.Common.{Err, Some, arith, inl, inr, sym, ap, ◌∙◌, ⊎_elim}
+use Rattle.std.proofs.Common.{Some, arith, inl, inr, sym, ap, ◌∙◌, ⊎_elim}
 use Rattle.rlp.proofs.Counting.{count_refused, fault_at, listed}
 use Rattle.rlp.proofs.structs.first_fault.Goals as goal
 

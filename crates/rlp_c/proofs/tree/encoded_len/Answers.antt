@@ -1,5 +1,4 @@
-use Rattle.std.proofs.Common.{refl, subst, arith}
-use Rattle.std.proofs.lemmas.List.{nil_from_length}
+use Rattle.std.proofs.{Common.{refl, subst, arith}, lemmas.List.nil_from_length}
 use Rattle.rlp_c.proofs.Measuring.{IsMeasured, last_is, last_row, measured_all, measured_none, measured_one, next_low, next_row, next_within, rows_before}
 use Rattle.rlp_c.proofs.tree.encoded_len.Goals as goal
 

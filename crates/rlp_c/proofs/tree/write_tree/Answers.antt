@@ -1,5 +1,4 @@
-use Rattle.std.proofs.Common.{◌-◌, refl, subst, arith}
-use Rattle.std.proofs.lemmas.List.{nil_from_length}
+use Rattle.std.proofs.{Common.{◌-◌, refl, subst, arith}, lemmas.List.nil_from_length}
 use Rattle.rlp_c.proofs.Measuring.{IsWriting, last_is, last_row, next_low, next_row, next_within, rows_before, writing_all, writing_none, writing_one}
 use Rattle.rlp_c.proofs.tree.write_tree.Goals as goal
 

@@ -1,5 +1,5 @@
 use Rattle.std.proofs.Common.{◌≡◌, List, [], ◌∷◌, map, refl, sym, ap, ◌∙◌}
-use Rattle.rlp_codec.proofs.Corollaries.{told_by_item}
+use Rattle.rlp_reading.proofs.Corollaries.{told_by_item}
 use Rattle.rlp.specs.Codec.{plain}
 use Rattle.rlp_examples.specs.Parcel.{parcel}
 use Rattle.rlp_examples.proofs.parcel.items_tell_parcels.Goals as goal

@@ -1,6 +1,5 @@
 use Rattle.std.proofs.Common.{arith}
-use Rattle.rlp_format.proofs.Lemmas.Digits.{bytes_held}
-use Rattle.rlp_format.proofs.Format.DigitBytes.{number_below}
+use Rattle.rlp_format.proofs.{Lemmas.Digits.bytes_held, Format.DigitBytes.number_below}
 use Rattle.rlp_format.proofs.digits.number_of.Goals as goal
 
 pub overflow_mul-number : goal.overflow_mul-number

@@ -1,7 +1,6 @@
 use Rattle.std.proofs.Common.{◌≡◌, ◌&&◌, ℕ, Bool, true, false, map, nat_lt, sym, ap, ◌∙◌}
 use Rattle.rlp.specs.Codec.{uint}
-use Rattle.rlp_headers.specs.AccessOrder.{first_before, in_order, slot_inside}
-use Rattle.rlp_headers.specs.Changes.{slot_changes}
+use Rattle.rlp_headers.specs.{AccessOrder.{first_before, in_order, slot_inside}, Changes.slot_changes}
 use Rattle.rlp_headers.proofs.block_access_list.is_storage_in_order.Goals as goal
 
 both : (a b s r : Bool) → a ≡ s → b ≡ r → a ≡ true → b ≡ (s && r)

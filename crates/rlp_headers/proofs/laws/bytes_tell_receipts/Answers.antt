@@ -1,5 +1,4 @@
-use Rattle.rlp_records.proofs.Bytes.{bytes_tell}
-use Rattle.rlp_records.proofs.OtherTypes.{any_strings}
+use Rattle.rlp_records.proofs.{Bytes.bytes_tell, OtherTypes.any_strings}
 use Rattle.rlp_headers.specs.TypedReceipt.{receipt_types}
 use Rattle.rlp_headers.proofs.laws.bytes_tell_receipts.Goals as goal
 

@@ -1,6 +1,5 @@
 use Rattle.std.proofs.Common.{◌∙◌, ◌*◌, ◌+◌, ◌/◌, arith, length, slice_index}
-use Rattle.hex.proofs.HexLemmas.{decode_of-even}
-use Rattle.hex.proofs.Pairs.{decode_step}
+use Rattle.hex.proofs.{HexLemmas.decode_of-even, Pairs.decode_step}
 use Rattle.rlp_lines.proofs.DigitLemmas.{decoded, pair_read}
 use Rattle.rlp_lines.proofs.decoding.put_bytes.Goals as goal
 

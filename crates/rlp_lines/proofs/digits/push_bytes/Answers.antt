@@ -1,7 +1,5 @@
-use Rattle.std.proofs.Common.{◌∙◌, ◌+◌, ap, drop, refl, string_bytes}
-use Rattle.std.proofs.lemmas.List.{drop-drop}
+use Rattle.std.proofs.{Common.{◌∙◌, ◌+◌, ap, drop, refl, string_bytes}, lemmas.List.drop-drop, lemmas.Result.on_ok_weaker}
 use Rattle.rlp_lines.proofs.DigitLemmas.{printed-all, printed-more, printed-none}
-use Rattle.rlp_lines.proofs.ProgressLemmas.{OnOk-step}
 use Rattle.rlp_lines.proofs.digits.push_bytes.Goals as goal
 
 pub loop-rest-init : goal.loop-rest-init
@@ -20,5 +18,5 @@ loop-rest-preserved c =
 pub returns-clause-ok : goal.returns-clause-ok
 returns-clause-ok c =
     let so_far = c.loop-rest.invariant in
-    OnOk-step c.push_few-2.result c.push_few-2.ensures.ok (printed-all (string_bytes c.args.out.now) (string_bytes c.loop-rest.out)
-    (string_bytes c.push_few-2.new.out) c.args.bytes.now c.loop-rest.rest.now so_far.done so_far.printed so_far.left)
+    on_ok_weaker c.push_few-2.result (printed-all (string_bytes c.args.out.now) (string_bytes c.loop-rest.out)
+    (string_bytes c.push_few-2.new.out) c.args.bytes.now c.loop-rest.rest.now so_far.done so_far.printed so_far.left) c.push_few-2.ensures.ok

@@ -1,6 +1,5 @@
 use Rattle.std.proofs.Common.{Some, ap, rules, sym, ◌∙◌}
-use Rattle.rlp_lines.proofs.DigitLemmas.{read-nothing, read-some}
-use Rattle.rlp_lines.proofs.ProgressLemmas.{OnErr-always}
+use Rattle.rlp_lines.proofs.{DigitLemmas.{read-nothing, read-some}, ProgressLemmas.OnErr-always}
 use Rattle.rlp_lines.proofs.digits.read_bytes.Goals as goal
 
 pub returns-then-is_empty-clause-gives : goal.returns-then-is_empty-clause-gives

@@ -7,7 +7,7 @@ abbrev pub invariant-reading : goal.invariant-reading
 invariant-reading g l = record {
   running : IsRunning g.A.LineAnswers.longest (answer_by g.A.LineAnswers.longest (g.A.LineAnswers.long_line l.fn.answers) (g.A.LineAnswers.answer_within l.fn.answers)) (g.R.Read.remaining l.fn.input.inner) (g.R.Read.remaining l.input.inner)
       (g.W.Write.contents l.fn.output.inner)
-      (g.W.Write.contents l.output.inner) l.line.bytes.items l.line.over l.line.faulty;
+      (g.W.Write.contents l.output.inner) l.line;
   input : l.input.failed ≡ false;
   output : l.output.failed ≡ false;
 }

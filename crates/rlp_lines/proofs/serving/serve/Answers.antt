@@ -1,7 +1,5 @@
 use Rattle.std.proofs.Common.{Err, inl, refl, string_bytes, ◌++◌}
-use Rattle.rlp_lines.specs.Lines.{ended_lines}
-use Rattle.rlp_lines.specs.Replies.{replies_to}
-use Rattle.rlp_lines.specs.Replies.{answer_by}
+use Rattle.rlp_lines.specs.{Lines.ended_lines, Replies.replies_to, Replies.answer_by}
 use Rattle.rlp_lines.proofs.ProgressLemmas.{AppendsBefore-written, IsAfter-served, IsServed-written, IsStop-some, IsStop-written}
 use Rattle.rlp_lines.proofs.serving.serve.Goals as goal
 

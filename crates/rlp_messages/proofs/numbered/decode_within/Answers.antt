@@ -1,8 +1,6 @@
 use Rattle.std.proofs.Common.{◌≡◌, ◌<◌, ◌^◌, None, OnOk, arith, length, subst, sym}
 use Rattle.std.specs.Prelude.{◌⊎◌, Err, IfErr, IsTrue, Some}
-use Rattle.rlp.specs.DecoderError.TheVariants.{OutOfMemory}
-use Rattle.rlp.specs.Form.{fault_of}
-use Rattle.rlp.specs.Views.View.{strict_view_of}
+use Rattle.rlp.specs.{DecoderError.TheVariants.OutOfMemory, Form.fault_of, Views.View.strict_view_of}
 use Rattle.rlp_messages.specs.Bounds.{items_fault}
 use Rattle.rlp_messages.proofs.WithinBounds.{bounded_fault, bounded_value, bounded_within}
 use Rattle.rlp_messages.proofs.numbered.decode_within.Goals as goal

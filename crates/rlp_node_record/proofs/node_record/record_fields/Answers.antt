@@ -1,8 +1,7 @@
 use Rattle.std.proofs.Common.{Ok, Err, ap, inl, arith, ◌∙◌, sym}
 use Rattle.rlp_reading.proofs.Lemmas.Reading.{bytes_held}
 use Rattle.rlp.specs.Form.{fault_of}
-use Rattle.rlp_node_record.specs.NodeRecord.{keys_of, test_keys}
-use Rattle.rlp_node_record.specs.NodeLaws.{keys_pass, read_tested, record_only}
+use Rattle.rlp_node_record.specs.{NodeRecord.{keys_of, test_keys}, NodeLaws.{keys_pass, read_tested, record_only}}
 use Rattle.rlp_node_record.proofs.node_record.record_fields.Goals as goal
 
 pub returns-in-Ok-clause-value : goal.returns-in-Ok-clause-value

@@ -1,6 +1,5 @@
 use Rattle.std.proofs.Common.{◌<◌, ◌++◌, ◌∙◌, ap, ◌∷◌, [], ◌-◌, sym, arith, rules}
-use Rattle.rlp_reading.specs.Format.Framing.{items, split}
-use Rattle.rlp_reading.specs.Views.Depth.{depth}
+use Rattle.rlp_reading.specs.{Format.Framing.{items, split}, Views.Depth.depth}
 use Rattle.rlp_reading.proofs.Views.Printing.{depth-string, shallow-other, deep-list, deep-item, shallow-list, greatest-more, items-list, done-next}
 use Rattle.rlp_reading.proofs.Views.Printing.{done-more, done-all}
 use Rattle.rlp_reading.proofs.depth.+is_nested_within.Goals as goal

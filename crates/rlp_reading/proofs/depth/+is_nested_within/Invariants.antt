@@ -1,6 +1,5 @@
 use Rattle.std.proofs.Common.{◌≡◌, ◌≤◌, ◌-◌, ◌++◌, length, map, List, ℕ}
-use Rattle.rlp_reading.specs.Format.Framing.{items, split}
-use Rattle.rlp_reading.specs.Views.Depth.{depth, greatest}
+use Rattle.rlp_reading.specs.{Format.Framing.{items, split}, Views.Depth.{depth, greatest}}
 use Rattle.rlp_reading.proofs.depth.+is_nested_within.Given as goal
 
 abbrev pub decreases-is_nested_within : goal.decreases-is_nested_within

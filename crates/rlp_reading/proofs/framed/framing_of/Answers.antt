@@ -1,5 +1,4 @@
-use Rattle.std.proofs.Common.{arith}
-use Rattle.std.proofs.lemmas.Grind.{common_steps}
+use Rattle.std.proofs.{Common.arith, lemmas.Grind.common_steps}
 use Rattle.rlp_reading.proofs.Lemmas.Frames.{header_some, header_within}
 use Rattle.rlp_reading.proofs.framed.framing_of.Goals as goal
 

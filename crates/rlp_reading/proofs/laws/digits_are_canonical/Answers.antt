@@ -1,5 +1,4 @@
-use Rattle.std.proofs.Common.{◌^◌, ◌<◌, ◌∷◌}
-use Rattle.std.proofs.lemmas.List.Elements.{All-from_recursion, recursion_from_All}
+use Rattle.std.proofs.{Common.{◌^◌, ◌<◌, ◌∷◌}, lemmas.List.Elements.{All-from_recursion, recursion_from_All}}
 use Rattle.rlp_format.specs.Format.Encoding.{big_endian}
 use Rattle.rlp_format.proofs.Lemmas.Digits.{big_endian_bytes, big_endian_first, big_endian_value, big_endian_again}
 use Rattle.rlp_reading.proofs.laws.digits_are_canonical.Goals as goal

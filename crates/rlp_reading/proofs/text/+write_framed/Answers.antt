@@ -1,5 +1,4 @@
-use Rattle.std.proofs.Common.{◌<◌, ◌++◌, ◌∙◌, ap, ◌∷◌, [], length, sym, rules, refl}
-use Rattle.std.proofs.Output.{has_written_styled_append, has_written_styled_of_eq}
+use Rattle.std.proofs.{Common.{◌<◌, ◌++◌, ◌∙◌, ap, ◌∷◌, [], length, sym, rules, refl}, Output.{has_written_styled_append, has_written_styled_of_eq}}
 use Rattle.rlp_reading.specs.Format.Framing.{items, split}
 use Rattle.rlp_reading.proofs.Views.Printing.{length-framed, text-string, text-list, texts-more, separator_after-more, item-shorter, items-list}
 use Rattle.rlp_reading.proofs.Views.Printing.{done-next, done-more, done-all}

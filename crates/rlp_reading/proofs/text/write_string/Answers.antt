@@ -1,5 +1,4 @@
-use Rattle.std.proofs.Common.{rules}
-use Rattle.std.proofs.Output.{has_written_styled_append}
+use Rattle.std.proofs.{Common.rules, Output.has_written_styled_append}
 use Rattle.rlp_reading.proofs.text.write_string.Goals as goal
 
 pub returns : goal.returns

@@ -1,11 +1,8 @@
 use Rattle.std.proofs.Common.{rules, ◌+◌, ◌-◌, ◌<◌, ◌≤◌, ◌^◌, ◌∙◌, length, sym, ap, arith, length-append}
 use Rattle.rlp_format.specs.Format.Encoding.{join}
 use Rattle.rlp_reading.specs.Format.Framing.{framing}
-use Rattle.rlp_reading.proofs.Lemmas.Frames.{item_some}
-use Rattle.rlp_reading.proofs.Format.Following.{framing-followed}
-use Rattle.rlp_reading.proofs.Format.StrictLists.{no_bytes, some_bytes}
-use Rattle.rlp_reading.proofs.Trees.Needless.{list_header, whole_item}
-use Rattle.rlp_reading.proofs.Trees.Faults.{walk_fault-deep, walk_fault-string}
+use Rattle.rlp_reading.proofs.{Lemmas.Frames.item_some, Format.Following.framing-followed, Format.StrictLists.{no_bytes, some_bytes}}
+use Rattle.rlp_reading.proofs.{Trees.Needless.{list_header, whole_item}, Trees.Faults.{walk_fault-deep, walk_fault-string}}
 use Rattle.rlp_reading.proofs.Trees.Walks.{fault_of_bytes, fault_of_item, fault_of_none, fault_within, walked_string_within, walked_within, walking_all, walking_none, walking_one}
 use Rattle.rlp_reading.proofs.Trees.Canonical.{stray_bytes, stray_item, too_deep}
 use Rattle.rlp_reading.proofs.walking.+walk.Goals as goal

@@ -1,6 +1,4 @@
-use Rattle.std.proofs.Common.{◌+◌, arith}
-use Rattle.std.proofs.lemmas.Grind.{common_steps}
-use Rattle.std.proofs.lemmas.List.{drop-set-lt}
+use Rattle.std.proofs.{Common.{◌+◌, arith}, lemmas.Grind.common_steps, lemmas.List.drop-set-lt}
 use Rattle.rlp_reading.proofs.walking.put.Goals as goal
 
 pub returns-then-count-out : goal.returns-then-count-out

@@ -1,8 +1,6 @@
 use Rattle.std.proofs.Common.{rules, ◌≡◌, false, true, sym, ◌∙◌, arith}
-use Rattle.rlp_reading.proofs.Lemmas.Frames.{item_some}
-use Rattle.rlp_reading.proofs.Trees.Faults.{needless_fault-none, needless_fault-some}
-use Rattle.rlp_reading.proofs.Trees.Needless.{IsNeedless, is_needless_by, needless_is, string_needless, whole_item}
-use Rattle.rlp_reading.proofs.Trees.Walks.{walked_string}
+use Rattle.rlp_reading.proofs.{Lemmas.Frames.item_some, Trees.Faults.{needless_fault-none, needless_fault-some}}
+use Rattle.rlp_reading.proofs.{Trees.Needless.{IsNeedless, is_needless_by, needless_is, string_needless, whole_item}, Trees.Walks.walked_string}
 use Rattle.rlp_reading.proofs.walking.put_string.Goals as goal
 
 pub returns-then-is_needless-clause-walked : goal.returns-then-is_needless-clause-walked

@@ -1,7 +1,5 @@
 use Rattle.std.proofs.Common.{arith}
-use Rattle.rlp_reading.proofs.Trees.Canonical.{not_whole}
-use Rattle.rlp_reading.proofs.Trees.Faults.{tree_fault-frame}
-use Rattle.rlp_reading.proofs.Trees.Flattening.{fault_whole}
+use Rattle.rlp_reading.proofs.{Trees.Canonical.not_whole, Trees.Faults.tree_fault-frame, Trees.Flattening.fault_whole}
 use Rattle.rlp_reading.proofs.walking.walk_whole.Goals as goal
 
 pub returns-in-Ok-clause-fault : goal.returns-in-Ok-clause-fault

@@ -1,7 +1,6 @@
 use Rattle.std.proofs.Common.{rules, arith, inl}
-use Rattle.rlp_codec.specs.Laws.{form_of}
-use Rattle.rlp_records.proofs.Bounds.{bounded_fails, bounded_given, read_within, refused_read}
-use Rattle.rlp_records.proofs.Faults.{fault_first}
+use Rattle.rlp_reading.specs.Laws.{form_of}
+use Rattle.rlp_records.proofs.{Bounds.{bounded_fails, bounded_given, read_within, refused_read}, Faults.fault_first}
 use Rattle.rlp_records.proofs.bounded.decode_at_most.Goals as goal
 
 pub returns-in-Ok-clause-bounded : goal.returns-in-Ok-clause-bounded

@@ -1,5 +1,4 @@
-use Rattle.std.proofs.Common.{rules, arith, ◌<◌, ◌^◌, length, subst, sym}
-use Rattle.std.proofs.lemmas.List.{take_rest}
+use Rattle.std.proofs.{Common.{rules, arith, ◌<◌, ◌^◌, length, subst, sym}, lemmas.List.take_rest}
 use Rattle.rlp_records.proofs.Scanning.{IsScanning, count_fits, list_passed, list_shorter, scan_ends}
 use Rattle.rlp_records.proofs.envelope_items.items_in_envelopes.Goals as goal
 

@@ -1,5 +1,5 @@
 use Rattle.std.proofs.Common.{arith}
-use Rattle.rlp_codec.specs.Laws.{form_of}
+use Rattle.rlp_reading.specs.Laws.{form_of}
 use Rattle.rlp_records.proofs.SeenSame.{never_lacks, seen_same}
 use Rattle.rlp_records.proofs.laws.reading_without_memory_is_total.Goals as goal
 

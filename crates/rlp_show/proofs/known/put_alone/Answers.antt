@@ -1,7 +1,6 @@
 use Rattle.std.proofs.Common.{◌≡◌, true, false, ap, ◌∙◌}
 use Rattle.rlp.specs.Format.Framing.{begins_as_list}
-use Rattle.rlp_show.proofs.Alone.{list_item, string_item}
-use Rattle.rlp_show.proofs.Readings.{read_at}
+use Rattle.rlp_show.proofs.{Alone.list_item, Alone.string_item, Readings.read_at}
 use Rattle.rlp_show.proofs.known.put_alone.Goals as goal
 
 pub returns-then-is_list-clause-text : goal.returns-then-is_list-clause-text

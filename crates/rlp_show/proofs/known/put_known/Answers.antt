@@ -1,11 +1,8 @@
 use Rattle.std.proofs.Common.{refl}
-use Rattle.rlp_print.specs.Display.{an_object}
-use Rattle.rlp_print.specs.Records.{account_display, any_receipt_display, withdrawal_display}
-use Rattle.rlp_print.specs.Transactions.{access_list_display, signed_authorization_display}
-use Rattle.rlp_print.specs.Blocks.{block_display, body_fields_display, header_display}
-use Rattle.rlp_print.specs.Items.{node_display}
-use Rattle.rlp_show.proofs.Alone.{receipt_given}
-use Rattle.rlp_show.proofs.Readings.{given_at}
+use Rattle.rlp_show.specs.{Display.an_object, Records.account_display, Records.any_receipt_display, Records.withdrawal_display}
+use Rattle.rlp_show.specs.{Transactions.access_list_display, Transactions.signed_authorization_display, Blocks.block_display, Blocks.body_fields_display}
+use Rattle.rlp_show.specs.{Blocks.header_display, Items.node_display}
+use Rattle.rlp_show.proofs.{Alone.receipt_given, Readings.given_at}
 use Rattle.rlp_show.proofs.known.put_known.Goals as goal
 
 pub returns-in-AccessList : goal.returns-in-AccessList

@@ -1,10 +1,8 @@
 use Rattle.std.proofs.Common.{refl}
-use Rattle.rlp_print.specs.Display.{a_list, a_string, an_object, end}
-use Rattle.rlp_print.specs.Records.{any_receipt_display}
-use Rattle.rlp_print.specs.Transactions.{any_transaction_display, pooled_transaction_display}
-use Rattle.rlp_print.specs.Blocks.{body_fields_display, header_display}
-use Rattle.rlp_print.specs.Messages.{disconnect_display, get_block_headers_display, hello_display, new_block_display, new_block_hash_display, new_pooled_transaction_hashes_display}
-use Rattle.rlp_print.specs.Messages.{range_display, receipt69_display, status68_display, status69_display}
+use Rattle.rlp_show.specs.Display.{a_list, a_string, an_object, end}
+use Rattle.rlp_show.specs.Messages.{disconnect_display, get_block_headers_display, hello_display, new_block_display, new_block_hash_display, new_pooled_transaction_hashes_display, range_display, receipt69_display, status68_display, status69_display}
+use Rattle.rlp_show.specs.{Records.any_receipt_display, Transactions.any_transaction_display, Transactions.pooled_transaction_display}
+use Rattle.rlp_show.specs.Blocks.{body_fields_display, header_display}
 use Rattle.rlp_show.proofs.known.put_message.Goals as goal
 
 pub returns-in-Hello : goal.returns-in-Hello

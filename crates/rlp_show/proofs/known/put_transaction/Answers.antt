@@ -1,7 +1,6 @@
 use Rattle.std.proofs.Common.{refl}
-use Rattle.rlp_print.specs.Transactions.{any_transaction_display}
-use Rattle.rlp_show.proofs.Alone.{signed_given}
-use Rattle.rlp_show.proofs.Readings.{given_at}
+use Rattle.rlp_show.specs.Transactions.{any_transaction_display}
+use Rattle.rlp_show.proofs.{Alone.signed_given, Readings.given_at}
 use Rattle.rlp_show.proofs.known.put_transaction.Goals as goal
 
 pub returns-in_default : goal.returns-in_default

@@ -1,7 +1,6 @@
 use Rattle.std.proofs.Common.{arith}
-use Rattle.rlp_trie.specs.TrieNode.{IsTrieNode, node_item}
-use Rattle.rlp_trie.specs.TrieNodeLaws.{trie_node}
-use Rattle.rlp_print.specs.Items.{node_display}
+use Rattle.rlp_trie.specs.{TrieNode.IsTrieNode, TrieNode.node_item, TrieNodeLaws.trie_node}
+use Rattle.rlp_show.specs.Items.{node_display}
 use Rattle.rlp_show.proofs.LineLemmas.{line_answered, line_slice, only_read}
 use Rattle.rlp_show.specs.declared.kind.Kind.TheVariants as kind
 use Rattle.rlp_show.proofs.laws.only_nodes_are_shown.Goals as goal

@@ -1,7 +1,6 @@
 use Rattle.std.proofs.Common.{rules, ◌≡◌, inl, inr, refl, ⊎_elim, Option, Some, None, IsSome, subst, sym}
 use Rattle.rlp.specs.Streams.Described.{FinishAs}
-use Rattle.rlp_tool.specs.Building.{AreJoined}
-use Rattle.rlp_tool.specs.StreamCalls.{calls_of}
+use Rattle.rlp_tool.specs.{Building.AreJoined, StreamCalls.calls_of}
 use Rattle.rlp_tool.proofs.AlikeLemmas.{described_by, none_holds, second_refused, some_fails}
 use Rattle.rlp_tool.proofs.alike.finish_alike.Goals as goal
 

@@ -1,7 +1,6 @@
 use Rattle.std.proofs.Common.{refl}
 use Rattle.rlp.specs.Streams.Described.{FinishAs}
-use Rattle.rlp_tool.specs.Building.{StayOpen}
-use Rattle.rlp_tool.specs.StreamCalls.{calls_of}
+use Rattle.rlp_tool.specs.{Building.StayOpen, StreamCalls.calls_of}
 use Rattle.rlp_tool.proofs.AlikeLemmas.{finished_closed}
 use Rattle.rlp_tool.proofs.alike.finished_over.Goals as goal
 

@@ -14,5 +14,4 @@ returns-in_default g c = record {
   ok = admitted_other g.E.Encodable.item c.args.call.now c.args.stream.now.state c.in_default.not-Raw c.in_default.not-Finish;
   brings = step_other g.E.Encodable.item c.args.call.now c.args.stream.now.state c.in_default.not-Raw;
   refused = tt;
-  no_memory = tt;
 }

@@ -1,9 +1,8 @@
-use Rattle.std.proofs.Common.{◌<◌, ◌-◌, length, arith, rules, refl, nat_eq}
+use Rattle.std.proofs.{Common.{◌<◌, ◌-◌, length, arith, rules, refl, nat_eq}, lemmas.Bool.Decides.Decides-eqb}
 use Rattle.rlp.specs.Format.Framing.{IsCanonicalWithin}
 use Rattle.rlp_tool.specs.RawItems.{deepest_raw_item}
 use Rattle.rlp_tool.proofs.RawLemmas.{at_end, next_item, none_brought, no_bytes, not_empty, not_true, refuted, shorter_rest, stray_bytes, stray_item}
-use Rattle.rlp_tool.proofs.RawLemmas.{stray_rest, zero_test}
-use Rattle.rlp_tool.proofs.building.raw_items_are_canonical.Goals.{then-awaited-eq0-via-then-awaited-eq0}
+use Rattle.rlp_tool.proofs.{RawLemmas.stray_rest, building.raw_items_are_canonical.Goals.then-awaited-eq0-via-then-awaited-eq0}
 use Rattle.rlp_tool.proofs.building.raw_items_are_canonical.Goals.{then-awaited-eq0-via-else-awaited-eq0+then-not-is_canonical}
 use Rattle.rlp_tool.proofs.building.raw_items_are_canonical.Goals as goal
 
@@ -42,4 +41,4 @@ pub returns : goal.returns
 returns c =
     let none = no_bytes _ c.loop-rest-test.ensures in
     at_end _ _ _ _ (nat_eq c.loop-rest.awaited 0) (none_brought _ _ c.parts_of_sized_are_sized.ensures.join c.join_is_injective.ensures
-    c.loop-rest.invariant.fits none) c.loop-rest.invariant.walked none (zero_test _)
+    c.loop-rest.invariant.fits none) c.loop-rest.invariant.walked none (Decides-eqb _ 0)

@@ -1,7 +1,7 @@
 use Rattle.std.proofs.Common.{[], refl}
-use Rattle.rlp_tool.specs.Building.{AreTaken}
-use Rattle.rlp_tool.proofs.AnswerLemmas.{answer-described, answer-ends, answer-finishes}
-use Rattle.rlp_tool.proofs.CallsLemmas.{are_joined, described_items}
+use Rattle.rlp.proofs.Streams.Descriptions.{items_anyhow}
+use Rattle.rlp_tool.specs.{Building.AreTaken, RawItems.IsShallow}
+use Rattle.rlp_tool.proofs.{AnswerLemmas.{answer-described, answer-ends, answer-finishes}, CallsLemmas.are_joined}
 use Rattle.rlp_tool.proofs.laws.finished_lines_are_answered.Goals as goal
 
 pub returns : goal.returns
@@ -9,7 +9,7 @@ returns c =
     let law = c.stream_joins_what_is_described.ensures in
     let line = c.args.line.now in
     record {
-      described = λ calls items says d. answer-described line calls items (law.finished [] calls items (described_items [] calls items d)) says d;
+      described = λ calls items says d. answer-described line calls items (law.finished [] calls items (items_anyhow IsShallow [] calls items d)) says d;
       finished = λ calls bytes says taken f. (
         are_joined [] calls f.last bytes taken (law.payloads [] calls taken.steps) f.admitted f.closed f.buffer,
         answer-finishes line calls bytes says taken f,

@@ -1,5 +1,4 @@
-use Rattle.std.proofs.Common.{arith}
-use Rattle.std.proofs.lemmas.Int.Digits.{number_more}
+use Rattle.std.proofs.{Common.arith, lemmas.Int.Digits.number_more}
 use Rattle.rlp_transactions.proofs.Parities.{large}
 use Rattle.rlp_transactions.proofs.eip155.small_number.Goals as goal
 

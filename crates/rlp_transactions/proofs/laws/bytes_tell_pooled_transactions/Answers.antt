@@ -1,5 +1,4 @@
-use Rattle.rlp_records.proofs.Bytes.{bytes_tell}
-use Rattle.rlp_records.proofs.TypedSums.{typed_strings}
+use Rattle.rlp_records.proofs.{Bytes.bytes_tell, TypedSums.typed_strings}
 use Rattle.rlp_transactions.proofs.Pooled.{consensus_same, hashed_same}
 use Rattle.rlp_transactions.specs.PooledTransaction.{pooled_types}
 use Rattle.rlp_transactions.proofs.laws.bytes_tell_pooled_transactions.Goals as goal

@@ -1,5 +1,4 @@
-use Rattle.rlp_records.proofs.Bytes.{bytes_tell}
-use Rattle.rlp_records.proofs.OtherTypes.{any_strings}
+use Rattle.rlp_records.proofs.{Bytes.bytes_tell, OtherTypes.any_strings}
 use Rattle.rlp_transactions.specs.Transaction.{transaction_types}
 use Rattle.rlp_transactions.proofs.laws.bytes_tell_transactions.Goals as goal
 

@@ -1,8 +1,7 @@
 use Rattle.std.proofs.Common.{◌≡◌, ◌+◌, ◌-◌, [], suc, take, arith}
 use Rattle.rlp_write.specs.Streams.Closing.{closed_bytes}
-use Rattle.rlp_write.proofs.Streams.Closings.{Brings, brings, closes_all, closes_more}
+use Rattle.rlp_write.proofs.{Streams.Closings.{Brings, brings, closes_all, closes_more}, closing.close_lists.Goals.After-shift}
 use Rattle.rlp_write.proofs.closing.close_lists.Goals as goal
-use Rattle.rlp_write.proofs.closing.close_lists.Goals.{After-shift}
 
 moved : (c : After-shift)
     → Brings (closed_bytes c.args.closing (take c.args.end c.args.buffer.now.items) [] c.args.lists.now) (c.loop-left.left - 1) c.shift.new.self.items

@@ -1,7 +1,5 @@
-use Rattle.std.proofs.Common.{◌≡◌, ◌∷◌, suc, refl, ap, sym, ◌∙◌, arith}
-use Rattle.std.proofs.lemmas.Bool.{cond-false}
-use Rattle.rlp_write.specs.Streams.Stream.{is_last}
-use Rattle.rlp_write.specs.Streams.Closing.{filled, growth}
+use Rattle.std.proofs.{Common.{◌≡◌, ◌∷◌, suc, refl, ap, sym, ◌∙◌, arith}, lemmas.Bool.cond-false}
+use Rattle.rlp_write.specs.{Streams.Stream.is_last, Streams.Closing.{filled, growth}}
 use Rattle.rlp_write.proofs.Streams.Closings.{planned_more}
 use Rattle.rlp_write.proofs.closing.plan_count.Goals as goal
 

@@ -1,6 +1,5 @@
 use Rattle.std.proofs.Common.{refl}
-use Rattle.rlp_write.proofs.Streams.Growth.{grows_same}
-use Rattle.rlp_write.proofs.Streams.Refused.{on_err}
+use Rattle.rlp_write.proofs.{Streams.Growth.grows_same, Streams.Refused.on_err}
 use Rattle.rlp_write.proofs.envelope.write_envelope.Goals as goal
 
 pub returns-in_err-put_u8-clause-grows : goal.returns-in_err-put_u8-clause-grows

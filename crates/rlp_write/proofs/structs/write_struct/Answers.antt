@@ -1,7 +1,5 @@
 use Rattle.std.proofs.Common.{refl}
-use Rattle.rlp_write.proofs.Streams.Fields.{some_grows, all_fill}
-use Rattle.rlp_write.proofs.Streams.Growth.{grows_same}
-use Rattle.rlp_write.proofs.Streams.Refused.{on_err, on_err_too, on_ok_too}
+use Rattle.rlp_write.proofs.{Streams.Fields.{some_grows, all_fill}, Streams.Growth.grows_same, Streams.Refused.{on_err, on_err_too, on_ok_too}}
 use Rattle.rlp_write.proofs.structs.write_struct.Goals as goal
 
 pub returns-in-None-clause-refused : goal.returns-in-None-clause-refused

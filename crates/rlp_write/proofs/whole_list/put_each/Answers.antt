@@ -1,7 +1,6 @@
 use Rattle.std.proofs.Common.{◌++◌, map, take, ap, sym, ◌∙◌, append_assoc}
 use Rattle.rlp_format.specs.Format.Encoding.{encoding, join}
-use Rattle.rlp_write.proofs.Streams.Filling.{all_more}
-use Rattle.rlp_write.proofs.Streams.Joined.{put_alone, joined_more}
+use Rattle.rlp_write.proofs.{Streams.Filling.all_more, Streams.Joined.{put_alone, joined_more}}
 use Rattle.rlp_write.proofs.whole_list.put_each.Goals as goal
 
 pub loop-value-preserved : goal.loop-value-preserved

@@ -1,4 +1,4 @@
-use Rattle.rlp_codec.proofs.StringLaws.{number_fits}
+use Rattle.rlp_reading.proofs.StringLaws.{number_fits}
 use Rattle.rlp.proofs.impls.number.check_digits.Goals as goal
 
 pub returns-clause-fits : goal.returns-clause-fits

@@ -1,6 +1,5 @@
-use Rattle.rlp_reading.specs.Views.View.{view_of}
-use Rattle.rlp_codec.specs.Form.{byte_array}
-use Rattle.rlp_codec.proofs.Readings.{array_whole, one_reading}
+use Rattle.rlp_reading.specs.{Views.View.view_of, Form.byte_array}
+use Rattle.rlp_reading.proofs.Readings.{array_whole, one_reading}
 use Rattle.rlp.proofs.laws.reading.arrays_are_read.Goals as goal
 
 pub returns : goal.returns

@@ -1,7 +1,6 @@
 use Rattle.std.proofs.Common.{List, ℕ}
-use Rattle.rlp_reading.specs.Views.View.{view_of}
-use Rattle.rlp_codec.specs.Form.{byte_string}
-use Rattle.rlp_codec.proofs.Readings.{bytes_whole, one_reading}
+use Rattle.rlp_reading.specs.{Views.View.view_of, Form.byte_string}
+use Rattle.rlp_reading.proofs.Readings.{bytes_whole, one_reading}
 use Rattle.rlp.proofs.laws.reading.bytes_are_read.Goals as goal
 
 pub returns : goal.returns

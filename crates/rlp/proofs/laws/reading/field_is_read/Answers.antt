@@ -1,6 +1,6 @@
 use Rattle.std.proofs.Common.{arith}
 use Rattle.rlp_format.proofs.Lemmas.Digits.{bytes_held}
-use Rattle.rlp_codec.proofs.Readings.{item_one}
+use Rattle.rlp_reading.proofs.Readings.{item_one}
 use Rattle.rlp.proofs.laws.reading.field_is_read.Goals as goal
 
 pub returns : goal.returns

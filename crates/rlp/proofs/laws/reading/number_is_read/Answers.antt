@@ -1,6 +1,5 @@
-use Rattle.rlp_reading.specs.Views.View.{view_of}
-use Rattle.rlp_codec.specs.Form.{number}
-use Rattle.rlp_codec.proofs.Readings.{number_whole, one_reading}
+use Rattle.rlp_reading.specs.{Views.View.view_of, Form.number}
+use Rattle.rlp_reading.proofs.Readings.{number_whole, one_reading}
 use Rattle.rlp.proofs.laws.reading.number_is_read.Goals as goal
 
 pub returns : goal.returns

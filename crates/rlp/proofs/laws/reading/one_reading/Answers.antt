@@ -1,4 +1,4 @@
-use Rattle.rlp_codec.proofs.Readings.{one_answer}
+use Rattle.rlp_reading.proofs.Readings.{one_answer}
 use Rattle.rlp.proofs.laws.reading.one_reading.Goals as goal
 
 pub returns : goal.returns

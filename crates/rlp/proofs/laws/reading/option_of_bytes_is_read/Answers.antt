@@ -1,7 +1,6 @@
 use Rattle.std.proofs.Common.{List, ℕ}
-use Rattle.rlp_reading.specs.Views.View.{view_of}
-use Rattle.rlp_codec.specs.Form.{byte_string, option}
-use Rattle.rlp_codec.proofs.Readings.{bytes_whole, one_reading, option_whole}
+use Rattle.rlp_reading.specs.{Views.View.view_of, Form.{byte_string, option}}
+use Rattle.rlp_reading.proofs.Readings.{bytes_whole, one_reading, option_whole}
 use Rattle.rlp.proofs.laws.reading.option_of_bytes_is_read.Goals as goal
 
 pub returns : goal.returns

@@ -1,7 +1,7 @@
 use Rattle.std.proofs.Common.{arith}
 use Rattle.rlp_format.proofs.Lemmas.Digits.{bytes_held}
-use Rattle.rlp_codec.specs.Form.{option_reading}
-use Rattle.rlp_codec.proofs.Readings.{option_one}
+use Rattle.rlp_reading.specs.Form.{option_reading}
+use Rattle.rlp_reading.proofs.Readings.{option_one}
 use Rattle.rlp.proofs.laws.reading.option_of_option_is_read.Goals as goal
 
 pub returns : goal.returns

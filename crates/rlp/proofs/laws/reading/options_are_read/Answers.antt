@@ -1,7 +1,6 @@
 use Rattle.std.proofs.Common.{List, ℕ}
-use Rattle.rlp_reading.specs.Views.View.{view_of}
-use Rattle.rlp_codec.specs.Form.{number, option, text, truth_value}
-use Rattle.rlp_codec.proofs.Readings.{number_whole, one_reading, option_whole, text_whole, truth_whole}
+use Rattle.rlp_reading.specs.{Views.View.view_of, Form.{number, option, text, truth_value}}
+use Rattle.rlp_reading.proofs.Readings.{number_whole, one_reading, option_whole, text_whole, truth_whole}
 use Rattle.rlp.proofs.laws.reading.options_are_read.Goals as goal
 
 pub returns : goal.returns

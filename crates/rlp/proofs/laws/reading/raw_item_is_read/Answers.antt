@@ -1,5 +1,5 @@
-use Rattle.rlp_codec.specs.Form.{raw_item}
-use Rattle.rlp_codec.proofs.Readings.{one_reading, raw_whole}
+use Rattle.rlp_reading.specs.Form.{raw_item}
+use Rattle.rlp_reading.proofs.Readings.{one_reading, raw_whole}
 use Rattle.rlp.proofs.laws.reading.raw_item_is_read.Goals as goal
 
 pub returns : goal.returns

@@ -1,5 +1,5 @@
-use Rattle.rlp_codec.specs.Form.{struct_reading}
-use Rattle.rlp_codec.proofs.Readings.{one_answer}
+use Rattle.rlp_reading.specs.Form.{struct_reading}
+use Rattle.rlp_reading.proofs.Readings.{one_answer}
 use Rattle.rlp.proofs.laws.reading.struct_is_read.Goals as goal
 
 pub returns : goal.returns

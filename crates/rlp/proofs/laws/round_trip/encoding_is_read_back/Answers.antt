@@ -1,6 +1,6 @@
 use Rattle.std.proofs.Common.{arith}
-use Rattle.rlp_codec.specs.Laws.{form_of}
-use Rattle.rlp_codec.proofs.Corollaries.{gives_back}
+use Rattle.rlp_reading.specs.Laws.{form_of}
+use Rattle.rlp_reading.proofs.Corollaries.{gives_back}
 use Rattle.rlp.proofs.laws.round_trip.encoding_is_read_back.Goals as goal
 
 pub returns : goal.returns

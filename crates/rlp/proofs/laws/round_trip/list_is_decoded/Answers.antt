@@ -1,7 +1,7 @@
 use Rattle.std.proofs.Common.{arith}
 use Rattle.std.specs.Vec.{vec_items}
-use Rattle.rlp_codec.specs.Laws.{form_of}
-use Rattle.rlp_codec.proofs.Corollaries.{list_alike, list_memory}
+use Rattle.rlp_reading.specs.Laws.{form_of}
+use Rattle.rlp_reading.proofs.Corollaries.{list_alike, list_memory}
 use Rattle.rlp.proofs.laws.round_trip.list_is_decoded.Goals as goal
 
 pub returns-clause-alike : goal.returns-clause-alike

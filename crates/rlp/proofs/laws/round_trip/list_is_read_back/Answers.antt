@@ -1,7 +1,6 @@
 use Rattle.std.proofs.Common.{arith}
-use Rattle.rlp_codec.specs.Laws.{form_of}
-use Rattle.rlp_codec.proofs.Corollaries.{list_item_back, lists_back}
-use Rattle.rlp_reading.proofs.Values.Decoding.{list_items}
+use Rattle.rlp_reading.specs.Laws.{form_of}
+use Rattle.rlp_reading.proofs.{Corollaries.{list_item_back, lists_back}, Values.Decoding.list_items}
 use Rattle.rlp.proofs.laws.round_trip.list_is_read_back.Goals as goal
 
 pub returns-clause-items : goal.returns-clause-items

@@ -1,8 +1,7 @@
 use Rattle.std.proofs.Common.{IsTrue, arith}
-use Rattle.rlp_reading.specs.Views.View.{view_of}
+use Rattle.rlp_reading.specs.{Views.View.view_of, Laws.form_of}
 use Rattle.rlp_format.proofs.Lemmas.Digits.{bytes_held}
-use Rattle.rlp_codec.specs.Laws.{form_of}
-use Rattle.rlp_codec.proofs.Corollaries.{answers_alike, answers_begin, answers_memory}
+use Rattle.rlp_reading.proofs.Corollaries.{answers_alike, answers_begin, answers_memory}
 use Rattle.rlp.proofs.laws.round_trip.scalar_is_decoded.Goals as goal
 
 pub returns-clause-only : goal.returns-clause-only

@@ -1,6 +1,6 @@
 use Rattle.std.proofs.Common.{arith}
 use Rattle.rlp_format.proofs.Lemmas.Digits.{bytes_held}
-use Rattle.rlp_codec.proofs.Readings.{option_one}
+use Rattle.rlp_reading.proofs.Readings.{option_one}
 use Rattle.rlp.proofs.laws.strict.strict_option_is_read.Goals as goal
 
 pub returns : goal.returns

@@ -1,7 +1,6 @@
 use Rattle.std.proofs.Common.{List, ℕ}
-use Rattle.rlp_reading.specs.Views.View.{strict_view_of}
-use Rattle.rlp_codec.specs.Form.{byte_array, byte_string, number, text, truth_value}
-use Rattle.rlp_codec.proofs.Readings.{array_whole, bytes_whole, number_whole, one_reading, text_whole, truth_whole}
+use Rattle.rlp_reading.specs.{Views.View.strict_view_of, Form.{byte_array, byte_string, number, text, truth_value}}
+use Rattle.rlp_reading.proofs.Readings.{array_whole, bytes_whole, number_whole, one_reading, text_whole, truth_whole}
 use Rattle.rlp.proofs.laws.strict.strict_values_are_read.Goals as goal
 
 pub returns : goal.returns

@@ -1,7 +1,7 @@
 use Rattle.std.proofs.Common.{arith}
 use Rattle.rlp_format.proofs.Lemmas.Digits.{bytes_held}
-use Rattle.rlp_codec.specs.Laws.{form_of}
-use Rattle.rlp_codec.proofs.Corollaries.{gives_strictly}
+use Rattle.rlp_reading.specs.Laws.{form_of}
+use Rattle.rlp_reading.proofs.Corollaries.{gives_strictly}
 use Rattle.rlp.proofs.laws.strict.whole_encoding_is_read.Goals as goal
 
 pub returns : goal.returns

@@ -1,6 +1,5 @@
-use Rattle.std.proofs.Common.{◌≡◌, ℕ, ◌*◌, ◌+◌, ◌<◌, ◌^◌, List, [], ◌∷◌, length, refl, arith}
+use Rattle.std.proofs.{Common.{◌≡◌, ℕ, ◌*◌, ◌+◌, ◌<◌, ◌^◌, List, [], ◌∷◌, length, refl, arith}, lemmas.List.Elements.recursion_from_All}
 use Rattle.std.specs.Int.Digits.{number_from_digits_after}
-use Rattle.std.proofs.lemmas.List.Elements.{recursion_from_All}
 use Rattle.rlp_format.proofs.Lemmas.Digits.{bytes_held}
 use Rattle.rlp_reading.proofs.Lemmas.Reading.{Bytes}
 use Rattle.rlp.proofs.laws.uints.equal_numbers_are_equal_digits.Goals as goal

@@ -1,5 +1,5 @@
 use Rattle.std.proofs.Common.{◌≡◌, ◌+◌, length}
-use Rattle.rlp_codec.specs.Form.{fault_path, read_each}
+use Rattle.rlp_reading.specs.Form.{fault_path, read_each}
 use Rattle.rlp.proofs.traits.placed.put_list_path.Given as goal
 
 -- no item before the place has a fault

@@ -1,6 +1,5 @@
 -- The body is empty. The proof opens the borrow, and closes it at the greater count.
-use Rattle.std.proofs.Common.{◌+◌, [], ◌∷◌, refl, w64}
-use Rattle.std.proofs.raw_atomic.Walks.{proved}
+use Rattle.std.proofs.{Common.{◌+◌, [], ◌∷◌, refl, w64}, raw_atomic.Walks.proved}
 use base.Logic.{id⊢}
 use base.Fml.{ftrue, flft}
 use mir.Syntax.{named}

@@ -1,7 +1,6 @@
 use Rattle.std.proofs.Common.{ℕ, ◌<◌, ◌^◌, length, arith, inl, Err}
 use Rattle.rlp_format.proofs.Lemmas.Digits.{bytes_held}
-use Rattle.rlp_messages.proofs.Messages.{body_fails, body_value, id_fails, memory_message, message_whole}
-use Rattle.rlp_messages.proofs.WithinBounds.{without_bound}
+use Rattle.rlp_messages.proofs.{Messages.{body_fails, body_value, id_fails, memory_message, message_whole}, WithinBounds.without_bound}
 use Rattle.rlp_messages.proofs.message.Message.from_message.Goals as goal
 
 pub returns-in-Err-clause-fault : goal.returns-in-Err-clause-fault

@@ -1,7 +1,6 @@
 use Rattle.std.proofs.Common.{ℕ, ◌<◌, ◌^◌, length, arith, inl, Err}
 use Rattle.rlp_format.proofs.Lemmas.Digits.{bytes_held}
-use Rattle.rlp_messages.proofs.Messages.{message_whole}
-use Rattle.rlp_messages.proofs.WithinBounds.{fault_within, id_fails_within, memory_within, too_many_bytes, value_within}
+use Rattle.rlp_messages.proofs.{Messages.message_whole, WithinBounds.{fault_within, id_fails_within, memory_within, too_many_bytes, value_within}}
 use Rattle.rlp_messages.proofs.message.Message.from_message_at_most.Goals as goal
 
 pub returns-then-bytes-most-clause-fault : goal.returns-then-bytes-most-clause-fault

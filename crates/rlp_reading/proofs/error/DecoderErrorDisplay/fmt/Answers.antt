@@ -1,6 +1,4 @@
-use Rattle.std.proofs.Common.{rules, sym, arith}
-use Rattle.std.proofs.lemmas.Grind.{common_steps}
-use Rattle.std.proofs.Output.{has_written_styled_append, has_written_styled_of_eq}
+use Rattle.std.proofs.{Common.{rules, sym, arith}, lemmas.Grind.common_steps, Output.{has_written_styled_append, has_written_styled_of_eq}}
 use Rattle.rlp_reading.proofs.error.DecoderErrorDisplay.fmt.Goals as goal
 
 pub returns-in_ok-write_str-in-Err-2-clause-styled : goal.returns-in_ok-write_str-in-Err-2-clause-styled

@@ -1,7 +1,6 @@
 use Rattle.std.proofs.Common.{◌≡◌, true, ap, sym, ◌∙◌}
-use Rattle.rlp_reading.specs.Format.Framing.{begins_as_list}
+use Rattle.rlp_reading.specs.{Format.Framing.begins_as_list, Views.View.Reading}
 use Rattle.rlp_reading.proofs.Lemmas.Numbered.{payload-fault}
-use Rattle.rlp_reading.specs.Views.View.{Reading}
 use Rattle.rlp_reading.proofs.items.ItemReader.enter_list.Goals as goal
 
 pub returns-in-Err-clause-rest : goal.returns-in-Err-clause-rest

@@ -1,9 +1,7 @@
 use Rattle.std.proofs.Common.{◌≡◌, ◌-◌, ◌≤◌, length, length-drop, take, drop, ap, sym, subst, ◌∙◌, arith}
 use Rattle.rlp_write.specs.Streams.Closing.{header_len}
-use Rattle.rlp_write.proofs.Streams.Alone.{alone_written, payload_moved}
-use Rattle.rlp_write.proofs.Streams.MovedBytes.{Follows}
+use Rattle.rlp_write.proofs.{Streams.Alone.{alone_written, payload_moved}, Streams.MovedBytes.Follows, buffer.alone.list_alone.Goals.After-shift}
 use Rattle.rlp_write.proofs.buffer.alone.list_alone.Goals as goal
-use Rattle.rlp_write.proofs.buffer.alone.list_alone.Goals.{After-shift}
 
 pub overflow_add-room : goal.overflow_add-room
 overflow_add-room c = omega (arith, c.list_header_len-header.ensures.few, c.len.ensures.bound, c.saturating_sub-len.ensures)

@@ -1,5 +1,4 @@
-use Rattle.rlp_write.proofs.Streams.Refused.{on_err_too, on_ok_too}
-use Rattle.rlp_write.proofs.Streams.Written.{parts_written, parts_left}
+use Rattle.rlp_write.proofs.{Streams.Refused.{on_err_too, on_ok_too}, Streams.Written.{parts_written, parts_left}}
 use Rattle.rlp_write.proofs.buffer.strings.write_parts_of.Goals as goal
 
 pub returns-clause-ok : goal.returns-clause-ok

@@ -1,7 +1,6 @@
 use Rattle.std.proofs.Common.{sym, ap, ◌∙◌, refl}
 use Rattle.rlp_write.specs.Streams.Stream.{Seen, closed_size_with}
-use Rattle.rlp_write.proofs.Streams.FlatBuffer.{laid_descends, left_behind}
-use Rattle.rlp_write.proofs.Streams.ClosedSize.{closed_size_is}
+use Rattle.rlp_write.proofs.{Streams.FlatBuffer.{laid_descends, left_behind}, Streams.ClosedSize.closed_size_is}
 use Rattle.rlp_write.proofs.flat.RlpStream.checked_estimate_size.Goals as goal
 
 pub closed_len-requires : goal.closed_len-requires

@@ -1,5 +1,4 @@
-use Rattle.std.proofs.Common.{◌≤◌, length, take, arith}
-use Rattle.std.proofs.lemmas.List.{length-take-le}
+use Rattle.std.proofs.{Common.{◌≤◌, length, take, arith}, lemmas.List.length-take-le}
 use Rattle.rlp_write.proofs.Streams.FlatBuffer.{start_le}
 use Rattle.rlp_write.proofs.flat.RlpStream.clear.Goals as goal
 

@@ -1,7 +1,5 @@
-use Rattle.std.proofs.Common.{◌≡◌, ap, sym, ◌∙◌, arith}
-use Rattle.std.proofs.lemmas.Bool.Decides.{nat_tests}
-use Rattle.rlp_write.specs.Streams.Stream.{Seen, closed_size}
-use Rattle.rlp_write.specs.Streams.Layout.{state_of}
+use Rattle.std.proofs.{Common.{◌≡◌, ap, sym, ◌∙◌, arith}, lemmas.Bool.Decides.nat_tests}
+use Rattle.rlp_write.specs.{Streams.Stream.{Seen, closed_size}, Streams.Layout.state_of}
 use Rattle.rlp_write.proofs.Streams.FlatBuffer.{laid_bytes, bytes_closed, none_closed}
 use Rattle.rlp_write.proofs.flat.RlpStream.is_empty.Goals as goal
 

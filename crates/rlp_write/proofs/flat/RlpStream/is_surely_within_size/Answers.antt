@@ -1,8 +1,6 @@
-use Rattle.std.proofs.Common.{◌+◌, ◌-◌, ◌*◌, ◌≤◌, length, arith, subst}
-use Rattle.std.proofs.lemmas.Bool.Decides.{nat_tests}
+use Rattle.std.proofs.{Common.{◌+◌, ◌-◌, ◌*◌, ◌≤◌, length, arith, subst}, lemmas.Bool.Decides.nat_tests}
 use Rattle.rlp_write.specs.Streams.Stream.{Seen, closed_size_with}
-use Rattle.rlp_write.proofs.Streams.FlatBuffer.{start_le}
-use Rattle.rlp_write.proofs.Streams.ClosedSize.{within_few}
+use Rattle.rlp_write.proofs.{Streams.FlatBuffer.start_le, Streams.ClosedSize.within_few}
 use Rattle.rlp_write.proofs.flat.RlpStream.is_surely_within_size.Goals as goal
 
 pub overflow_sub-most : goal.overflow_sub-most

@@ -1,9 +1,6 @@
 use Rattle.std.proofs.Common.{◌≡◌, sym, ap, ◌∙◌, refl, Some}
-use Rattle.rlp_write.specs.Streams.Stream.{Seen, closed_size}
-use Rattle.rlp_write.specs.Streams.Closing.{closed_len}
-use Rattle.rlp_write.specs.Streams.Layout.{state_of}
-use Rattle.rlp_write.proofs.Streams.FlatBuffer.{laid_descends, left_behind}
-use Rattle.rlp_write.proofs.Streams.ClosedSize.{closed_size_is, closed_size_none, found_len}
+use Rattle.rlp_write.specs.{Streams.Stream.{Seen, closed_size}, Streams.Closing.closed_len, Streams.Layout.state_of}
+use Rattle.rlp_write.proofs.{Streams.FlatBuffer.{laid_descends, left_behind}, Streams.ClosedSize.{closed_size_is, closed_size_none, found_len}}
 use Rattle.rlp_write.proofs.flat.RlpStream.len.Goals as goal
 
 pub closed_len-requires : goal.closed_len-requires

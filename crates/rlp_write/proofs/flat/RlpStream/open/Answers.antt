@@ -1,6 +1,5 @@
 use Rattle.std.proofs.Common.{◌++◌, ◌∷◌, [], ap, ◌∙◌}
-use Rattle.rlp_write.proofs.Streams.FlatBuffer.{stands_opened}
-use Rattle.rlp_write.proofs.Streams.Opening.{stands}
+use Rattle.rlp_write.proofs.{Streams.FlatBuffer.stands_opened, Streams.Opening.stands}
 use Rattle.rlp_write.proofs.flat.RlpStream.open.Goals as goal
 
 pub returns-clause-ok : goal.returns-clause-ok

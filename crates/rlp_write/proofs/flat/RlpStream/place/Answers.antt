@@ -1,7 +1,5 @@
 use Rattle.std.proofs.Common.{◌≡◌, ℕ, List, [], ◌∷◌, length, refl, ap, sym, ◌∙◌}
-use Rattle.rlp_write.specs.declared.open_lists.Placeholder.{Placeholder}
-use Rattle.rlp_write.specs.Streams.Stream.{awaited, Seen}
-use Rattle.rlp_write.specs.Streams.Places.{place_of}
+use Rattle.rlp_write.specs.{declared.open_lists.Placeholder.Placeholder, Streams.Stream.{awaited, Seen}, Streams.Places.place_of}
 use Rattle.rlp_write.specs.Streams.Placeholders.{innermost_awaits, lists_of}
 use Rattle.rlp_write.proofs.Streams.FlatBuffer.{raw_state, length-lists_of}
 use Rattle.rlp_write.proofs.flat.RlpStream.place.Goals as goal

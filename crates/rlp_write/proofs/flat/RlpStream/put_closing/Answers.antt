@@ -1,8 +1,6 @@
 use Rattle.std.proofs.Common.{◌≡◌, ◌+◌, length, length-append, ap, refl, ◌∙◌, arith}
 use Rattle.rlp_write.specs.Streams.Stream.{Seen, closed_size}
-use Rattle.rlp_write.proofs.Streams.Closings.{descends_le}
-use Rattle.rlp_write.proofs.Streams.FlatBuffer.{laid_descends, stands_filled, stands_moved}
-use Rattle.rlp_write.proofs.Streams.Opening.{stands}
+use Rattle.rlp_write.proofs.{Streams.Closings.descends_le, Streams.FlatBuffer.{laid_descends, stands_filled, stands_moved}, Streams.Opening.stands}
 use Rattle.rlp_write.proofs.flat.RlpStream.put_closing.Goals as goal
 
 pub plan_count-plan-requires-clause-order : goal.plan_count-plan-requires-clause-order

@@ -1,8 +1,7 @@
 use Rattle.std.proofs.Common.{◌∙◌}
 use Rattle.rlp_format.specs.Format.Encoding.{string, encoding}
 use Rattle.rlp_write.specs.Streams.Stream.{IsAsBefore}
-use Rattle.rlp_write.proofs.Streams.Growth.{grows_same, grows_put}
-use Rattle.rlp_write.proofs.Streams.Refused.{on_err, on_err_too}
+use Rattle.rlp_write.proofs.{Streams.Growth.{grows_same, grows_put}, Streams.Refused.{on_err, on_err_too}}
 use Rattle.rlp_write.proofs.flat.RlpStream.put_iter.Goals as goal
 
 pub returns-in_err-put_string_of-clause-refused : goal.returns-in_err-put_string_of-clause-refused

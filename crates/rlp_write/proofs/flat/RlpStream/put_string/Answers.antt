@@ -1,9 +1,6 @@
 use Rattle.std.proofs.Common.{ap}
 use Rattle.rlp_write.specs.Streams.Stream.{Seen}
-use Rattle.rlp_write.proofs.Streams.FlatBuffer.{stands_put}
-use Rattle.rlp_write.proofs.Streams.Growth.{grows_same}
-use Rattle.rlp_write.proofs.Streams.Refused.{on_err}
-use Rattle.rlp_write.proofs.Streams.Opening.{stands}
+use Rattle.rlp_write.proofs.{Streams.FlatBuffer.stands_put, Streams.Growth.grows_same, Streams.Refused.on_err, Streams.Opening.stands}
 use Rattle.rlp_write.proofs.flat.RlpStream.put_string.Goals as goal
 
 pub returns-in_err-write_string-clause-grows : goal.returns-in_err-write_string-clause-grows

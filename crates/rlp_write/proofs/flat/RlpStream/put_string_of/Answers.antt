@@ -1,5 +1,4 @@
-use Rattle.rlp_write.proofs.Streams.FlatBuffer.{stands_put}
-use Rattle.rlp_write.proofs.Streams.Opening.{stands}
+use Rattle.rlp_write.proofs.{Streams.FlatBuffer.stands_put, Streams.Opening.stands}
 use Rattle.rlp_write.proofs.flat.RlpStream.put_string_of.Goals as goal
 
 pub invariant_of-self-2 : goal.invariant_of-self-2

@@ -1,7 +1,6 @@
 use Rattle.std.proofs.Common.{sym, ◌∙◌}
 use Rattle.rlp_write.specs.Streams.Stream.{IsAsBefore}
-use Rattle.rlp_write.proofs.Streams.Growth.{grows_uncounted, counted_item, item_counted}
-use Rattle.rlp_write.proofs.Streams.Joined.{put_alone}
+use Rattle.rlp_write.proofs.{Streams.Growth.{grows_uncounted, counted_item, item_counted}, Streams.Joined.put_alone}
 use Rattle.rlp_write.proofs.Streams.Refused.{on_ok_too, on_err_too}
 use Rattle.rlp_write.proofs.flat.RlpStream.put_value.Goals as goal
 

@@ -1,7 +1,6 @@
 use Rattle.std.proofs.Common.{ap, ◌∙◌, length, arith}
 use Rattle.rlp_write.specs.Streams.Stream.{State, Seen, with_awaiting}
-use Rattle.rlp_write.proofs.Streams.FlatBuffer.{stands_awaiting, length-lists_of}
-use Rattle.rlp_write.proofs.Streams.Opening.{stands}
+use Rattle.rlp_write.proofs.{Streams.FlatBuffer.{stands_awaiting, length-lists_of}, Streams.Opening.stands}
 use Rattle.rlp_write.proofs.flat.RlpStream.set_awaits.Goals as goal
 
 pub set_awaits-requires : goal.set_awaits-requires

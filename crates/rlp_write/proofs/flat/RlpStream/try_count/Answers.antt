@@ -1,7 +1,6 @@
 use Rattle.std.proofs.Common.{◌≡◌, ◌<◌, [], ap, arith, ◌∙◌}
 use Rattle.rlp_write.specs.Streams.Stream.{put, count}
-use Rattle.rlp_write.proofs.Streams.States.{put_none}
-use Rattle.rlp_write.proofs.Streams.Refused.{on_ok_too, ok_unless}
+use Rattle.rlp_write.proofs.{Streams.States.put_none, Streams.Refused.{on_ok_too, ok_unless}}
 use Rattle.rlp_write.proofs.flat.RlpStream.try_count.Goals as goal
 
 pub returns-clause-ok : goal.returns-clause-ok

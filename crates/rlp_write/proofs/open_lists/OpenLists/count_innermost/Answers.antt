@@ -1,6 +1,5 @@
 use Rattle.std.proofs.Common.{ℕ, Option, Some, refl, arith, ap, sym, ◌∙◌}
-use Rattle.rlp_write.specs.declared.open_lists.Placeholder.{Placeholder}
-use Rattle.rlp_write.specs.Streams.Stream.{awaits_after}
+use Rattle.rlp_write.specs.{declared.open_lists.Placeholder.Placeholder, Streams.Stream.awaits_after}
 use Rattle.rlp_write.proofs.Streams.Closings.{set_last}
 use Rattle.rlp_write.proofs.open_lists.OpenLists.count_innermost.Goals as goal
 

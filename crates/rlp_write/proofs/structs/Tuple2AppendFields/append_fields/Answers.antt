@@ -1,5 +1,4 @@
-use Rattle.rlp_write.proofs.Streams.Fields.{some_first, some_second, both_added}
-use Rattle.rlp_write.proofs.Streams.Refused.{on_err, on_err_too, on_ok_too}
+use Rattle.rlp_write.proofs.{Streams.Fields.{some_first, some_second, both_added}, Streams.Refused.{on_err, on_err_too, on_ok_too}}
 use Rattle.rlp_write.proofs.structs.Tuple2AppendFields.append_fields.Goals as goal
 
 pub returns-in_err-append_fields-clause-refused : goal.returns-in_err-append_fields-clause-refused

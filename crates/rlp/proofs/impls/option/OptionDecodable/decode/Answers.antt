@@ -1,6 +1,6 @@
 use Rattle.std.proofs.Common.{ap, inl}
-use Rattle.rlp_codec.specs.Form.{and_then, read_option}
-use Rattle.rlp_codec.proofs.ListLaws.{items_faulty}
+use Rattle.rlp_reading.specs.Form.{and_then, read_option}
+use Rattle.rlp_reading.proofs.ListLaws.{items_faulty}
 use Rattle.rlp.proofs.impls.option.OptionDecodable.decode.Goals as goal
 
 pub returns-in-Err-clause-fault : goal.returns-in-Err-clause-fault

@@ -1,12 +1,8 @@
-use Rattle.std.proofs.Common.{◌≡◌, ◌<◌, ◌^◌, length, true, false, ap, arith, subst, sym, ◌∙◌}
-use Rattle.std.proofs.lemmas.Result.{on_err_weaker}
+use Rattle.std.proofs.{Common.{◌≡◌, ◌<◌, ◌^◌, length, true, false, ap, arith, subst, sym, ◌∙◌}, lemmas.Result.on_err_weaker}
 use Rattle.std.proofs.lemmas.Grind.{common_steps}
-use Rattle.rlp_reading.specs.Format.Framing.{begins_as_list}
-use Rattle.rlp_reading.specs.Views.View.{View}
-use Rattle.rlp_reading.specs.Values.RawItem.{IsRawItem, raw_item_of}
+use Rattle.rlp_reading.specs.{Format.Framing.begins_as_list, Views.View.View, Values.RawItem.{IsRawItem, raw_item_of}}
 use Rattle.rlp_reading.proofs.Lemmas.RawItems.{raw_is_list, raw_list, raw_string_read}
-use Rattle.rlp.proofs.Growth.{grows_same}
-use Rattle.rlp.proofs.RawWriting.{raw_string_put}
+use Rattle.rlp.proofs.{Growth.grows_same, RawWriting.raw_string_put}
 use Rattle.rlp.proofs.impls.raw_item.RawItemEncodable.rlp_append.Goals as goal
 
 pub append_list_encoding-requires : goal.append_list_encoding-requires

@@ -1,5 +1,5 @@
 use Rattle.std.proofs.Common.{◌≡◌, ◌++◌, length, map}
-use Rattle.rlp_codec.specs.Form.{map_value, read_each}
+use Rattle.rlp_reading.specs.Form.{map_value, read_each}
 use Rattle.rlp.proofs.rlpin.rlp.Rlp.as_list.Given as goal
 
 -- the values so far come before what the items that are left give, and the bytes after the items are the same

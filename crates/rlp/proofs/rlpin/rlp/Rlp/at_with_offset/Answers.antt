@@ -1,7 +1,5 @@
-use Rattle.std.proofs.Common.{◌≡◌, length, Ok, Err, sym, ◌∙◌, ap, arith, subst}
-use Rattle.std.proofs.lemmas.Result.{err_from_is_err_and}
-use Rattle.rlp_reading.specs.Format.Framing.{framing, value, payload}
-use Rattle.rlp_reading.specs.Views.View.{View}
+use Rattle.std.proofs.{Common.{◌≡◌, length, Ok, Err, sym, ◌∙◌, ap, arith, subst}, lemmas.Result.err_from_is_err_and}
+use Rattle.rlp_reading.specs.{Format.Framing.{framing, value, payload}, Views.View.View}
 use Rattle.rlp_reading.proofs.Lemmas.Numbered.{told_begins}
 use Rattle.rlp_reading.proofs.Views.ItemPlaces.{IsWalked, walked-none, walked-one, walked-item, walked-past, walked-length, not_framed_item, not_told_item}
 use Rattle.rlp_reading.proofs.Format.StrictLists.{value-payload}

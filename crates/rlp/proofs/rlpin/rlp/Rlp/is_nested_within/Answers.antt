@@ -1,9 +1,6 @@
 use Rattle.std.proofs.Common.{◌≡◌, ◌≤◌, ◌↔◌, IsTrue, ℕ, ap, subst, sym, ◌∙◌}
-use Rattle.rlp_reading.specs.Format.Framing.{value}
-use Rattle.rlp_reading.specs.Views.Depth.{depth}
-use Rattle.rlp_reading.specs.Views.View.{View}
-use Rattle.rlp_reading.proofs.Format.Following.{depth-followed}
-use Rattle.rlp_reading.proofs.Views.Printing.{depth-fault, shallow-other}
+use Rattle.rlp_reading.specs.{Format.Framing.value, Views.Depth.depth, Views.View.View}
+use Rattle.rlp_reading.proofs.{Format.Following.depth-followed, Views.Printing.{depth-fault, shallow-other}}
 use Rattle.rlp.proofs.rlpin.rlp.Rlp.is_nested_within.Goals as goal
 
 pub returns-in-Ok : goal.returns-in-Ok

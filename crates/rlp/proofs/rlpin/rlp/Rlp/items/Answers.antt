@@ -1,6 +1,5 @@
 use Rattle.std.proofs.Common.{ap, sym, ◌∙◌}
-use Rattle.rlp_reading.specs.Format.Framing.{value}
-use Rattle.rlp_reading.specs.Views.View.{View}
+use Rattle.rlp_reading.specs.{Format.Framing.value, Views.View.View}
 use Rattle.rlp.proofs.Readers.{past_value}
 use Rattle.rlp.proofs.rlpin.rlp.Rlp.items.Goals as goal
 

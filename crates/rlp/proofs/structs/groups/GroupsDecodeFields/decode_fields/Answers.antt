@@ -1,7 +1,6 @@
 use Rattle.std.proofs.Common.{◌++◌, List, map, ap, length, ◌∙◌}
-use Rattle.rlp_reading.specs.Views.View.{View}
-use Rattle.rlp_codec.specs.Form.{map_value, take_each}
-use Rattle.rlp_codec.proofs.GroupLaws.{one_group, one_pushed}
+use Rattle.rlp_reading.specs.{Views.View.View, Form.{map_value, take_each}}
+use Rattle.rlp_reading.proofs.GroupLaws.{one_group, one_pushed}
 use Rattle.rlp.proofs.structs.groups.GroupsDecodeFields.decode_fields.Goals as goal
 
 pub loop-alloc-preserved : goal.loop-alloc-preserved

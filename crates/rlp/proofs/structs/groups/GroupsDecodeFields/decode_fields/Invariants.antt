@@ -1,6 +1,5 @@
 use Rattle.std.proofs.Common.{◌≡◌, ◌++◌, ◌<◌, List, length, map}
-use Rattle.rlp_reading.specs.Views.View.{View}
-use Rattle.rlp_codec.specs.Form.{map_value, most_groups, take_each}
+use Rattle.rlp_reading.specs.{Views.View.View, Form.{map_value, most_groups, take_each}}
 use Rattle.rlp.proofs.structs.groups.GroupsDecodeFields.decode_fields.Given as goal
 
 -- the groups so far come before what the views that are left give, and the bytes after the items are the same

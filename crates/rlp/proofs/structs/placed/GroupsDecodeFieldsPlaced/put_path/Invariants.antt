@@ -1,6 +1,6 @@
 use Rattle.std.proofs.Common.{◌≡◌, length}
-use Rattle.rlp_codec.specs.Form.{fault_path, in_list, most_groups, take_each}
-use Rattle.rlp_codec.proofs.PathLaws.{left_of}
+use Rattle.rlp_reading.specs.Form.{fault_path, in_list, most_groups, take_each}
+use Rattle.rlp_reading.proofs.PathLaws.{left_of}
 use Rattle.rlp.proofs.structs.placed.GroupsDecodeFieldsPlaced.put_path.Given as goal
 
 -- no group before the views that are left has a fault

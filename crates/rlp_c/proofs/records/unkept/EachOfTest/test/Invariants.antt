@@ -1,5 +1,5 @@
 use Rattle.std.proofs.Common.{◌≡◌, length}
-use Rattle.rlp_codec.specs.Form.{and_then, list_of_views, read_each}
+use Rattle.rlp_reading.specs.Form.{and_then, list_of_views, read_each}
 use Rattle.rlp_c.specs.Fields.{without_value}
 use Rattle.rlp_c.proofs.records.unkept.EachOfTest.test.Given as goal
 

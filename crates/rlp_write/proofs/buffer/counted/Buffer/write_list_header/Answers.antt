@@ -1,9 +1,8 @@
 use Rattle.std.proofs.Common.{◌≡◌, ◌-◌, length, ap, ◌∙◌, arith}
 use Rattle.rlp_format.specs.Format.Encoding.{written_header}
 use Rattle.rlp_write.specs.Streams.Held.{Held}
-use Rattle.rlp_write.proofs.Streams.Written.{header_placed}
+use Rattle.rlp_write.proofs.{Streams.Written.header_placed, buffer.counted.Buffer.write_list_header.Goals.After-as_slice-header}
 use Rattle.rlp_write.proofs.buffer.counted.Buffer.write_list_header.Goals as goal
-use Rattle.rlp_write.proofs.buffer.counted.Buffer.write_list_header.Goals.{After-as_slice-header}
 
 heads : (c : After-as_slice-header) → c.as_slice-header.result.now ≡ written_header 0xc0 (length c.args.self.now.items - c.args.payload)
 heads c = c.as_slice-header.ensures ∙ c.written_header-written.ensures

@@ -1,8 +1,7 @@
 use Rattle.std.proofs.Common.{◌≡◌, Some, [], ap, sym, ◌∙◌}
 use Rattle.rlp_format.specs.Values.Value.{option_item}
 use Rattle.rlp_write.specs.Streams.Stream.{IsAsBefore, add, put_item}
-use Rattle.rlp_write.proofs.Streams.Listed.{list_filled}
-use Rattle.rlp_write.proofs.Streams.Growth.{grows_same, grows_with_list}
+use Rattle.rlp_write.proofs.{Streams.Listed.list_filled, Streams.Growth.{grows_same, grows_with_list}}
 use Rattle.rlp_write.proofs.Streams.Refused.{on_err, on_err_too, on_ok_too}
 use Rattle.rlp_write.proofs.impls.option.OptionEncodable.rlp_append.Goals as goal
 

@@ -1,6 +1,5 @@
 use Rattle.std.proofs.Common.{[]}
-use Rattle.rlp_write.proofs.Streams.Fields.{some_none}
-use Rattle.rlp_write.proofs.Streams.Refused.{on_err_too}
+use Rattle.rlp_write.proofs.{Streams.Fields.some_none, Streams.Refused.on_err_too}
 use Rattle.rlp_write.proofs.structs.optional.OptionalListOfAppendFields.append_fields.Goals as goal
 
 pub returns-in-Some-clause-refused : goal.returns-in-Some-clause-refused

@@ -1,7 +1,5 @@
-use Rattle.std.proofs.Common.{[], ◌∷◌, refl, le_refl, arith, rules}
-use Rattle.std.proofs.lemmas.List.{take_all}
-use Rattle.rlp_write.proofs.Streams.Fields.{appended_more, one_each, some_at}
-use Rattle.rlp_write.proofs.Streams.Refused.{on_err}
+use Rattle.std.proofs.{Common.{[], ◌∷◌, refl, le_refl, arith, rules}, lemmas.List.take_all}
+use Rattle.rlp_write.proofs.{Streams.Fields.{appended_more, one_each, some_at}, Streams.Refused.on_err}
 use Rattle.rlp_write.proofs.structs.slices.EachAppendFields.append_fields.Goals as goal
 
 pub loop-value-init : goal.loop-value-init

@@ -1,6 +1,5 @@
 use Rattle.std.proofs.Common.{rules, refl, le_refl, arith}
-use Rattle.rlp_write.proofs.Streams.Fields.{appended_more, flattened_at}
-use Rattle.rlp_write.proofs.Streams.Refused.{on_err}
+use Rattle.rlp_write.proofs.{Streams.Fields.{appended_more, flattened_at}, Streams.Refused.on_err}
 use Rattle.rlp_write.proofs.structs.slices.FlattenedAppendFields.append_fields.Goals as goal
 
 pub returns-in_err-append_fields-clause-refused : goal.returns-in_err-append_fields-clause-refused

@@ -1,5 +1,4 @@
-use Rattle.std.proofs.Common.{◌∙◌, ap, arith, length}
-use Rattle.std.proofs.lemmas.List.{take_all}
+use Rattle.std.proofs.{Common.{◌∙◌, ap, arith, length}, lemmas.List.take_all}
 use Rattle.rlp_format.specs.Values.Value.{all_items}
 use Rattle.rlp_write.proofs.Streams.Fields.{counted_more, counted_so_far}
 use Rattle.rlp_write.proofs.structs.slices.FlattenedAppendFields.field_count.Goals as goal

@@ -1,4 +1,0 @@
-use Rattle.rlp_print.proofs.messages.Receipt69Show.show.Goals as goal
-
-pub returns : goal.returns
-returns g c = rw c.number-kind.ensures at c.show.ensures

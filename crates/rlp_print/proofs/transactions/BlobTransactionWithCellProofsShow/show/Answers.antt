@@ -1,4 +1,0 @@
-use Rattle.rlp_print.proofs.transactions.BlobTransactionWithCellProofsShow.show.Goals as goal
-
-pub returns : goal.returns
-returns g c = rw c.in_ok-hash.ensures at c.show.ensures

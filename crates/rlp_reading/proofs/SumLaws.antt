@@ -1,0 +1,261 @@
+-- Values of several types are read back, and strictly from nothing else.
+use Rattle.std.proofs.Common.{◌≡◌, ℕ, ◌^◌, ◌<◌, ◌⊎◌, inl, inr, ⊎_elim, ◌==◌, Bool, true, false, List, [], ◌∷◌, length, refl, sym, ap, ◌∙◌, subst}
+use Rattle.std.proofs.{Common.{arith, Result, Ok, Err, append-nil, eq-eqb}, lemmas.Bool.{cases_lt, cond-true, cond-false, lt-leb}}
+use Rattle.std.proofs.{lemmas.Bool.eqb-true, lemmas.List.Elements.{All-from_recursion, recursion_from_All}}
+use Rattle.rlp_reading.specs.{declared.error.DecoderError.TheVariants.RlpExpectedToBeData, Format.Framing.{begins_as_list, IsString}}
+use Rattle.rlp_reading.specs.{Views.View.{View, Holds, strict_view_of}, Values.Sums.{OnSum, sum_item}}
+use Rattle.rlp_reading.specs.Form.{Answer, Form, Fault, and_then, custom, items_of, map_value, number}
+use Rattle.rlp_reading.specs.Sums.{CasesForm, Unless, and_case, envelope, envelope_of, enveloped, last_case, list_or_string, read_either, read_first, read_last, read_tagged, seen_envelope, sum_map, tagged_list}
+use Rattle.rlp_reading.specs.Laws.{CasesAreLawful, ReadsBack, GivesOnly, IsLawful, IsStrictPart, viewed, views_of}
+use Rattle.rlp_format.specs.Format.Encoding.{Item, is_list, list, string, AreBytes, BeginsWith, IsSized, encoding}
+use Rattle.rlp_format.specs.Values.Value.{FitsBytes, number_item}
+use Rattle.rlp_reading.proofs.{Lemmas.Strings.{string_list, string_only}, Lemmas.Sums.list_first}
+use Rattle.rlp_reading.proofs.ListLaws.{goes_on, held_itself, is_mapped, item_back, item_only, items_held, items_only, items_sized, same_written}
+use Rattle.rlp_reading.proofs.StringLaws.{ReadsStrings, number_lawful, string_lawful}
+use Rattle.std.specs.List.{AllByRecursion}
+
+-- ---- lists and strings
+
+string_first : (b d : List ℕ) → length b < 2 ^ 64 → IsString b d → begins_as_list b ≡ false
+string_first [] d fits begins = refl
+string_first (first ∷ rest) d fits begins =
+    ⊎_elim
+    (λ low. lt-leb 0xc0 first low)
+    (λ high. let same : Ok d ≡ Err RlpExpectedToBeData = sym (string_only (first ∷ rest) d fits begins) ∙ string_list first rest high in absurd (let no : ⊥ =
+    cc in no))
+    (cases_lt first 0xc0)
+
+not_list_first : (x : Item) (b : List ℕ) → length b < 2 ^ 64 → BeginsWith b (encoding x) → is_list x ≡ false → begins_as_list b ≡ false
+not_list_first (string d) b fits begins kind = string_first b d fits begins
+not_list_first (list xs) b fits begins kind = cc
+
+begins_by : (is_strict : Bool) (b s : List ℕ) → Holds is_strict b s → BeginsWith b s
+begins_by false b s holds = holds
+begins_by true b s holds = ([], holds ∙ sym (append-nil s))
+
+-- answers that are equal have equal results
+whole : {M : Type 0} {a b : Answer M Fault} → a ≡ b → a.result ≡ b.result
+whole {M} same = ap (λ (a : Answer M Fault). a.result) same
+
+-- ---- a value that was put on one side
+
+same_left : {M N : Type 0} (x y : M) → (let z : M ⊎ N = inl x in z) ≡ inl y → x ≡ y
+same_left x y is = cc
+
+same_right : {M N : Type 0} (x y : N) → (let z : M ⊎ N = inr x in z) ≡ inr y → x ≡ y
+same_right x y is = cc
+
+left_taken : {M N : Type 0} (r : Result M Fault) (y : M) → map_value {B = M ⊎ N} inl r ≡ Ok (inl y) → r ≡ Ok y
+left_taken {M} {N} r y is = let m = is_mapped r (λ (x : M). (let z : M ⊎ N = inl x in z)) (inl y) is in m.is ∙ ap Ok (same_left m.value y m.then)
+
+right_taken : {M N : Type 0} (r : Result N Fault) (y : N) → map_value {B = M ⊎ N} inr r ≡ Ok (inr y) → r ≡ Ok y
+right_taken {M} {N} r y is = let m = is_mapped r (λ (x : N). (let z : M ⊎ N = inr x in z)) (inr y) is in m.is ∙ ap Ok (same_right m.value y m.then)
+
+not_left : {M N : Type 0} (r : Result M Fault) (y : N) → map_value {B = M ⊎ N} inl r ≡ Ok (inr y) → ⊥
+not_left (Ok x) y is = cc
+not_left (Err e) y is = cc
+
+not_right : {M N : Type 0} (r : Result N Fault) (y : M) → map_value {B = M ⊎ N} inr r ≡ Ok (inl y) → ⊥
+not_right (Ok x) y is = cc
+not_right (Err e) y is = cc
+
+module _ {A B M N : Type 0} (seen : A → M) (other : B → N) where
+  -- if contracts see two values of a sum alike and one of the two fits, both fit
+  pub sums_fit : (Fits : A → Type 0) (Also : B → Type 0) → ((x y : A) → seen x ≡ seen y → Fits x → Fits y) → ((x y : B) → other x ≡ other y → Also x → Also y)
+      → (s t : A ⊎ B) → sum_map seen other s ≡ sum_map seen other t → OnSum Fits Also s → OnSum Fits Also t
+  sums_fit Fits Also left right (inl x) (inl y) same fit = left x y (same_left _ _ same) fit
+  sums_fit Fits Also left right (inl x) (inr y) same fit = absurd (let no : ⊥ = cc in no)
+  sums_fit Fits Also left right (inr x) (inl y) same fit = absurd (let no : ⊥ = cc in no)
+  sums_fit Fits Also left right (inr x) (inr y) same fit = right x y (same_right _ _ same) fit
+
+  -- a sum is written as contracts see it if the values of both types are
+  pub sums_written : (item : A → Item) (also : B → Item) (of : M → Item) (by : N → Item) → ((x : A) → of (seen x) ≡ item x) → ((y : B) → by (other y) ≡ also y)
+      → (s : A ⊎ B) → sum_item of by (sum_map seen other s) ≡ sum_item item also s
+  sums_written item also of by left right (inl x) = left x
+  sums_written item also of by left right (inr y) = right y
+
+module _ {A B : Type 0} (c : Form A) (d : Form B) (lists : (x : A) → is_list (c.item x) ≡ true) (strings : (y : B) → is_list (d.item y) ≡ false) where
+  either_back_by : (is_strict : Bool) → ReadsBack is_strict c → ReadsBack is_strict d → (b : List ℕ) (s : A ⊎ B) → length b < 2 ^ 64 → OnSum c.Fits d.Fits s
+      → Holds is_strict b (encoding (sum_item c.item d.item s))
+      → (read_either c.reading.read d.reading.read (viewed is_strict b)).result ≡ Ok (sum_map c.reading.seen d.reading.seen s)
+  either_back_by is_strict law other b (inl x) fits fit holds =
+      whole (cond-true (begins_as_list b) _ _ (list_first (c.item x) b fits (begins_by is_strict b (encoding (c.item x)) holds) (lists x)))
+      ∙ ap (map_value inl) (law.back b x fits fit holds)
+  either_back_by is_strict law other b (inr y) fits fit holds =
+      whole (cond-false (begins_as_list b) _ _ (not_list_first (d.item y) b fits (begins_by is_strict b (encoding (d.item y)) holds) (strings y)))
+      ∙ ap (map_value inr) (other.back b y fits fit holds)
+
+  either_only_by : GivesOnly true c → GivesOnly true d → (b : List ℕ) (s : A ⊎ B) (kind : Bool) → AreBytes b → length b < 2 ^ 64 → begins_as_list b ≡ kind
+      → (read_either c.reading.read d.reading.read (strict_view_of b)).result ≡ Ok (sum_map c.reading.seen d.reading.seen s)
+      → OnSum c.Fits d.Fits s × (b ≡ encoding (sum_item c.item d.item s))
+  either_only_by law other b (inl x) true bytes fits kind is =
+      law.only b x bytes fits (left_taken (c.reading.read (strict_view_of b)).result (c.reading.seen x) (sym (whole (cond-true (begins_as_list b) _ _ kind)) ∙ is))
+  either_only_by law other b (inl x) false bytes fits kind is =
+      absurd (not_right (d.reading.read (strict_view_of b)).result (c.reading.seen x) (sym (whole (cond-false (begins_as_list b) _ _ kind)) ∙ is))
+  either_only_by law other b (inr y) true bytes fits kind is =
+      absurd (not_left (c.reading.read (strict_view_of b)).result (d.reading.seen y) (sym (whole (cond-true (begins_as_list b) _ _ kind)) ∙ is))
+  either_only_by law other b (inr y) false bytes fits kind is =
+      other.only b y bytes fits (right_taken (d.reading.read (strict_view_of b)).result (d.reading.seen y) (sym (whole (cond-false (begins_as_list b) _ _ kind)) ∙ is))
+
+  pub either_lawful : IsLawful c → IsLawful d → IsLawful (list_or_string c d)
+  either_lawful law other = record {
+    told = record {
+      fits = sums_fit c.reading.seen d.reading.seen c.Fits d.Fits law.told.fits other.told.fits;
+      written = sums_written c.reading.seen d.reading.seen c.item d.item c.reading.item d.reading.item law.told.written other.told.written;
+    };
+    back = λ is_strict. record { back = either_back_by is_strict (law.back is_strict) (other.back is_strict) };
+    exact = record { only = λ b s bytes fits is. either_only_by law.exact other.exact b s (begins_as_list b) bytes fits refl is };
+  }
+
+-- ---- tags
+
+module _ {A : Type 0} (unknown : List ℕ) (tag : ℕ) (c : Form A) where
+  last_only_by : GivesOnly true c → (k : ℕ) (b : List ℕ) (x : A) (same : Bool) → AreBytes b → length b < 2 ^ 64 → (k == tag) ≡ same
+      → (read_last unknown tag c.reading.read k (strict_view_of b)).result ≡ Ok (c.reading.seen x) → c.Fits x × (k ≡ tag) × (b ≡ encoding (c.item x))
+  last_only_by law k b x true bytes fits same is =
+      let h = law.only b x bytes fits (sym (whole (cond-true (k == tag) _ _ same)) ∙ is) in (h.0, eqb-true k tag same, h.1)
+  last_only_by law k b x false bytes fits same is =
+      let r : (read_last unknown tag c.reading.read k (strict_view_of b)).result ≡ Err (custom unknown) = whole (cond-false (k == tag) _ _ same) in
+      absurd (let no : ⊥ = cc in no)
+
+  pub last_case_lawful : IsLawful c → CasesAreLawful (last_case unknown tag c)
+  last_case_lawful law = record {
+    fits = law.told.fits;
+    tagged = λ x. refl;
+    written = law.told.written;
+    back = λ is_strict b x fits fit is. whole (cond-true (tag == tag) _ _ (eq-eqb tag tag refl)) ∙ (law.back is_strict).back b x fits fit is;
+    only = λ k b x bytes fits is. last_only_by law.exact k b x (k == tag) bytes fits refl is;
+  }
+
+module _ {A B : Type 0} (tag : ℕ) (c : Form A) (more : CasesForm B) where
+  first_back : IsLawful c → CasesAreLawful more → (is_strict : Bool) (b : List ℕ) (s : A ⊎ B) → length b < 2 ^ 64 → (and_case tag c more).Fits s
+      → Holds is_strict b (encoding ((and_case tag c more).item s))
+      → (read_first tag c.reading.read more.read ((and_case tag c more).tag s) (viewed is_strict b)).result ≡ Ok (sum_map c.reading.seen more.seen s)
+  first_back law others is_strict b (inl x) fits fit is =
+      whole (cond-true (tag == tag) _ _ (eq-eqb tag tag refl)) ∙ ap (map_value inl) ((law.back is_strict).back b x fits fit is)
+  first_back law others is_strict b (inr y) fits fit is = other_back (more.tag y == tag) refl fit
+    where
+      other_back : (same : Bool) → (more.tag y == tag) ≡ same → Unless same (more.Fits y)
+          → (read_first tag c.reading.read more.read (more.tag y) (viewed is_strict b)).result ≡ Ok (inr (more.seen y))
+      other_back true same fit = absurd fit
+      other_back false same fit = whole (cond-false (more.tag y == tag) _ _ same) ∙ ap (map_value inr) (others.back is_strict b y fits fit is)
+
+  first_only : IsLawful c → CasesAreLawful more → (k : ℕ) (b : List ℕ) (s : A ⊎ B) (same : Bool) → AreBytes b → length b < 2 ^ 64 → (k == tag) ≡ same
+      → (read_first tag c.reading.read more.read k (strict_view_of b)).result ≡ Ok (sum_map c.reading.seen more.seen s)
+      → (and_case tag c more).Fits s × (k ≡ (and_case tag c more).tag s) × (b ≡ encoding ((and_case tag c more).item s))
+  first_only law others k b (inl x) true bytes fits same is =
+      let h = law.exact.only b x bytes fits (left_taken (c.reading.read (strict_view_of b)).result (c.reading.seen x) (sym (whole (cond-true (k == tag) _ _ same)) ∙ is)) in
+      (h.0, eqb-true k tag same, h.1)
+  first_only law others k b (inl x) false bytes fits same is =
+      absurd (not_right (more.read k (strict_view_of b)).result (c.reading.seen x) (sym (whole (cond-false (k == tag) _ _ same)) ∙ is))
+  first_only law others k b (inr y) true bytes fits same is =
+      absurd (not_left (c.reading.read (strict_view_of b)).result (more.seen y) (sym (whole (cond-true (k == tag) _ _ same)) ∙ is))
+  first_only law others k b (inr y) false bytes fits same is =
+      let h = others.only k b y bytes fits (right_taken (more.read k (strict_view_of b)).result (more.seen y) (sym (whole (cond-false (k == tag) _ _ same)) ∙ is)) in
+      let other : (more.tag y == tag) ≡ false = ap (λ n. n == tag) (sym h.1) ∙ same in
+      (subst (λ b. Unless b (more.Fits y)) (sym other) h.0, h.1, h.2)
+
+  unless_fits : (s : Bool) (F G : Type 0) → (F → G) → Unless s F → Unless s G
+  unless_fits true F G f fit = absurd fit
+  unless_fits false F G f fit = f fit
+
+  other_fits : CasesAreLawful more → (x y : B) → more.seen x ≡ more.seen y → Unless (more.tag x == tag) (more.Fits x) → Unless (more.tag y == tag) (more.Fits y)
+  other_fits others x y same fit =
+      subst (λ n. Unless (n == tag) (more.Fits y)) (same_written more.seen more.tag more.seen_tag others.tagged x y same)
+      (unless_fits (more.tag x == tag) (more.Fits x) (more.Fits y) (others.fits x y same) fit)
+
+  first_tagged : CasesAreLawful more → (s : A ⊎ B) → (and_case tag c more).seen_tag (sum_map c.reading.seen more.seen s) ≡ (and_case tag c more).tag s
+  first_tagged others (inl x) = refl
+  first_tagged others (inr y) = others.tagged y
+
+  pub and_case_lawful : IsLawful c → CasesAreLawful more → CasesAreLawful (and_case tag c more)
+  and_case_lawful law others = record {
+    fits = sums_fit c.reading.seen more.seen c.Fits (λ y. Unless (more.tag y == tag) (more.Fits y)) law.told.fits (other_fits others);
+    tagged = first_tagged others;
+    written = sums_written c.reading.seen more.seen c.item more.item c.reading.item more.seen_item law.told.written others.written;
+    back = first_back law others;
+    only = λ k b s bytes fits is. first_only law others k b s (k == tag) bytes fits refl is;
+  }
+
+-- ---- envelopes
+
+module _ {A : Type 0} (cases : CasesForm A) (law : CasesAreLawful cases) where
+  envelope_only : (d : List ℕ) (x : A) → AreBytes d → length d < 2 ^ 64 → (envelope_of cases.read d).result ≡ Ok (cases.seen x) → cases.Fits x × (d ≡ envelope cases x)
+  envelope_only [] x bytes fits is = absurd (let no : ⊥ = cc in no)
+  envelope_only (tag ∷ payload) x bytes fits is =
+      let held = All-from_recursion (λ byte. byte < 2 ^ 8) payload (recursion_from_All (λ byte. byte < 2 ^ 8) (tag ∷ payload) bytes).1 in
+      let h = law.only tag payload x held (omega arith) is in
+      (h.0, ap (λ k. k ∷ payload) h.1 ∙ ap (λ p. cases.tag x ∷ p) h.2)
+
+  -- the result of an envelope
+  abbrev opened : List ℕ → Result cases.M Fault
+  opened d = (envelope_of cases.read d).result
+
+  pub envelope_strings : ReadsStrings cases.Fits (envelope cases) cases.seen (seen_envelope cases) opened
+  envelope_strings = record {
+    back = λ x fit short. law.back true (encoding (cases.item x)) x (omega arith) fit refl;
+    only = envelope_only;
+    fits = law.fits;
+    same = λ x. let tag = law.tagged x in let item = law.written x in cc;
+  }
+
+  pub enveloped_lawful : IsLawful (enveloped cases)
+  enveloped_lawful =
+      let law = string_lawful cases.Fits (envelope cases) cases.seen (seen_envelope cases) opened cases.takes_memory envelope_strings in
+      record {
+        told = record { fits = law.told.fits; written = law.told.written };
+        back = λ is_strict. record { back = (law.back is_strict).back };
+        exact = record { only = law.exact.only };
+      }
+
+-- ---- lists of a tag and a payload
+
+module _ {A : Type 0} (width : ℕ) (cases : CasesForm A) (law : CasesAreLawful cases) where
+  abbrev read_pair : List View → Result cases.M Fault
+  read_pair vs = (read_tagged width cases.read vs).result
+
+  tagged_back_by : (is_strict : Bool) (x : A) → FitsBytes width (cases.tag x) → cases.Fits x → IsSized (number_item (cases.tag x)) → IsSized (cases.item x)
+      → (read_tagged width cases.read (views_of is_strict (number_item (cases.tag x) ∷ cases.item x ∷ []))).result ≡ Ok (cases.seen x)
+  tagged_back_by is_strict x tag_fits fit sized small =
+      let second = viewed is_strict (encoding (cases.item x)) in
+      ap (λ r. and_then r (λ tag. (cases.read tag second).result))
+      (item_back (number width) is_strict ((number_lawful width).back is_strict) (cases.tag x) sized tag_fits)
+      ∙ law.back is_strict (encoding (cases.item x)) x small fit (held_itself is_strict (encoding (cases.item x)))
+
+  tagged_only_by : (vs : List View) (x : A) → AllByRecursion IsStrictPart vs → (read_tagged width cases.read vs).result ≡ Ok (cases.seen x)
+      → (FitsBytes width (cases.tag x) × cases.Fits x) × (vs ≡ views_of true (number_item (cases.tag x) ∷ cases.item x ∷ []))
+  tagged_only_by [] x parts is = absurd (let no : ⊥ = cc in no)
+  tagged_only_by (v ∷ []) x parts is = absurd (let no : ⊥ = cc in no)
+  tagged_only_by (v ∷ w ∷ u ∷ vs) x parts is = absurd (let no : ⊥ = cc in no)
+  tagged_only_by (v ∷ w ∷ []) x (one, (two, parts)) is =
+      let g = goes_on ((number width).reading.read v).result (λ tag. (cases.read tag w).result) (cases.seen x) is in
+      let h = item_only (number width) (number_lawful width).exact v g.value one g.is in
+      let hs = law.only g.value w.bytes x two.held two.short (ap (λ w. (cases.read g.value w).result) (sym two.is) ∙ g.then) in (
+        (subst (FitsBytes width) hs.1 h.0, hs.0),
+        ap (λ v. v ∷ w ∷ []) (h.1 ∙ ap (λ n. viewed true (encoding (number_item n))) hs.1)
+            ∙ ap (λ w. viewed true (encoding (number_item (cases.tag x))) ∷ w ∷ []) (two.is ∙ ap strict_view_of hs.2),
+      )
+
+  pub tagged_lawful : IsLawful (tagged_list width cases)
+  tagged_lawful = record {
+    told = record {
+      fits = λ x y same fit. (
+        subst (FitsBytes width) (same_written cases.seen cases.tag cases.seen_tag law.tagged x y same) fit.0,
+        law.fits x y same fit.1,
+      );
+      written = λ x. let tag = law.tagged x in let item = law.written x in cc;
+    };
+    back = λ is_strict. record {
+      back = λ b x fits fit holds.
+          let sized = items_sized is_strict b (number_item (cases.tag x) ∷ cases.item x ∷ []) fits holds in
+          ap (λ r. and_then r read_pair) (items_held is_strict b (number_item (cases.tag x) ∷ cases.item x ∷ []) fits holds)
+          ∙ tagged_back_by is_strict x fit.0 fit.1 sized.0 sized.1.0;
+    };
+    exact = record {
+      only = λ b x bytes fits is.
+          let g = goes_on (items_of (strict_view_of b)) read_pair (cases.seen x) is in
+          let are = items_only b g.value bytes fits g.is in
+          let h = tagged_only_by g.value x are.parts g.then in
+          (h.0, are.whole (number_item (cases.tag x) ∷ cases.item x ∷ []) h.1);
+    };
+  }

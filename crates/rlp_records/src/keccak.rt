@@ -1,0 +1,103 @@
+//! Keccak-256, the hash function of Ethereum: the sponge of FIPS 202 over Keccak-f[1600].
+
+ghost use Rattle.std.specs.Prelude.{◌≡◌, ◌+◌, ◌-◌, ◌*◌, ◌<◌, ◌≤◌, ◌++◌, length};
+ghost use Rattle.rlp_records.specs.Keccak.{absorb, bytes_of_lanes, keccak256, lane_of_bytes, padding};
+
+mod permutation;
+
+use permutation::keccak_f;
+
+// The length of a block in bytes.
+const RATE: usize = 136;
+
+fn lane(block: &[u8], i: usize) -> u64
+    requires { 8 * i + 8 ≤ length block.now }
+    ensures { result ≡ lane_of_bytes block.now i }
+{
+    u64::from_le_bytes([
+        block[8 * i],
+        block[8 * i + 1],
+        block[8 * i + 2],
+        block[8 * i + 3],
+        block[8 * i + 4],
+        block[8 * i + 5],
+        block[8 * i + 6],
+        block[8 * i + 7],
+    ])
+}
+
+// Takes a block into the state.
+fn absorb(state: &mut [u64; 25], block: &[u8])
+    requires { length block.now ≡ 136 }
+    ensures { state.new ≡ absorb state.old block.now }
+{
+    *state = [
+        state[0] ^ lane(block, 0),
+        state[1] ^ lane(block, 1),
+        state[2] ^ lane(block, 2),
+        state[3] ^ lane(block, 3),
+        state[4] ^ lane(block, 4),
+        state[5] ^ lane(block, 5),
+        state[6] ^ lane(block, 6),
+        state[7] ^ lane(block, 7),
+        state[8] ^ lane(block, 8),
+        state[9] ^ lane(block, 9),
+        state[10] ^ lane(block, 10),
+        state[11] ^ lane(block, 11),
+        state[12] ^ lane(block, 12),
+        state[13] ^ lane(block, 13),
+        state[14] ^ lane(block, 14),
+        state[15] ^ lane(block, 15),
+        state[16] ^ lane(block, 16),
+        state[17],
+        state[18],
+        state[19],
+        state[20],
+        state[21],
+        state[22],
+        state[23],
+        state[24],
+    ];
+    keccak_f(state);
+}
+
+// The last block of a message: the bytes after its whole blocks, and the padding.
+fn last_block(rest: &[u8]) -> [u8; 136]
+    requires { length rest.now < 136 }
+    ensures { result ≡ rest.now ++ padding (136 - length rest.now) }
+{
+    let mut block = [0; 136];
+    block[..rest.len()].copy_from_slice(rest);
+    block[rest.len()] = 0x01;
+    block[135] ^= 0x80;
+    block
+}
+
+// The first 32 bytes of the state.
+fn digest(state: &[u64; 25]) -> [u8; 32]
+    ensures { result ≡ bytes_of_lanes state.now 4 }
+{
+    let mut out = [0u8; 32];
+    'lanes: for i in 0..4 {
+        out[8 * i..8 * i + 8].copy_from_slice(&state[i].to_le_bytes());
+    }
+    out
+}
+
+/// Returns the Keccak-256 hash of these bytes, as in Ethereum. It isn't SHA3-256, which FIPS 202
+/// defines with another padding. It doesn't allocate and never fails.
+///
+/// ```rust
+/// assert_eq!(rt; crate::keccak256(b"")[..4], [0xc5, 0xd2, 0x46, 0x01]);
+/// ```
+pub fn keccak256(bytes: &[u8]) -> [u8; 32]
+    ensures { result ≡ keccak256 bytes.now }
+{
+    let mut state = [0u64; 25];
+    let count = bytes.len() / RATE;
+    'whole: for i in 0..count {
+        absorb(&mut state, &bytes[RATE * i..RATE * i + RATE]);
+    }
+    absorb(&mut state, &last_block(&bytes[RATE * count..]));
+    digest(&state)
+}

@@ -1,0 +1,4 @@
+use Rattle.rlp_show.proofs.transactions.BlobTransactionWithProofsShow.show.Goals as goal
+
+pub returns : goal.returns
+returns g c = rw c.in_ok-hash.ensures at c.show.ensures

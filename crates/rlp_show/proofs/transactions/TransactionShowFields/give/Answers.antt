@@ -1,0 +1,13 @@
+use Rattle.rlp_show.proofs.transactions.TransactionShowFields.give.Goals as goal
+
+pub returns-in-AccessList : goal.returns-in-AccessList
+returns-in-AccessList g c = rw c.in-AccessList.is c.give-in-AccessList.ensures
+
+pub returns-in-FeeMarket : goal.returns-in-FeeMarket
+returns-in-FeeMarket g c = rw c.in-FeeMarket.is c.give-in-FeeMarket.ensures
+
+pub returns-in-Blob : goal.returns-in-Blob
+returns-in-Blob g c = rw c.in-Blob.is c.give-in-Blob.ensures
+
+pub returns-in-SetCode : goal.returns-in-SetCode
+returns-in-SetCode g c = rw c.in-SetCode.is c.give-in-SetCode.ensures

@@ -1,0 +1,64 @@
+-- The JSON of a value, with the names of Ethereum's execution API and without spaces.
+use Rattle.std.specs.Prelude.{ℕ, Bool, true, false, List, [], ◌++◌, codes}
+use Rattle.rlp_show.specs.Value.{Steps, after, Content, Value, number, type_byte, bytes, text, empty_list}
+use Rattle.rlp_show.specs.Lines.{bytes_text, hex_text, ip_text, number_text, word_text}
+use Rattle.rlp_show.specs.declared.{sink.NumberKind.NumberKind, sink.NumberKind.TheVariants.Place, sink.BytesKind.BytesKind}
+use Rattle.rlp_show.specs.declared.sink.BytesKind.TheVariants.{Ip, Null, Word}
+use Rattle.rlp_show.specs.declared.sink.{Bracket.Bracket, Bracket.TheVariants.CloseBrace, Bracket.TheVariants.CloseSquare, Bracket.TheVariants.OpenBrace, Bracket.TheVariants.OpenSquare}
+
+-- the text so far, and whether a value may come next without a comma before it
+pub record Json : Type 0 where
+  pub text : List ℕ
+  pub is_fresh : Bool
+
+-- what stands before a member or an item
+abbrev pub comma : Bool → List ℕ
+comma true = []
+comma false = codes ","
+
+-- a text in quotes
+abbrev pub quoted : List ℕ → List ℕ
+quoted t = codes "\"" ++ t ++ codes "\""
+
+-- a number of a kind, which is in hexadecimal, as in the execution API, unless it is a place
+abbrev pub number_json : NumberKind → ℕ → List ℕ
+number_json Place n = number_text n
+number_json _ n = quoted (hex_text n)
+
+-- bytes of a kind
+abbrev pub bytes_json : BytesKind → List ℕ → List ℕ
+bytes_json Null b = codes "null"
+bytes_json Word b = quoted (word_text b)
+bytes_json Ip b = quoted (ip_text b)
+bytes_json _ b = quoted (bytes_text b)
+
+abbrev pub content_json : Content → List ℕ
+content_json (number kind n) = number_json kind n
+content_json (type_byte n) = quoted (hex_text n)
+content_json (bytes kind b) = bytes_json kind b
+content_json (text t) = quoted t
+content_json empty_list = codes "[]"
+
+-- a text after a comma, if one is needed
+abbrev pub put_text : List ℕ → Bool → Json → Json
+put_text t fresh s = record { text = s.text ++ comma s.is_fresh ++ t; is_fresh = fresh }
+
+-- the bracket that begins an object or a list, and the bracket that ends it
+abbrev pub put_bracket : Bracket → Json → Json
+put_bracket OpenBrace s = put_text (codes "{") true s
+put_bracket OpenSquare s = put_text (codes "[") true s
+put_bracket CloseBrace s = record { text = s.text ++ codes "}"; is_fresh = false }
+put_bracket CloseSquare s = record { text = s.text ++ codes "]"; is_fresh = false }
+
+-- how JSON takes a value
+abbrev pub json_steps : Steps Json
+json_steps = record {
+  is_json = true;
+  key = λ json s. put_text (quoted json ++ codes ":") true s;
+  put = λ name c s. put_text (content_json c) false s;
+  bracket = put_bracket;
+}
+
+-- the JSON of a value
+abbrev pub json_of : Value → List ℕ
+json_of v = (after json_steps [] v (record { text = []; is_fresh = true })).text

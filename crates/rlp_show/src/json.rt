@@ -1,0 +1,115 @@
+//! JSON with the names of Ethereum's execution API.
+
+ghost use Rattle.std.specs.Prelude.{◌≡◌, ◌++◌, string_bytes, OnOk, IfOk};
+ghost use Rattle.rlp_show.specs.Json.{Json as JsonSeen, comma, content_json, json_steps, json_of};
+ghost use Rattle.rlp_show.specs.{Display.shown_of, Value.content_of};
+
+use crate::show::Show;
+use crate::sink::{Bracket, BytesKind, NumberKind, Shown, Sink};
+use crate::texts::{put_bytes, put_hex, put_ip, put_word_or_bytes};
+use rlp::Uint;
+use std::alloc::{AllocError, Global};
+use std::fmt::Write;
+
+/// JSON without spaces.
+#[derive(Drop)]
+struct Json {
+    /// The text so far.
+    text: String,
+    /// Whether a value may come next without a comma before it.
+    is_fresh: bool,
+}
+
+/// Returns the JSON of a value, without spaces.
+pub fn json_of<T: Show>(alloc: Global, value: &T) -> Result<String, AllocError>
+    ensures { IfOk result (λ text. string_bytes text ≡ json_of (shown_of T.display value.now)) }
+{
+    let mut json = Json {
+        text: String::new(alloc),
+        is_fresh: true,
+    };
+    value.show(alloc, "", &mut json)?;
+    Ok(json.text)
+}
+
+/// Appends in quotes what an expression appends.
+macro_rules! put_quoted {
+    ($out:expr, $put:expr) => {{
+        $out.push('"')?;
+        $put?;
+        $out.push('"')
+    }};
+}
+
+/// Appends a content.
+fn put_content(shown: Shown<'_>, out: &mut String) -> Result<(), AllocError>
+    ensures { OnOk result
+        (string_bytes out.new ≡ string_bytes out.old ++ content_json (content_of shown.entry)) }
+{
+    match shown {
+        Shown::Number(NumberKind::Place, n) => write!(out, "{n}"),
+        Shown::Number(_, n) => put_quoted!(out, put_hex(&n, out)),
+        Shown::TypeByte(n) => put_quoted!(out, put_hex(&Uint::from(u64::from(n)), out)),
+        Shown::Bytes(BytesKind::Null, _) => out.push_str("null"),
+        Shown::Bytes(BytesKind::Word, bytes) => put_quoted!(out, put_word_or_bytes(bytes, out)),
+        Shown::Bytes(BytesKind::Ip, bytes) => put_quoted!(out, put_ip(bytes, out)),
+        Shown::Bytes(_, bytes) => put_quoted!(out, put_bytes(bytes, out)),
+        Shown::Text(text) => put_quoted!(out, out.push_str(text)),
+        Shown::EmptyList => out.push_str("[]"),
+    }
+}
+
+impl Json {
+    /// Appends a comma, if one is needed before the next value.
+    fn put_comma(&mut self) -> Result<(), AllocError>
+        ensures text { OnOk result
+            (string_bytes self.new.text ≡ string_bytes self.old.text ++ comma self.old.is_fresh) }
+        ensures fresh { self.new.is_fresh ≡ self.old.is_fresh }
+    {
+        if self.is_fresh {
+            return Ok(());
+        }
+        self.text.push(',')
+    }
+}
+
+impl Sink for Json {
+    ghost Seen = { JsonSeen };
+
+    ghost seen = { λ s. record { text = string_bytes s.text; is_fresh = s.is_fresh } };
+
+    ghost steps = { json_steps };
+
+    fn is_json(&self) -> bool {
+        true
+    }
+
+    fn key(&mut self, json: &str) -> Result<(), AllocError> {
+        self.put_comma()?;
+        put_quoted!(self.text, self.text.push_str(json))?;
+        self.text.push(':')?;
+        self.is_fresh = true;
+        Ok(())
+    }
+
+    fn put(&mut self, _name: &str, shown: Shown<'_>) -> Result<(), AllocError> {
+        self.put_comma()?;
+        put_content(shown, &mut self.text)?;
+        self.is_fresh = false;
+        Ok(())
+    }
+
+    fn bracket(&mut self, bracket: Bracket) -> Result<(), AllocError> {
+        let (text, opens) = match bracket {
+            Bracket::OpenBrace => ('{', true),
+            Bracket::OpenSquare => ('[', true),
+            Bracket::CloseBrace => ('}', false),
+            Bracket::CloseSquare => (']', false),
+        };
+        if opens {
+            self.put_comma()?;
+        }
+        self.is_fresh = opens;
+        self.text.push(text)
+    }
+}

@@ -1,0 +1,87 @@
+"""The crates of the tree, as a table and as a picture."""
+
+from sources import first_sentence
+from tree import ROOT, below, crates, measured
+
+WIDTH, HEIGHT, STEP, GAP, MARGIN = 150, 34, 64, 14, 12
+
+
+def documentation_of(crate):
+    """What the first lines of a crate say of it."""
+    folder = ROOT / "crates" / crate / "src"
+    sources = [file for file in (folder / "lib.rt", folder / "main.rt") if file.exists()]
+    lines = [line for source in sources[:1] for line in source.read_text(encoding="utf-8").splitlines()]
+    return "\n".join(line[3:].strip() for line in lines if line.startswith("//!"))
+
+
+def table_of_crates():
+    """A row for each crate."""
+    text = "| Crate | What it is | It uses |\n|---|---|---|\n"
+    for crate in crates():
+        what = first_sentence(documentation_of(crate)).replace("|", "\\|")
+        text += f"| [`{crate}`](../crates/{crate}) | {what} | {', '.join(f'`{name}`' for name in direct(crate, crates()))} |\n"
+    return text
+
+
+def table_of_gate():
+    """A row for each crate: the processor seconds of its parts in one run of `rt ci`, and when its last part ended."""
+    about, _, rows = measured("gate")
+    if not rows:
+        return ""
+    parts = {}
+    for crate, part, *numbers in rows:
+        parts.setdefault(crate, {})[part] = [int(number) for number in numbers]
+    text = f"\n{about['result']}, of {about['version']}, {about['date']}, {about['machine']}.\n\n"
+    text += "| Crate | Proof, s | Tests, s | Known mistakes, s | Most memory, MB | Ends, min |\n|---|---:|---:|---:|---:|---:|\n"
+    for crate in (name for name in crates() if name in parts):
+        found = parts[crate]
+        seconds = [f"{found[part][2]}" if part in found else "" for part in ("proof", "tests", "mistakes")]
+        text += f"| `{crate}` | {' | '.join(seconds)} | {max(one[3] for one in found.values()):,} | {max(one[1] for one in found.values()) / 60:.1f} |\n"
+    return text + "\n"
+
+
+def direct(crate, uses):
+    """The crates that a crate uses, without those that these use already."""
+    return [name for name in uses[crate] if not any(name in below(other, uses) for other in uses[crate] if other != name)]
+
+
+def rows_of(uses):
+    """The crates by rows: each stands below all that use it, as near to what it uses as it can."""
+    def rank(name):
+        return 1 + max((rank(other) for other in uses[name]), default=-1)
+
+    rows = {}
+    for name in uses:
+        rows.setdefault(rank(name), []).append(name)
+    return [rows[number] for number in sorted(rows, reverse=True)]
+
+
+def places_of(rows):
+    """Where each crate stands: the left upper corner."""
+    width = max(len(row) for row in rows) * (WIDTH + GAP) - GAP
+    places = {}
+    for number, row in enumerate(rows):
+        left = MARGIN + (width - len(row) * (WIDTH + GAP) + GAP) // 2
+        for place, name in enumerate(row):
+            places[name] = (left + place * (WIDTH + GAP), MARGIN + number * STEP)
+    return places, width + 2 * MARGIN, len(rows) * STEP - STEP + HEIGHT + 2 * MARGIN
+
+
+def picture():
+    """A picture of the crates: a box for each, and a line to those that it uses directly."""
+    uses = crates()
+    places, width, height = places_of(rows_of(uses))
+    lines = [
+        f'<svg xmlns="http://www.w3.org/2000/svg" viewBox="0 0 {width} {height}" width="{width}" height="{height}" font-family="sans-serif" font-size="13">',
+        "  <title>What each crate uses</title>",
+        '  <g stroke="#9fb3d1" stroke-width="1.5">',
+    ]
+    for name in uses:
+        for other in direct(name, uses):
+            (x, y), (u, v) = places[name], places[other]
+            lines.append(f'    <line x1="{x + WIDTH // 2}" y1="{y + HEIGHT}" x2="{u + WIDTH // 2}" y2="{v}"/>')
+    lines += ["  </g>", '  <g fill="#e8eef7" stroke="#5b7aa6" stroke-width="1.5">']
+    lines += [f'    <rect x="{x}" y="{y}" width="{WIDTH}" height="{HEIGHT}" rx="6"/>' for x, y in places.values()]
+    lines += ["  </g>", '  <g fill="#1c2733" text-anchor="middle">']
+    lines += [f'    <text x="{x + WIDTH // 2}" y="{y + 22}">{name}</text>' for name, (x, y) in places.items()]
+    return "\n".join([*lines, "  </g>", "</svg>", ""])
