@@ -2,12 +2,13 @@
 
 import math
 
+from drawing import INK, framed
 from tree import measured
 
 ROW, LEFT, WIDTH, TOP = 18, 330, 420, 34
 # The ratios at the ends of the chart.
 LEAST, MOST = 0.01, 60
-# The column of the chart: times by those of the Rust crate, built as one unit with its caller, as the library here is.
+# The column of the chart: times divided by the times of the Rust crate, built as one unit with its caller, as the library here is.
 RATIO = "ratio, Rust crate with link-time optimisation"
 # The chart of sizes: its left upper corner, its width and height, the bytes and the ratios at its ends, and the colours of its lines.
 X, Y, ACROSS, HIGH = 60, 20, 420, 300
@@ -56,21 +57,16 @@ def bars(rows):
 
 
 def chart():
-    """A picture: the time of each operation by that of the Rust crate, on a logarithmic scale."""
+    """A picture: the time of each operation, divided by the time of the Rust crate, on a logarithmic scale."""
     _, heads, cells = measured("times")
     column = heads.index(RATIO) if RATIO in heads else 0
     rows = [(row[0], float(row[column])) for row in cells if column and row[column]]
-    height = TOP + len(rows) * ROW + 10
-    lines = [
-        f'<svg xmlns="http://www.w3.org/2000/svg" viewBox="0 0 {LEFT + WIDTH + 20} {height}" width="{LEFT + WIDTH + 20}" height="{height}" font-family="sans-serif" font-size="12" fill="#1c2733">',
-        "  <title>Time of each operation by that of the Rust crate</title>",
-        f'  <text x="{LEFT - 24}" y="{TOP - 12}" text-anchor="end">Time by that of the Rust crate; below 1 is faster</text>',
-    ]
+    height, lines = TOP + len(rows) * ROW + 10, [f'  <text x="{LEFT - 24}" y="{TOP - 12}" text-anchor="end">time / time of the Rust crate; below 1 is faster</text>']
     for value in (0.01, 0.1, 0.5, 1, 2, 10, 50):
         x = place(value)
-        lines.append(f'  <line x1="{x}" y1="{TOP - 6}" x2="{x}" y2="{height - 8}" stroke="{"#1c2733" if value == 1 else "#d4dbe6"}"/>')
+        lines.append(f'  <line x1="{x}" y1="{TOP - 6}" x2="{x}" y2="{height - 8}" stroke="{INK if value == 1 else "#d4dbe6"}"/>')
         lines.append(f'  <text x="{x}" y="{TOP - 12}" text-anchor="middle">{value}</text>')
-    return "\n".join([*lines, *bars(rows), "</svg>", ""])
+    return framed(LEFT + WIDTH + 20, height, "Time of each operation, divided by the time of the Rust crate", [*lines, *bars(rows)])
 
 
 def grid():
@@ -87,23 +83,17 @@ def grid():
 
 
 def chart_of_sizes():
-    """A picture: for each kind a line, of the time of a byte by that at the smallest size."""
+    """A picture: for each kind a line, of the time per byte, divided by the time per byte at the smallest size."""
     kinds = {}
     for kind, _, count, _, ratio, _ in measured("size")[2]:
         if ratio:
             point = round(X + share(int(count), BYTES) * ACROSS, 1), round(Y + HIGH - share(float(ratio), RATIOS) * HIGH, 1)
             kinds.setdefault(kind.replace("`", ""), []).append(point)
-    width, height = X + ACROSS + 250, Y + HIGH + 30
-    lines = [
-        f'<svg xmlns="http://www.w3.org/2000/svg" viewBox="0 0 {width} {height}" width="{width}" height="{height}" font-family="sans-serif" font-size="12" fill="#1c2733">',
-        "  <title>Time of a byte by that at the smallest size</title>",
-        f'  <text x="{X}" y="{Y - 7}">Time of a byte by that at the smallest size</text>',
-        *grid(),
-    ]
+    lines = [f'  <text x="{X}" y="{Y - 7}">time per byte / time per byte at the smallest size</text>', *grid()]
     for turn, (kind, points) in enumerate(kinds.items()):
         colour, y = COLOURS[turn % len(COLOURS)], Y + 12 + turn * 20
         lines.append(f'  <polyline points="{" ".join(f"{x},{y}" for x, y in points)}" fill="none" stroke="{colour}" stroke-width="2"/>')
         lines += [f'  <circle cx="{x}" cy="{high}" r="3" fill="{colour}"/>' for x, high in points]
         lines.append(f'  <line x1="{X + ACROSS + 14}" y1="{y - 4}" x2="{X + ACROSS + 34}" y2="{y - 4}" stroke="{colour}" stroke-width="2"/>')
         lines.append(f'  <text x="{X + ACROSS + 40}" y="{y}">{kind}</text>')
-    return "\n".join([*lines, "</svg>", ""])
+    return framed(X + ACROSS + 250, Y + HIGH + 30, "Time per byte, divided by the time per byte at the smallest size", lines)

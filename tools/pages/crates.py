@@ -1,9 +1,17 @@
 """The crates of the tree, as a table and as a picture."""
 
+from drawing import framed
 from sources import first_sentence
 from tree import ROOT, below, crates, measured
 
 WIDTH, HEIGHT, STEP, GAP, MARGIN = 150, 34, 64, 14, 12
+# Where the picture has a crate from left to right, in boxes: no line crosses a box. Another crate stands at the left.
+COLUMNS = {
+    "rlp_format": 1.5, "rlp_write": 1, "rlp_reading": 2, "rlp_lines": 4.6, "rlp": 1.5, "rlp_records": 1.5, "rlp_tool": 3.4, "rlp_trie": 0,
+    "rlp_node_record": 1, "rlp_transactions": 2, "rlp_headers": 3, "rlp_blocks": 1.5, "rlp_c": 2.5, "rlp_messages": 1.5, "rlp_show": 3,
+}
+# Crates that the picture leaves out: tests, examples, measurements, and `main` functions.
+LEFT_OUT = ("_vectors", "_examples", "_bench", "_main")
 
 
 def documentation_of(crate):
@@ -58,30 +66,21 @@ def rows_of(uses):
 
 def places_of(rows):
     """Where each crate stands: the left upper corner."""
-    width = max(len(row) for row in rows) * (WIDTH + GAP) - GAP
-    places = {}
-    for number, row in enumerate(rows):
-        left = MARGIN + (width - len(row) * (WIDTH + GAP) + GAP) // 2
-        for place, name in enumerate(row):
-            places[name] = (left + place * (WIDTH + GAP), MARGIN + number * STEP)
-    return places, width + 2 * MARGIN, len(rows) * STEP - STEP + HEIGHT + 2 * MARGIN
+    return {name: (MARGIN + round(COLUMNS.get(name, 0) * (WIDTH + GAP)), MARGIN + turn * STEP) for turn, row in enumerate(rows) for name in row}
 
 
 def picture():
     """A picture of the crates: a box for each, and a line to those that it uses directly."""
-    uses = crates()
-    places, width, height = places_of(rows_of(uses))
-    lines = [
-        f'<svg xmlns="http://www.w3.org/2000/svg" viewBox="0 0 {width} {height}" width="{width}" height="{height}" font-family="sans-serif" font-size="13">',
-        "  <title>What each crate uses</title>",
-        '  <g stroke="#9fb3d1" stroke-width="1.5">',
-    ]
+    uses = {name: used for name, used in crates().items() if not name.endswith(LEFT_OUT)}
+    places = places_of(rows_of(uses))
+    width, height = (max(place[way] for place in places.values()) + size + MARGIN for way, size in ((0, WIDTH), (1, HEIGHT)))
+    lines = ['  <g stroke="#7f97bd" stroke-width="1.5">']
     for name in uses:
         for other in direct(name, uses):
             (x, y), (u, v) = places[name], places[other]
             lines.append(f'    <line x1="{x + WIDTH // 2}" y1="{y + HEIGHT}" x2="{u + WIDTH // 2}" y2="{v}"/>')
     lines += ["  </g>", '  <g fill="#e8eef7" stroke="#5b7aa6" stroke-width="1.5">']
     lines += [f'    <rect x="{x}" y="{y}" width="{WIDTH}" height="{HEIGHT}" rx="6"/>' for x, y in places.values()]
-    lines += ["  </g>", '  <g fill="#1c2733" text-anchor="middle">']
+    lines += ["  </g>", '  <g text-anchor="middle">']
     lines += [f'    <text x="{x + WIDTH // 2}" y="{y + 22}">{name}</text>' for name, (x, y) in places.items()]
-    return "\n".join([*lines, "  </g>", "</svg>", ""])
+    return framed(width, height, "What each crate uses", [*lines, "  </g>"], 13)

@@ -5,7 +5,7 @@ import re
 import textwrap
 from fnmatch import fnmatchcase
 
-from sources import Crate, first_sentence
+from sources import Crate, first_sentence, without_links
 
 
 class Unmade(Exception):
@@ -29,10 +29,14 @@ def shared(item, earlier):
     return (other, clauses) if len(clauses) > 1 else (None, [])
 
 
+def told(item):
+    """The documentation of an item, line by line as it stands in the source."""
+    return [f"/// {line}".rstrip() for line in without_links(item.documentation).splitlines()]
+
+
 def contract(item, earlier):
-    """A public item: its first sentence, its signature and its clauses. Those of an earlier item are only named."""
-    lines = [f"/// {first_sentence(item.documentation)}"] if item.documentation else []
-    lines += shape_of(item).splitlines()
+    """A public item: what is told of it, its signature and its clauses. Clauses that an earlier item has too are only named."""
+    lines = told(item) + shape_of(item).splitlines()
     other, same = shared(item, earlier)
     for clause in item.clauses:
         sort, name, text = clause
@@ -43,14 +47,30 @@ def contract(item, earlier):
     return "\n".join(lines) + "\n"
 
 
-def contracts(items):
-    """The contracts of items, with an empty line before each type and each function that belongs to none."""
-    text, before = "", None
-    for place, item in enumerate(items):
+def sources_of(items, page_folder):
+    """A line with a link to each source of some items, and the items in it: a type stands for its methods in the file that defines it, or has most of them."""
+    files, of_kind = {}, {}
+    for item in items:
         kind = item.heading.split("::")[0]
-        text += ("\n" if before and kind != before else "") + contract(item, items[:place])
-        before = kind
-    return f"```text\n{text}```\n"
+        files.setdefault(item.source, []).append((kind, item.heading))
+        of_kind.setdefault(kind, []).append(item.source)
+    most = {kind: max(found, key=found.count) for kind, found in of_kind.items() if kind != "laws"}
+    most.update({item.heading: item.source for item in items if item.sort != "fn"})
+    links = []
+    for file, own in files.items():
+        names = dict.fromkeys(f"`{kind if most.get(kind) == file else heading}`" for kind, heading in own)
+        links.append(f"[`{file.stem}`]({os.path.relpath(file, page_folder)})" + (f": {', '.join(names)}" if len(files) > 1 else ""))
+    return f"Source{'s' if len(links) > 1 else ''}: {'; '.join(links)}.\n"
+
+
+def contracts(items, page_folder):
+    """The contracts of items, with an empty line before each item that has a comment of several lines, and before each type."""
+    text, before, was_long = "", None, False
+    for place, item in enumerate(items):
+        kind, is_long = item.heading.split("::")[0], len(told(item)) > 1
+        text += ("\n" if before and (kind != before or is_long or was_long) else "") + contract(item, items[:place])
+        before, was_long = kind, is_long
+    return f"```text\n{text}```\n\n{sources_of(items, page_folder)}"
 
 
 def summary(items, page_folder):
@@ -114,7 +134,7 @@ class Quotes:
         items = sorted((item for item in self.items[crate] if id(item) in wanted), key=lambda item: rank(item, patterns))
         if not items:
             raise Unmade(f"{order}: nothing is left for this part")
-        return contracts(items) if kind == "contracts" else summary(items, self.page.parent)
+        return contracts(items, self.page.parent) if kind == "contracts" else summary(items, self.page.parent)
 
 
 def block_from(text, name):

@@ -7,11 +7,11 @@ from dataclasses import dataclass, field
 from functions import IMPL, block_of
 
 FUNCTION = re.compile(r"^ *(?P<public>pub )?(?:final )?(?:const )?(?:extern \S+ )?fn (?P<name>\w+)", re.MULTILINE)
-CLAUSE = re.compile(r"\s*\b(?P<sort>requires|ensures\*?)\s*(?P<name>\w*)\s*\{")
+CLAUSE = re.compile(r"(?:\s*//.*)*\s*\b(?P<sort>requires|ensures\*?)\s*(?P<name>\w*)\s*\{")
 GHOST = re.compile(r"^    ghost (?P<name>\w+): \{(?P<type>.*?)\}(?: = \{(?P<default>.*?)\})?;", re.MULTILINE | re.DOTALL)
 TYPE = re.compile(r"^pub (?P<sort>struct|enum|trait|const|type) (?P<name>\w+)", re.MULTILINE)
 EXPORT = re.compile(r"^pub use ([\w:]+?)(?:::(\w+)|::\{([^}]*)\});", re.MULTILINE)
-END = re.compile(r"\s+(?=requires\b|ensures\b)|\s*\{\s*$|;\s*$", re.MULTILINE)
+END = re.compile(r"(?:\s*//.*)*\s+(?=requires\b|ensures\b)|\s*\{\s*$|;\s*$", re.MULTILINE)
 
 
 @dataclass
@@ -48,17 +48,22 @@ def documentation_of(text, begin):
     for line in reversed(text[:begin].splitlines()):
         line = line.strip()
         if line.startswith("///"):
-            lines.append(line[3:].strip())
+            lines.append(line[3:].removeprefix(" ").rstrip())
         elif not line.startswith(("#[", ")]")):
             break
     return "\n".join(reversed(lines))
+
+
+def without_links(text):
+    """A text whose links to items are the names alone."""
+    return re.sub(r"\[(`[^`]*`)\](\([^)]*\))?|\[([^\]`]*)\]\([\w:]+\)", lambda link: link[1] or link[3], text)
 
 
 def first_sentence(text):
     """The first sentence of a text."""
     paragraph = re.sub(r"\s+", " ", text.split("\n\n")[0]).strip()
     found = re.match(r".*?\.(?=\s+[A-Z`\[(]|$)", paragraph)
-    return re.sub(r"\[(`[^`]*`)\](\([^)]*\))?", r"\1", found[0] if found else paragraph)
+    return without_links(found[0] if found else paragraph)
 
 
 def clauses_at(text, at):

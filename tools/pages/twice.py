@@ -1,4 +1,4 @@
-"""Paragraphs, blocks of code and rows of tables that stand in the pages twice."""
+"""Paragraphs, blocks of code, rows of tables and quoted signatures that stand in the pages twice."""
 
 import re
 
@@ -17,11 +17,18 @@ def pieces_of(text):
             yield text.count("\n", 0, block.start()) + 1, piece
 
 
+def signatures_of(text):
+    """The signatures that a page quotes with their contracts, each with its line."""
+    for block in re.finditer(r"^<!-- made: contracts [\s\S]*?^<!-- end -->$", text, re.MULTILINE):
+        for head in re.finditer(r"^(?:fn|struct|enum|trait|type|const) .*$", block[0], re.MULTILINE):
+            yield text.count("\n", 0, block.start() + head.start()) + 1, head[0]
+
+
 def standing_twice(texts):
-    """Pieces that stand in the pages twice; `texts` are the texts of the pages by their names."""
+    """Pieces and signatures that stand in the pages twice; `texts` are the texts of the pages by their names."""
     first = {}
     for name, text in texts.items():
-        for line, piece in pieces_of(text):
+        for line, piece in [*pieces_of(text), *signatures_of(text)]:
             if piece in first:
                 yield f"{name}:{line}: {piece[:60]}.. stands also in {first[piece]}"
             else:

@@ -1,4 +1,4 @@
--- Codecs of types: what the traits of a type are given. Each is the form of this name in `rlp_reading`, with the proof of its laws.
+-- Codecs of types, from which the traits of a type are made. Each codec is the form of the same name in `rlp_reading`, with the proof of its laws.
 use Rattle.std.specs.{Prelude.{ℕ, ◌≡◌, ◌==◌, ◌⊎◌, Bool, true, false, List, Option, Result}, Int.Digits.number_from_digits}
 use Rattle.rlp_format.specs.{declared.uint.Uint.Uint, Format.Encoding.{Item, is_list}}
 use Rattle.rlp_reading.specs.{Form.{Form, Fault, FieldsForm, FieldsReading, Reading}, Sums.CasesForm}
@@ -11,8 +11,8 @@ use Rattle.rlp_reading.proofs.FieldLaws.{each_lawful, end_lawful, field_lawful, 
 use Rattle.rlp_reading.proofs.{StructLaws.struct_lawful, SumLaws.{and_case_lawful, either_lawful, enveloped_lawful, last_case_lawful, tagged_lawful}}
 use Rattle.rlp_reading.proofs.GroupLaws.{groups_lawful}
 
--- How the values of a type are written and read: which values fit, the item of a value, what views give, and the laws: what is written is read back, and a strict
--- view gives nothing else.
+-- How the values of a type are written and read: which values fit, the item of a value, what views give, and the laws: each value that is written is read back, and
+-- a strict view gives no other value.
 pub record Codec (A : Type 0) : Type 1 where
   pub Fits : A → Type 0
   pub item : A → Item
@@ -59,7 +59,7 @@ string_type Fits bytes seen written read takes_memory law =
 abbrev pub number : ℕ → Codec ℕ
 number width = lawful (form.number width) (number_lawful width)
 
--- truth values
+-- bools
 abbrev pub truth_value : Codec Bool
 truth_value = lawful form.truth_value truth_lawful
 
@@ -83,7 +83,7 @@ raw_item = lawful form.raw_item raw_lawful
 abbrev pub option : {A : Type 0} → Codec A → Codec (Option A)
 option c = lawful (form.option (plain c)) (option_lawful (plain c) c.reads_strictly)
 
--- a type that holds a value of another type, and takes no memory for that
+-- a type that holds a value of another type, and allocates no memory for the value
 abbrev pub newtype : {A B : Type 0} → (B → A) → Codec A → Codec B
 newtype value c = lawful (form.newtype value (plain c)) (newtype_lawful (plain c) value c.reads_strictly)
 
@@ -109,22 +109,22 @@ uint n = newtype (λ (u : Uint n). number_from_digits 256 u.bytes) (number n)
 abbrev pub end : {P : Type 0} → Fields P
 end = lawful_fields form.end end_lawful
 
--- a field before others
+-- a field before other fields
 abbrev pub field : {A P : Type 0} → (P → A) → Codec A → Fields P → Fields P
 field value c more =
     lawful_fields (form.field value (plain c) (plain_fields more)) (field_lawful value (plain c) (plain_fields more) c.reads_strictly more.laws)
 
--- The fields of a part of the value before others. That they are always the same number of items is proved by `refl`.
+-- The fields of a part of the value before other fields. The first fields are always the same number of items, which `refl` proves.
 abbrev pub group : {A P : Type 0} → (P → A) → (f : Fields A) → f.reading.is_fixed ≡ true → Fields P → Fields P
 group value f fixed more =
     lawful_fields (form.group value (plain_fields f) (plain_fields more)) (group_lawful value (plain_fields f) (plain_fields more) fixed f.laws more.laws)
 
--- Groups at the end, each of these fields. That they are the same number of items, and not none, is proved by `refl`.
+-- Groups at the end, each of these fields. A group is always the same number of items, and at least one, which `refl` proves.
 abbrev pub groups : {A P : Type 0} → (P → List A) → (f : Fields A) → f.reading.is_fixed ≡ true → (0 == f.reading.width) ≡ false → Fields P
 groups values f fixed some =
     lawful_fields (form.groups values (plain_fields f)) (groups_lawful values (plain_fields f) fixed some f.laws)
 
--- n fields of one type before others; `value k` is the first of the n
+-- n fields of one type before other fields; `value k` is the first of the n
 abbrev pub each : {A P : Type 0} → (ℕ → P → A) → Codec A → Fields P → ℕ → ℕ → Fields P
 each value c more k n =
     lawful_fields (form.each value (plain c) (plain_fields more) k n) (each_lawful value (plain c) (plain_fields more) c.reads_strictly more.laws k n)
@@ -133,7 +133,7 @@ each value c more k n =
 abbrev pub optional : {A P : Type 0} → (P → Option A) → Codec A → Fields P
 optional value c = lawful_fields (form.optional value (plain c)) (optional_lawful value (plain c) c.reads_strictly)
 
--- Last fields that may be missing together. That one of them is always present is proved by `refl`.
+-- Last fields that may be missing together. If present, the fields are at least one item, which `refl` proves.
 abbrev pub optional_group : {A P : Type 0} → (P → Option A) → (f : Fields A) → f.reading.accepts 0 ≡ false → Fields P
 optional_group value f some =
     lawful_fields (form.optional_group value (plain_fields f)) (optional_group_lawful value (plain_fields f) some f.laws)
@@ -149,16 +149,16 @@ pub record Cases (A : Type 0) : Type 1 where
   pub cases : CasesForm A
   pub laws : CasesAreLawful cases
 
--- A value of the first type is a list, and one of the second a string; both are proved by `λ x. refl`.
+-- A value of the first type is a list, and a value of the second a string; `λ x. refl` proves each.
 abbrev pub list_or_string : {A B : Type 0} (c : Codec A) (d : Codec B) → ((x : A) → is_list (c.item x) ≡ true) → ((y : B) → is_list (d.item y) ≡ false)
     → Codec (A ⊎ B)
 list_or_string c d lists strings = lawful (sums.list_or_string (plain c) (plain d)) (either_lawful (plain c) (plain d) lists strings c.reads_strictly d.reads_strictly)
 
--- the last type of a sum; for a tag that no type has the fault is `Custom` with this text
+-- the last type of a sum; a tag that no type has gives the fault `Custom` with this text
 abbrev pub last_case : {A : Type 0} → List ℕ → ℕ → Codec A → Cases A
 last_case unknown tag c = record { cases = sums.last_case unknown tag (plain c); laws = last_case_lawful unknown tag (plain c) c.reads_strictly }
 
--- a type before others
+-- a type before the other types of a sum
 abbrev pub and_case : {A B : Type 0} → ℕ → Codec A → Cases B → Cases (A ⊎ B)
 and_case tag c more = record { cases = sums.and_case tag (plain c) more.cases; laws = and_case_lawful tag (plain c) more.cases c.reads_strictly more.laws }
 

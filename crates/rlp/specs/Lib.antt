@@ -1,4 +1,4 @@
--- The definitions, in reading order. Each folder lists its files in that order, with a line on each. Each word is defined before it is used.
+-- The definitions, in reading order. Each folder lists its files in reading order, with a line on each. Each word is defined before it is used.
 
 -- items, and the bytes that they are written as
 pub use Rattle.rlp_reading.specs.Format
@@ -6,7 +6,7 @@ pub use Rattle.rlp_reading.specs.Format
 pub use Rattle.rlp_reading.specs.Views
 -- values, their items, and which bytes give them
 pub use Rattle.rlp_reading.specs.Values
--- streams: their states, and what each call makes of one
+-- streams: their states, and the effect of each call
 pub mod Streams
 -- how the values of types are written and read
 pub use Rattle.rlp_reading.specs.Form
@@ -20,7 +20,7 @@ pub use Rattle.rlp_reading.specs.FirstItems
 pub use Rattle.rlp_reading.specs.Laws
 -- what a reader of items has left
 pub mod Left
--- the codec of a custom type, from those of its fields, with its laws
+-- the codec of a custom type, made from the codecs of its fields, with its laws
 pub mod Codec
 -- the faults of decoding
 pub use Rattle.rlp_reading.specs.declared.error.DecoderError
@@ -28,10 +28,10 @@ pub use Rattle.rlp_reading.specs.declared.error.DecoderError
 pub use Rattle.rlp_reading.specs.declared.header.PayloadInfo
 -- what a view begins with
 pub use Rattle.rlp_reading.specs.declared.prototype.Prototype
--- an item of a tree in flat form, and the fault of bytes that have none
+-- an item of a tree in flat form, and the fault of bytes that have no flat form
 pub use Rattle.rlp_reading.specs.declared.flat.FlatItem
 pub use Rattle.rlp_reading.specs.declared.flat.TreeFault
 -- numbers that are kept as n bytes
 pub use Rattle.rlp_format.specs.declared.uint.Uint
--- what prints of a number
+-- the printed text of a number
 pub use Rattle.rlp_format.specs.Values.NumberText

@@ -2,7 +2,7 @@
 pub use Rattle.rlp_write.specs.Streams.Stream
 -- how a state grows
 pub use Rattle.rlp_write.specs.Streams.Growth
--- what a refusal leaves of a stream in a chain
+-- what a call that fails in a chain leaves of a stream
 pub use Rattle.rlp_write.specs.Streams.Chain
 -- values that are appended one after another
 pub use Rattle.rlp_write.specs.Streams.Fields

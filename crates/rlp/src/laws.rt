@@ -1,6 +1,6 @@
 //! Laws over the definitions, as public functions. Each contract is the law, and a body that calls
-//! the function may use it. Most of these functions do nothing. Those that return a `Result` make a
-//! call and return its result, which the law is about.
+//! the function may use it. Most of these functions do nothing. A function that returns a `Result`
+//! makes a call and returns the result of the call, which the law is about.
 
 mod described;
 mod reading;

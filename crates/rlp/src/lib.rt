@@ -1,8 +1,8 @@
 //! The Recursive Length Prefix format: the canonical bytes of an item, which is a byte string or a
 //! list of items.
 //!
-//! A [`Rlp`] is a view of bytes that may hold an item. It reads no more than a call needs, and
-//! every result is a function of its bytes.
+//! A [`Rlp`] is a view of bytes that may hold an item. A call reads no more bytes than it needs,
+//! and every result is a function of the bytes.
 //!
 //! ```rust
 //! let view = rlp::Rlp::new(&[0xc2, 0x05, 0x06]);
@@ -90,7 +90,7 @@ pub fn decode_strict<T: Decodable>(alloc: Global, bytes: &[u8]) -> Result<T, Dec
 ///
 /// Fails with the fault of an item, or with the first fault of the list: `RlpExpectedToBeList` if
 /// the bytes don't begin a list, then the fault of a list that isn't framed, then `RlpIsTooBig` if
-/// bytes follow the list, then the fault of what follows the items in it.
+/// bytes follow the list, then the fault of bytes in the list that follow its last item.
 ///
 /// ```rust
 /// assert_eq!(rt; rlp::decode_list_strict::<u64>(alloc, &[0xc2, 0x05, 0x06])?.as_slice(), [5, 6].as_slice());
@@ -105,9 +105,9 @@ pub fn decode_list_strict<T: Decodable>(alloc: Global, bytes: &[u8]) -> Result<V
 }
 
 /// The value whose whole encoding the bytes are, for a type with [`StrictRead`]. This is
-/// [`decode_strict`], whose contract speaks of any type. The law of the trait says more:
+/// [`decode_strict`] with a contract that says more, by the law of the trait:
 ///
-/// - A value fits, and the bytes are its encoding.
+/// - A value that is returned fits, and the bytes are its encoding.
 /// - For the encoding of a value that fits, the result is a value alike to it, or `OutOfMemory` if
 ///   memory is refused.
 ///
@@ -131,7 +131,7 @@ pub fn decode_whole<T: StrictRead>(alloc: Global, bytes: &[u8]) -> Result<T, Dec
 /// The values of the list whose whole encoding the bytes are, for a type with [`StrictRead`]:
 /// [`decode_list_strict`], with what the law of the trait says of a list:
 ///
-/// - The values fit, and the bytes are the encoding of their list.
+/// - Values that are returned fit, and the bytes are the encoding of the list of these values.
 /// - For the encoding of a list of values that fit, the result has values alike to them, or is
 ///   `OutOfMemory` if memory is refused.
 ///

@@ -40,14 +40,14 @@ impl<T: Decodable> Decodable for ListField<T> {
 /// Why a struct can't be read.
 #[derive(Debug, PartialEq, Eq, Drop)]
 pub struct FieldFault {
-    /// The place in the list of the item that isn't read, counted from 0. `None` if the bytes aren't
-    /// a list, or are a list with a wrong number of items.
+    /// The place, counted from 0, of the item in the list that can't be read. `None` if the bytes
+    /// aren't a list, or are a list with a wrong number of items.
     pub place: Option<usize>,
     /// The fault.
     pub fault: DecoderError,
 }
 
-/// Prints the fault's name, after the place and a colon if there is one, as in
+/// Prints the fault's name, after the place of the field and a colon if a field is at fault, as in
 /// `field 2: RlpIsTooBig`.
 impl fmt::Display for FieldFault {
     ghost output = { λ e. Some (field_fault_text e.place e.fault) };
@@ -66,12 +66,12 @@ impl Error for FieldFault {}
 ///
 /// Pairs that end with `()` are fields one after another, as in `(a, (b, ()))`. The last fields may
 /// be an [`OptionalField`], an [`OptionalGroup`] or [`Groups`] in the place of `()`. A struct has
-/// this trait if its fields stand in the list of another struct.
+/// this trait if its fields are in the list of another struct.
 pub trait DecodeFields: Sized {
     /// How the fields are read.
     ghost reading: { FieldsReading Self };
 
-    /// Returns whether the fields may be `len` items. [`decode_struct`] asks after a fault.
+    /// Returns whether the fields may be `len` items. [`decode_struct`] calls it after a fault.
     fn accepts(len: usize) -> bool
         ensures { result ≡ reading.accepts len };
 
@@ -85,7 +85,8 @@ pub trait DecodeFields: Sized {
             ⊎ ((e ≡ OutOfMemory) × IsTrue reading.takes_memory)) }
         ensures after { fields.new.after ≡ fields.old.after };
 
-    /// Where the fields are all of the items, [`accepts`](DecodeFields::accepts) takes their number.
+    /// If the fields are all of the items, [`accepts`](DecodeFields::accepts) returns `true` for
+    /// the number of items.
     ghost possible: { TakePossible Self.reading };
 }
 
@@ -104,7 +105,7 @@ impl DecodeFields for () {
     ghost possible = { end_possible };
 }
 
-/// A field, and those after it.
+/// A field, and the fields after it.
 impl<T: Decodable, Q: DecodeFields> DecodeFields for (T, Q) {
     ghost reading = { group_before (λ x. x.0) (one_field T.reading)
         (part_fields (λ x. x.1) Q.reading) };
@@ -135,9 +136,9 @@ impl<T: Decodable, Q: DecodeFields> DecodeFields for (T, Q) {
 /// Reads the fields of a struct from the list that the view begins with, and says which field
 /// fails. `rlp::decode_fields!` calls it.
 ///
-/// Fails with `RlpIncorrectListLen` and no place if the number of items is wrong, whatever the items
-/// are. Also fails as [`Rlp::item_count`] does, with no place, and with the fault of the first field
-/// that fails and its place.
+/// Fails with `RlpIncorrectListLen` and no place if the number of items is wrong, whatever the
+/// items are. Also fails as [`Rlp::item_count`] does, with no place, and with the fault and the
+/// place of the first field that fails.
 ///
 /// It walks over the items once more only after a fault, to find which fault comes first.
 #[inline(always)]
@@ -166,9 +167,9 @@ pub fn decode_struct<F: DecodeFields + Drop>(alloc: Global, rlp: &Rlp<'_>) -> Re
     }
 }
 
-/// The fault of a struct whose fields [`decode_struct`] can't read: that of the list, or else a wrong
-/// number of items, or else what was found in the item before the last `after` items. It walks over
-/// the items.
+/// The fault of a struct whose fields [`decode_struct`] can't read: the fault of the list, or else
+/// a wrong number of items, or else the fault of the item before the last `after` items. It walks
+/// over the items.
 #[inline(never)]
 #[tactic(auto, using(crate::proofs::Counting::counted_faults))]
 fn first_fault<F: DecodeFields>(rlp: &Rlp<'_>, after: usize, found: DecoderError) -> FieldFault
@@ -201,10 +202,11 @@ fn first_fault<F: DecodeFields>(rlp: &Rlp<'_>, after: usize, found: DecoderError
 ///
 /// A reference to a value is one item. `ListOf(&self.keys)` is one item, which is a list.
 /// `Each(&self.children)` is one item for each value. `Flattened(&self.pairs)` is the fields of
-/// each value, and `FieldsOf(&self.payload)` those of a struct. Fails as [`write_struct`] does.
+/// each value, and `FieldsOf(&self.payload)` is the fields of a struct. Fails as [`write_struct`]
+/// does.
 ///
-/// What stands last may be missing: `Optional(&self.base_fee)` is one item if the option is `Some`,
-/// and `OptionalListOf(&self.withdrawals)` is one that is a list. `OptionalGroupOf(&self.since_london)`
+/// The last field may be missing: `Optional(&self.base_fee)` is one item if the option is `Some`,
+/// and `OptionalListOf(&self.withdrawals)` is then one list. `OptionalGroupOf(&self.since_london)`
 /// is the fields of a struct if the option is `Some`.
 ///
 /// ```rust
@@ -260,11 +262,11 @@ macro_rules! append_fields {
 /// written `sides: [_, _]`, with a `_` for each value.
 ///
 /// The last field may be missing. It is an `Option`, and is written `nonce: ?`, or `keys: [..]?` if
-/// it is a list. Fields that are missing together are a struct of their own with [`DecodeFields`], in
-/// an `Option` that is written `since_london: (..)?`. Instead the last field may be groups of fields,
-/// such as keys and values one after another, in a vector of [`FixedFields`]: it is written
-/// `pairs: [(..)]`. A struct whose fields stand first in the list is written `payload: (..)`, if it
-/// has [`FixedFields`].
+/// it is a list. Fields that are missing together are a struct of their own with [`DecodeFields`],
+/// in an `Option` that is written `since_london: (..)?`. The last field may also be a vector of
+/// [`FixedFields`], which is groups of fields, such as keys and values one after another: it is
+/// written `pairs: [(..)]`. A struct with [`FixedFields`] whose fields come first in the list is
+/// written `payload: (..)`.
 ///
 /// More than sixteen fields are read in groups, `(a, b, c), (d, e, f), g`, for each of which the
 /// definition of the codec has a `group`.
@@ -275,8 +277,8 @@ macro_rules! append_fields {
 /// }
 /// ```
 ///
-/// With the word `fields` in front, and a reader of fields in the place of the view, it is the whole
-/// body of a [`DecodeFields::decode_fields`].
+/// With the word `fields` in front, and a reader of fields in the place of the view, the macro is
+/// the whole body of a [`DecodeFields::decode_fields`].
 ///
 /// ```rust
 /// fn decode_fields(alloc: Global, fields: &mut Fields<'_>) -> Result<Pair, DecoderError> {
@@ -285,8 +287,8 @@ macro_rules! append_fields {
 /// ```
 #[macro_export]
 macro_rules! decode_fields {
-    // Each field is moved out of the values, and the others are left: a pattern of all fields at
-    // once takes long to check.
+    // Each field is moved out of the values, and the remaining fields are left: a pattern of all
+    // fields at once takes long to check.
     (@next $head:tt $left:ident [$($moves:tt)*] $names:tt) => {
         $crate::decode_fields!(@call $head $left [$($moves)* let () = $left;] $names)
     };

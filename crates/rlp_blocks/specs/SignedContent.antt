@@ -1,4 +1,4 @@
--- What the key of an account or of a node signs, and when two of these mean the same.
+-- What the key of an account or of a node signs, and when two such contents mean the same.
 use Rattle.std.specs.Prelude.{ℕ, ◌≡◌, ◌≢◌, ⊤, List, ◌∷◌}
 use Rattle.rlp_records.specs.{Keccak.keccak256, OtherEnvelope.{IsOther, other_type}}
 use Rattle.rlp.specs.Format.Encoding.{encoding}
@@ -12,7 +12,7 @@ pub data SignedContent : Type 0 where
   of_node : NodeFields → SignedContent
   of_message : List ℕ → SignedContent
 
--- The bytes that are hashed and signed. EIP-191, and EIP-712 with it, puts the byte 0x19 before a message. Of another type all bytes are given.
+-- The bytes that are hashed and signed. EIP-191, and EIP-712 with it, puts the byte 0x19 before a message. A transaction of another type is given as all its bytes.
 abbrev pub content_bytes : SignedContent → List ℕ
 content_bytes (of_account x) = signed_bytes x
 content_bytes (of_other d) = d
@@ -26,8 +26,8 @@ FitsContent (of_other d) = IsOther d × (other_type d ≢ 0x19)
 FitsContent (of_node f) = IsNodeRecord f
 FitsContent (of_message m) = ⊤
 
--- Both are transactions of one known type or authorizations, with the same fields; or are of node records with the same sequence number, keys and values; or are
--- messages, or transactions of another type, with the same bytes.
+-- The two are transactions of one known type, or authorizations, with the same fields; or are the contents of node records with the same sequence number, keys and
+-- values; or are messages, or transactions of another type, with the same bytes.
 abbrev pub MeanTheSame : SignedContent → SignedContent → Type 0
 MeanTheSame (of_account x) (of_account y) = HaveOneMeaning x y
 MeanTheSame (of_other d) (of_other e) = d ≡ e
@@ -35,7 +35,7 @@ MeanTheSame (of_node f) (of_node g) = signed_item f ≡ signed_item g
 MeanTheSame (of_message m) (of_message n) = m ≡ n
 MeanTheSame one other = ⊥
 
--- Two different byte strings have one Keccak-256 hash.
+-- The two byte strings differ and have the same Keccak-256 hash.
 pub record AreCollision (a b : List ℕ) : Type 0 where
   pub differ : a ≢ b
   pub hash : keccak256 a ≡ keccak256 b

@@ -10,14 +10,14 @@ use rlp_headers::{Header, Withdrawals};
 use rlp_transactions::AnyTransaction;
 use std::alloc::{AllocError, Global};
 
-/// A block: the list of three fields, and of one more since Shanghai, EIP-4895.
+/// A block: the list of three fields, or since Shanghai of four, as in EIP-4895.
 #[derive(Debug, Clone, PartialEq, Eq, Drop)]
 pub struct Block {
     /// The header.
     pub header: Header,
     /// The transactions, in order.
     pub transactions: Vec<AnyTransaction>,
-    /// The headers of the ommers. There are none since EIP-3675.
+    /// The headers of the ommers. No block has ommers since EIP-3675.
     pub ommers: Vec<Header>,
     /// The withdrawals from the beacon chain, in order, or `None` in blocks before Shanghai.
     pub withdrawals: Option<Withdrawals>,

@@ -10,12 +10,12 @@ use rlp_headers::{Header, Withdrawals};
 use rlp_transactions::AnyTransaction;
 use std::alloc::{AllocError, Global};
 
-/// The body of a block: the list of two fields, and of one more since Shanghai, EIP-4895.
+/// The body of a block: the list of two fields, or since Shanghai of three, as in EIP-4895.
 #[derive(Debug, Clone, PartialEq, Eq, Drop)]
 pub struct Body {
     /// The transactions, in order.
     pub transactions: Vec<AnyTransaction>,
-    /// The headers of the ommers. There are none since EIP-3675.
+    /// The headers of the ommers. No block has ommers since EIP-3675.
     pub ommers: Vec<Header>,
     /// The withdrawals from the beacon chain, in order, or `None` in blocks before Shanghai.
     pub withdrawals: Option<Withdrawals>,

@@ -4,15 +4,15 @@ ghost use Rattle.std.specs.Prelude.{◌≡◌, ◌<◌, ◌^◌, ◌⊎◌, leng
 ghost use Rattle.rlp_records.specs.Keccak.{keccak256};
 ghost use Rattle.rlp_blocks.specs.SignedContent.{AreCollision, FitsContent, MeanTheSame, SignedContent, content_bytes};
 
-/// Nothing that a key signs has two meanings. A key of an account signs transactions, authorizations,
-/// and messages, which begin with the byte 0x19, as in EIP-191 and EIP-712; the key of a node signs
-/// node records. Transactions of types that aren't known are taken to begin with their type, which
-/// isn't 0x19. If two of these have the same bytes, fewer than 2^64, they are signed for the same
-/// purpose, with the same fields. That node records and legacy transactions, both lists, differ,
-/// rests on the order of the keys of a record.
+/// Nothing that a key signs has two meanings. A key of an account signs transactions,
+/// authorizations, and messages, which begin with the byte 0x19, as in EIP-191 and EIP-712; the key
+/// of a node signs node records. The law takes the bytes of a transaction of an unknown type to
+/// begin with the type, which isn't 0x19. If two contents have the same bytes, fewer than 2^64,
+/// they are signed for the same purpose, with the same fields. Node records and legacy transactions
+/// are both lists: they differ because the keys of a record are in order.
 ///
-/// What is signed is the Keccak-256 hash of the bytes: if two hashes are equal, the meaning is the
-/// same, or two different byte strings have one hash.
+/// What is signed is the Keccak-256 hash of the bytes: if two hashes are equal, the two meanings
+/// are the same, or two different byte strings have the same hash.
 pub fn no_content_is_signed_for_two_meanings()
     ensures meaning { (one other : SignedContent) → FitsContent one → FitsContent other
         → length (content_bytes one) < 2 ^ 64 → content_bytes one ≡ content_bytes other

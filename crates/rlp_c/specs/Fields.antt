@@ -17,7 +17,7 @@ number_of (i ∷ path) = i + 1
 abbrev pub without_value : {M : Type 0} → Result M Fault → Result ⊤ Fault
 without_value r = map_value (λ x. tt) r
 
--- the answer without the value, and with the number of the item that has the fault
+-- the answer without the value; a fault is given with the number of the item that has it
 abbrev pub numbered : {M : Type 0} → Answer M Fault → Result ⊤ (ℕ × Fault)
 numbered a = map_fault (λ e. (number_of a.path, e)) (without_value a.result)
 

@@ -17,8 +17,8 @@ flat place depth x = flat_rows row_of place depth x
 abbrev pub flat_items : ℕ → ℕ → Items → List RlpItem
 flat_items place depth xs = flat_rows_inside row_of place depth xs
 
--- The answer for bytes: the rows of the item whose encoding they are, or their first fault if they aren't the encoding of an item within the depth. `count` is
--- the number of rows, and if the array has room for them, it begins with them, and the elements behind them are as they were.
+-- The answer for bytes: the rows of the item whose encoding the bytes are, or the first fault of the bytes if they aren't the encoding of an item within the depth.
+-- `count` is the number of rows. If the array has room for the rows, it begins with them, and the elements behind the rows are as they were.
 pub data IsFlattened (most : ℕ) (b : List ℕ) (old new : List RlpItem) (old_count count status : ℕ) : Type 0 where
   filled : (x : Item) → b ≡ encoding x → item_depth x ≤ most → count ≡ length (flat 0 0 x) → count ≤ length old
       → new ≡ flat 0 0 x ++ drop count old → status ≡ 0 → IsFlattened most b old new old_count count status

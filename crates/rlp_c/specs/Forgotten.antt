@@ -16,7 +16,7 @@ forgotten r = record {
   takes_memory = r.takes_memory;
 }
 
--- fields that are forgotten are all of the items where the fields are
+-- if the law `TakePossible` holds of fields, it also holds of the fields when they aren't kept
 pub forgotten_possible : {P Q : Type 0} (r : FieldsReading P) → TakePossible r → TakePossible (forgotten {Q = Q} r)
 forgotten_possible r law = record {
   all = λ vs.

@@ -20,7 +20,7 @@ fields_of (FeeMarket t) = signed_fee_market_transaction.item t
 fields_of (Blob t) = signed_blob_transaction.item t
 fields_of (SetCode t) = signed_set_code_transaction.item t
 
--- where the list begins: behind the byte of the type, if there is one
+-- where the list begins: behind the byte of the type, or at the first byte of a legacy transaction
 abbrev pub place_of : Transaction → ℕ
 place_of (Legacy t) = 0
 place_of (AccessList t) = 1

@@ -16,13 +16,13 @@ most_fields BlobPayload = 14
 most_fields SetCodePayload = 13
 most_fields Header = 23
 
--- The number of the field that has a fault. If the number of fields is wrong, it is the number of the first that is missing, or of the first after the `most` fields
--- that a record may have.
+-- The number of the field that has a fault. If the number of fields is wrong, it is the number of the first field that is missing, or of the first item after the
+-- `most` fields that a record may have.
 abbrev pub faulty_field : ℕ → ℕ → ℕ → ℕ → ℕ
 faulty_field most items number status = if (number == 0) && (status == 5) then (if nat_lt items most then items + 1 else most + 1) else number
 
--- The answer for the list b, which begins at this place, by what the codec of the record gives for it: the places of the fields, or the fault and the number of the
--- field that has it.
+-- The answer for the list b, which begins at this place, by what the codec of the record gives for b: the places of the fields, or the fault and the number of the
+-- field that has the fault.
 abbrev pub IsRecordRead : Record → ℕ → List ℕ → List RlpItem → List RlpItem → ℕ → ℕ → Result ⊤ (ℕ × Fault) → Type 0
 IsRecordRead r place b old new count status (Ok x) = ArePlaced place b (items b) old new count status
 IsRecordRead r place b old new count status (Err e) =
@@ -37,12 +37,12 @@ record_of_type k =
     else if k == 4 then Some SetCodePayload
     else None
 
--- what bytes give as a transaction by itself, as in EIP-2718
+-- what bytes give as a standalone transaction, as in EIP-2718
 abbrev pub transaction_result : List ℕ → Result ⊤ (ℕ × Fault)
 transaction_result b = numbered (typed_alone transaction_types b)
 
--- The answer for a transaction by itself, by what its codec gives for it: a legacy list, with the type 0, or the byte of a type and a list. A type that isn't known
--- has a status of its own.
+-- The answer for a standalone transaction, by what its codec gives: a legacy list, with the type 0, or the byte of a type and a list. An unknown type has a status
+-- of its own.
 pub data IsTransactionRead (b : List ℕ) (old new : List RlpItem) (old_type type count status : ℕ) (a : Result ⊤ (ℕ × Fault)) : Type 0 where
   legacy : begins_as_list b ≡ true → type ≡ 0 → IsRecordRead Legacy 0 b old new count status a → IsTransactionRead b old new old_type type count status a
   typed : (k : ℕ) (p : List ℕ) (r : Record) → b ≡ k ∷ p → record_of_type k ≡ Some r → type ≡ k → IsRecordRead r 1 p old new count status a

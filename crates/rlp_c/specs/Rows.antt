@@ -32,14 +32,14 @@ abbrev pub header_length : Result PayloadInfo DecoderError → ℕ
 header_length (Ok p) = p.header_len
 header_length (Err e) = 0
 
--- The places of items f, one after another in a list b that begins at this place: `count` is the number of the items, and if the array has room for their rows, it
--- begins with the rows, and the elements behind them are as they were.
+-- The places of items f, one after another in a list b that begins at this place: `count` is the number of items. If the array has room for their rows, it begins
+-- with the rows, and the elements behind the rows are as they were.
 abbrev pub ArePlaced : ℕ → List ℕ → List (List ℕ) → List RlpItem → List RlpItem → ℕ → ℕ → Type 0
 ArePlaced place b fs old new count status = (count ≡ length fs)
     × (((count ≤ length old) × (status ≡ 0) × (new ≡ rows_at (place + header_length (framing b)) 1 fs ++ drop count old))
     ⊎ ((length old < count) × (status ≡ 13)))
 
--- The answer for the items of one list, which begins at this place: if b isn't exactly one list, its fault, and else the places of its items.
+-- The answer for the items of one list, which begins at this place: the fault of b if it isn't exactly one list, and else the places of the items.
 abbrev pub IsItemized : ℕ → List ℕ → List RlpItem → List RlpItem → ℕ → ℕ → ℕ → Option DecoderError → Type 0
 IsItemized place b old new old_count count status (Some e) = (status ≡ fault_status e) × (count ≡ old_count)
 IsItemized place b old new old_count count status None = ArePlaced place b (items b) old new count status

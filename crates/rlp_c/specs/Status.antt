@@ -1,11 +1,11 @@
--- The numbers by which C tells faults apart.
+-- The status numbers of faults in C.
 use Rattle.std.specs.Prelude.{ℕ}
 use Rattle.rlp_reading.specs.{declared.error.DecoderError.DecoderError, declared.flat.TreeFault.TreeFault}
 use Rattle.rlp_reading.specs.declared.flat.TreeFault.TheVariants.{Decoding, TooDeep}
 use Rattle.rlp_reading.specs.Form.{Fault, custom, data_len_with_zero, expected_data, expected_list, fault_of, inconsistent_len, incorrect_list_len, invalid_indirection, invalid_len}
 use Rattle.rlp_reading.specs.Form.{is_too_big, is_too_short, list_len_with_zero, out_of_memory}
 
--- the number of a fault; 0 is none of them
+-- the number of a fault; no fault has the number 0
 abbrev pub fault_number : Fault → ℕ
 fault_number is_too_big = 1
 fault_number is_too_short = 2

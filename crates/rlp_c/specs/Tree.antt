@@ -7,7 +7,7 @@ use Rattle.rlp_c.specs.{declared.item.RlpItem.RlpItem, Rows.payload_at}
 abbrev pub item_of : List ℕ → RlpItem → Items → Item
 item_of b r inner = if r.is_list == 0 then string (payload_at b r) else list inner
 
--- The items of this depth, up to the first row of a smaller depth. The rows of a greater depth are in the items in front of them.
+-- The items of this depth, up to the first row of a smaller depth. A row of a greater depth is in an item before it.
 unfoldable pub items_of : List ℕ → ℕ → List RlpItem → Items
 items_of b depth [] = no_items
 items_of b depth (r ∷ rs) =
@@ -20,7 +20,7 @@ unfoldable pub tree_of : List ℕ → List RlpItem → Item
 tree_of b [] = list no_items
 tree_of b (r ∷ rs) = item_of b r (items_of b 1 rs)
 
--- the greatest depth of a row that follows this one: that of the items in it
+-- the greatest depth that the row after this one may have: the depth of the items in a list, and the depth of a string itself
 abbrev pub depth_behind : RlpItem → ℕ
 depth_behind r = if r.is_list == 0 then r.depth else r.depth + 1
 
@@ -31,7 +31,7 @@ pub record IsRow (limit len least most : ℕ) (r : RlpItem) : Type 0 where
   pub shallow : depth_behind r ≤ limit
   pub within : r.is_list ≡ 0 → r.offset + r.header_len + r.payload_len ≤ len
 
--- rows whose first has a depth between these two, and each other is inside the first list and at most as deep as the row before it allows
+-- the first row has a depth between these two, and each later row is inside the first list and at most as deep as the row before it allows
 abbrev pub AreRows : ℕ → ℕ → ℕ → ℕ → List RlpItem → Type 0
 AreRows limit len least most [] = Unit {0}
 AreRows limit len least most (r ∷ rs) = IsRow limit len least most r × AreRows limit len 1 (depth_behind r) rs
@@ -41,6 +41,6 @@ pub record DescribeTree (limit : ℕ) (b : List ℕ) (rows : List RlpItem) : Typ
   pub some : 1 ≤ length rows
   pub fit : AreRows limit (length b) 0 0 rows
 
--- what is written for a row alone, in front of this number of bytes that are written for the items in it
+-- the bytes that are written for a row itself, in front of this number of bytes for the items in it
 abbrev pub front_of : List ℕ → RlpItem → ℕ → List ℕ
 front_of b r inside = if r.is_list == 0 then string_encoding (payload_at b r) else written_header 0xc0 inside

@@ -5,8 +5,8 @@ ghost use Rattle.rlp_reading.specs.Format.Framing.{IsCanonicalWithin};
 
 use rlp_reading::walking::is_canonical;
 
-/// The greatest depth of lists that any function goes to, whatever the caller allows. It bounds how
-/// many calls of itself a function is in.
+/// The greatest depth of lists that any function goes to, whatever the caller allows. It bounds the
+/// depth of recursion.
 pub const RLP_DEPTH_LIMIT: u32 = 256;
 
 /// The depth that a caller allows, but no more than the limit.

@@ -63,7 +63,7 @@ fn write_string(bytes: &[u8], out: &mut [u8], count: &mut usize) -> u32
     )
 }
 
-/// Whether these bytes are one below 0x80.
+/// Whether the bytes are one byte below 0x80.
 #[inline(always)]
 pub(crate) fn is_low_byte(bytes: &[u8]) -> bool
     ensures { result ≡ is_low_byte bytes.now }
@@ -74,7 +74,7 @@ pub(crate) fn is_low_byte(bytes: &[u8]) -> bool
     }
 }
 
-/// Writes some bytes and then others.
+/// Writes some bytes and then other bytes.
 #[inline(always)]
 fn write_both(front: &[u8], back: &[u8], out: &mut [u8], count: &mut usize) -> u32
     ensures { IsWritten (front.now ++ back.now) out.old out.new count.old count.new result }

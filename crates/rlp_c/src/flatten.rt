@@ -9,8 +9,8 @@ use crate::status::{RLP_NO_ROOM, RLP_OK, status_of_tree};
 use rlp_reading::walking::walk_whole;
 
 /// Writes a row for each item of the tree whose encoding the bytes are. `count` gets the number of
-/// rows. The elements behind them stay as they were. If the array has fewer elements, the status is
-/// [`RLP_NO_ROOM`], and a second call with `count` elements gives the rows.
+/// rows. The elements behind the rows stay as they were. If the array has fewer elements, the
+/// status is [`RLP_NO_ROOM`], and a second call with `count` elements gives the rows.
 #[unsafe(no_mangle)]
 pub extern "C" fn rlp_flatten(
     bytes: &[u8],

@@ -6,8 +6,8 @@ ghost use Rattle.rlp_format.specs.Values.Value.{bit};
 use rlp_reading::flat::{FlatItem, FlatRow};
 
 /// An item of some bytes. Its header begins at `offset`, and its payload follows the header.
-/// `depth` is the number of lists around it. `is_list` is 1 for a list and 0 for a string: a
-/// number, so that an array of any bytes is one of items.
+/// `depth` is the number of lists around it. `is_list` is 1 for a list and 0 for a string: a number
+/// and not a `bool`, so that an array of any bytes is a valid array of items.
 #[repr(C)]
 #[derive(Clone, Copy)]
 pub struct RlpItem {

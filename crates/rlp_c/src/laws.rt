@@ -1,4 +1,4 @@
-//! Laws over the definitions. These functions have no effect: each contract is the law.
+//! Laws over the definitions. The functions do nothing: the contract of each function is the law.
 
 ghost use Rattle.std.specs.Prelude.{ℕ, ◌≡◌, ◌≤◌};
 ghost use Rattle.rlp_format.specs.Format.Encoding.{Item, item_depth, encoding};

@@ -1,5 +1,5 @@
-//! The codec for other languages: functions with C's calling convention. `bindings/c/rlp.h` declares
-//! them and says what a caller owes.
+//! The codec for other languages: functions with C's calling convention. `bindings/c/rlp.h`
+//! declares the functions and says what a caller must ensure.
 #![tactic(auto)]
 
 mod canonical;

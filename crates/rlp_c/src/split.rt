@@ -10,10 +10,10 @@ use rlp::DecoderError;
 use rlp_reading::framed::{begins_as_list, first_framed, whole_framed};
 use rlp_reading::walking::put;
 
-/// Writes a row for each item of the list that the bytes are. It doesn't look into the items.
-/// `count` gets the number of items. The elements behind their rows stay as they were. If the array
-/// has fewer elements, the status is [`RLP_NO_ROOM`], and a second call with `count` elements gives
-/// the rows.
+/// Writes a row for each item of the list that the bytes are. It reads only the header of each
+/// item. `count` gets the number of items. The elements behind the rows stay as they were. If the
+/// array has fewer elements, the status is [`RLP_NO_ROOM`], and a second call with `count` elements
+/// gives the rows.
 #[unsafe(no_mangle)]
 pub extern "C" fn rlp_split(bytes: &[u8], out: &mut [RlpItem], count: &mut usize) -> u32
     ensures { IsItemized 0 bytes.now out.old out.new count.old count.new result
@@ -49,8 +49,8 @@ pub(crate) fn split_list(bytes: &[u8], place: usize, out: &mut [RlpItem], count:
     }
 }
 
-/// Writes a row for each item of a payload that begins at this place, and returns their number, or
-/// the fault of what follows the items.
+/// Writes a row for each item of a payload that begins at this place, and returns the number of
+/// rows, or the fault of the bytes that follow the items.
 #[tactic(auto, using(crate::proofs::Splitting::payload_split))]
 fn split_payload(payload: &[u8], place: usize, out: &mut [RlpItem]) -> Result<usize, DecoderError>
     requires { place + length payload.now < 2 ^ 64 }

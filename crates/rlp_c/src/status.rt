@@ -1,11 +1,11 @@
-//! The numbers by which C tells faults apart.
+//! The status numbers of faults in C.
 
 ghost use Rattle.std.specs.Prelude.{◌≡◌};
 ghost use Rattle.rlp_c.specs.Status.{fault_status, tree_status};
 
 use rlp::{DecoderError, TreeFault};
 
-/// Everything went well.
+/// The call succeeded.
 pub const RLP_OK: u32 = 0;
 /// A number of a signature is out of range: the one custom fault of the fields of records.
 pub const RLP_INVALID_SIGNATURE: u32 = 11;
@@ -17,7 +17,7 @@ pub const RLP_TOO_DEEP: u32 = 14;
 /// The items describe no tree, or point outside the bytes.
 pub const RLP_BAD_ITEMS: u32 = 15;
 
-/// A transaction has a type that isn't known.
+/// A transaction has an unknown type.
 pub const RLP_UNKNOWN_TYPE: u32 = 16;
 
 /// The number of a fault.

@@ -11,11 +11,11 @@ use crate::status::{RLP_BAD_ITEMS, RLP_NO_ROOM, RLP_OK, status_of};
 use rlp::DecoderError;
 use rlp_write::header::{LIST, STRING, list_header_len, written_header};
 
-/// The number of sizes that are kept: one for each depth of an item, and one for what is in the
+/// The number of sizes that are kept: one for each depth of an item, and one for the items in the
 /// deepest list.
 const DEPTHS: usize = 258;
 
-/// Writes the encoding of the tree that the items describe, in the order of `rlp_flatten`. Of a
+/// Writes the encoding of the tree that the items describe, in the order of `rlp_flatten`. For a
 /// list only `depth` and `is_list` are read. The payload of a string is the part of `bytes` that
 /// its item points at.
 #[unsafe(no_mangle)]
@@ -161,7 +161,7 @@ fn string_of<'a>(item: &RlpItem, bytes: &'a [u8]) -> &'a [u8]
     &rest[..item.payload_len]
 }
 
-/// The length of what is written for an item alone, if what is inside it takes `inside` bytes.
+/// The number of bytes that are written for an item itself, if the items in it take `inside` bytes.
 #[inline(always)]
 fn front_len(item: &RlpItem, bytes: &[u8], inside: usize) -> usize
     requires { item.now.is_list ≡ 0

@@ -22,7 +22,7 @@ fn view_over(bytes: &[u8], strict: bool) -> Rlp<'_>
     }
 }
 
-/// Reads a number below 2^64. If strict, nothing may follow it.
+/// Reads a number below 2^64. If strict, nothing may follow the number.
 #[unsafe(no_mangle)]
 pub extern "C" fn rlp_decode_u64(alloc: Global, bytes: &[u8], strict: bool, out: &mut u64) -> u32
     ensures { Answers (λ n. n) ((number 8).reading.read (view_as strict bytes.now)).result
@@ -37,8 +37,8 @@ pub extern "C" fn rlp_decode_u64(alloc: Global, bytes: &[u8], strict: bool, out:
     }
 }
 
-/// Finds the digits of a number of at most `width` bytes, the greatest first and without leading
-/// zeros: the row is the one that [`rlp_decode_bytes`] finds. If strict, nothing may follow it.
+/// Finds the big-endian digits, without leading zeros, of a number of at most `width` bytes: the
+/// row is the one that [`rlp_decode_bytes`] finds. If strict, nothing may follow the number.
 #[unsafe(no_mangle)]
 #[tactic(auto, using(crate::proofs::Statuses::number_within))]
 pub extern "C" fn rlp_decode_uint(
@@ -87,7 +87,8 @@ fn check_number(digits: &[u8], most: usize) -> Result<(), DecoderError>
     }
 }
 
-/// Finds a byte string: the row is the one that `rlp_header` finds. If strict, nothing may follow it.
+/// Finds a byte string: the row is the one that `rlp_header` finds. If strict, nothing may follow
+/// the string.
 #[unsafe(no_mangle)]
 #[tactic(auto, using(crate::proofs::Statuses::number_within))]
 pub extern "C" fn rlp_decode_bytes(bytes: &[u8], strict: bool, out: &mut RlpItem) -> u32

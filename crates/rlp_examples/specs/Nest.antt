@@ -19,7 +19,7 @@ nest_reading {A} r = struct_reading (group_before (λ (n : Nest A). n.0) (one_fi
 abbrev pub nest_form : {A : Type 0} → Form A → Form (Nest A)
 nest_form {A} c = form.struct_of (form.field (λ (n : Nest A). n.0) (form.list_type vec_items c) form.end)
 
--- A nest is read back if its values are, whether they are read strictly or not.
+-- If the values of a nest are read back, the nest is read back, strictly or not.
 pub nest_read_back : {A : Type 0} (c : Form A) → IsReadBack c → IsReadBack (nest_form c)
 nest_read_back {A} c law =
     let values = λ (n : Nest A). n.0 in

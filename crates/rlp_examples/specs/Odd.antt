@@ -3,7 +3,7 @@ use Rattle.std.specs.Prelude.{ℕ, ◌%◌, ◌==◌, if◌then◌else◌, false
 use Rattle.rlp.specs.{Values.Value.number_item, Form.{Fault, Reading, custom, go_on, here, number}}
 use Rattle.rlp_examples.specs.declared.odd.Odd.{Odd}
 
--- an odd number, or the fault of an even one
+-- an odd number, or the fault of an even number
 abbrev pub odd_of : ℕ → Result ℕ Fault
 odd_of n = if n % 2 == 0 then Err (custom (codes "even")) else Ok n
 

@@ -1,9 +1,9 @@
-//! A value that is always refused, after some of its bytes.
+//! A value whose writing always fails, after some of its bytes.
 
 use rlp::{Encodable, RlpStream};
 use std::alloc::AllocError;
 
-/// It writes a string, and is then refused.
+/// Its `rlp_append` writes a string, and then fails.
 #[derive(Debug, Drop)]
 pub struct HalfWritten;
 

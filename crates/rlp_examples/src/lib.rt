@@ -1,5 +1,5 @@
-//! Custom types that `rlp` writes and reads, and functions that call `rlp`. Each is proved from the
-//! public contracts and from the lemmas that authors of types cite.
+//! Custom types that `rlp` writes and reads, and functions that call `rlp`. All of them are proved
+//! from the public contracts and from the lemmas for authors of types.
 #![tactic(auto)]
 
 mod appends;

@@ -11,7 +11,7 @@ use std::alloc::{AllocError, Global};
 #[derive(Drop)]
 pub struct Nonce(pub u64);
 
-/// Written as a `u64` is.
+/// Written as a `u64`.
 impl Encodable for Nonce {
     ghost item = { λ n. number_item n.0 };
 
@@ -22,7 +22,7 @@ impl Encodable for Nonce {
     }
 }
 
-/// Read as a `u64` is.
+/// Read as a `u64`.
 impl Decodable for Nonce {
     ghost reading = { (newtype (λ (n : Self). n.0) (number 8)).reading };
 

@@ -7,7 +7,7 @@ use std::alloc::{AllocError, Global};
 #[derive(Debug, PartialEq, Eq, Drop)]
 pub struct Odd(pub u64);
 
-/// A number of at most eight bytes. An even one fails with `Custom("even")`.
+/// Reads a number of at most eight bytes. Fails with `Custom("even")` if it is even.
 impl Decodable for Odd {
     ghost use Rattle.rlp_examples.specs.Odd.{odd};
 

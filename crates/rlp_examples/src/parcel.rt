@@ -1,4 +1,5 @@
-//! A struct with a list and a last field that may be missing, and what equal items say of two.
+//! A struct with a list and a last field that may be missing, and a law: parcels with equal items
+//! have equal fields.
 
 ghost use Rattle.std.specs.{Option.option_map, Prelude.◌≡◌, Vec.vec_items};
 ghost use Rattle.rlp.specs.Format.Encoding.{IsSized};
@@ -10,16 +11,16 @@ use rlp::{
 };
 use std::alloc::{AllocError, Global};
 
-/// A parcel: the list of three fields, and of one more if it has a note.
+/// A parcel: the list of three fields, or of four if it has a note.
 #[derive(Drop)]
 pub struct Parcel {
     /// The number of the parcel.
     pub number: u64,
-    /// Where it goes.
+    /// Where the parcel goes.
     pub address: Vec<u8>,
     /// What each part weighs.
     pub weights: Vec<u64>,
-    /// What is written on it.
+    /// What is written on the parcel.
     pub note: Option<Vec<u8>>,
 }
 

@@ -172,7 +172,7 @@ impl Decodable for Row {
     }
 }
 
-// The types of four columns, and of those after them.
+// The types of four columns, and of the columns after these.
 type Four<Q> = (u64, ([u8; 32], (Vec<u8>, ([u8; 8], Q))));
 
 // The types of eight columns.

@@ -8,7 +8,7 @@ use rlp::{DecoderError, Rlp, RlpIterator, RlpStream};
 use std::alloc::{AllocError, Global};
 
 /// Calls the iterator over the items of a view until it returns `None`, and returns the iterator.
-/// It has read at most n + 2 headers for n items.
+/// The iterator has read at most n + 2 headers for n items.
 pub fn drained<'a, 'view>(view: &'view Rlp<'a>) -> RlpIterator<'a, 'view>
     ensures { result.headers ≤ length (item_views view.now) + 2 }
 {
@@ -42,7 +42,8 @@ pub fn append_each(s: &mut RlpStream, values: &[u64]) -> Result<(), AllocError> 
     Ok(())
 }
 
-/// Returns the encoding of a list of three items: a text, a list of two numbers, and a list of one.
+/// Returns the encoding of a list of three items: a text, a list of two numbers, and a list of one
+/// number.
 pub fn nested(alloc: Global) -> Result<Option<BytesMut>, AllocError> {
     let mut s = RlpStream::new_list(alloc, 3)?;
     s.append(&"cat")?;

@@ -1,4 +1,4 @@
 -- the item of a value, and which values fit
 pub mod Value
--- what prints of a number
+-- the printed text of a number
 pub mod NumberText

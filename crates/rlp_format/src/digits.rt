@@ -1,6 +1,6 @@
-//! Digits of numbers to the base 256, the greatest first. They are read and written for numbers of
-//! up to sixteen bytes, those of up to eight bytes in 64 bits. The headers of a stream write the
-//! digits of their lengths themselves.
+//! Big-endian digits of numbers to the base 256, for numbers of up to sixteen bytes. Numbers of up
+//! to eight bytes are read and written in 64 bits. The code that writes the headers of a stream
+//! makes the digits of the lengths itself.
 
 ghost use Rattle.std.specs.{Prelude.{◌≡◌, ◌+◌, ◌≤◌, length, drop}, Int.{w64, w128, to_be_bytes}, Int.Digits.number_from_digits};
 ghost use Rattle.rlp_format.specs.Format.Encoding.{big_endian};
@@ -20,7 +20,7 @@ pub fn number_of(digits: &[u8]) -> usize
 }
 
 /// The number of up to sixteen digits: the number of the first digits, shifted by eight places, and
-/// the number of the last eight.
+/// the number of the last eight digits.
 #[tactic(auto, using(crate::proofs::Format::DigitBytes::halves))]
 pub fn wide_number_of(digits: &[u8]) -> u128
     requires { length digits.now ≤ 16 }
@@ -33,7 +33,7 @@ pub fn wide_number_of(digits: &[u8]) -> u128
     number_of(high) as u128 * 0x1_0000_0000_0000_0000 + number_of(low) as u128
 }
 
-/// The digits of a number, without leading zeros. They are the last bytes of the array.
+/// The digits of a number, without leading zeros. The digits are the last bytes of the array.
 #[derive(Drop)]
 pub struct Digits {
     bytes: [u8; 16],

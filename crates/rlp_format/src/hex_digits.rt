@@ -1,4 +1,4 @@
-//! Bytes as hexadecimal digits in lower case, two for each byte. They are RFC 4648's base 16, in lower
+//! Bytes as hexadecimal digits in lower case, two for each byte: base 16 of RFC 4648, but in lower
 //! case.
 
 ghost use Rattle.std.specs.{Prelude.{◌≡◌, ◌<◌, ◌*◌, false, length}, Fmt.digit_glyph};
@@ -17,7 +17,7 @@ pub fn digit_char(digit: u8) -> u8
     }
 }
 
-/// Fills the room with each byte as two digits, without a branch for each digit.
+/// Fills the slice with each byte as two digits, without a branch for each digit.
 #[inline]
 pub fn put_digits(bytes: &[u8], digits: &mut [u8])
     requires { length digits.old ≡ 2 * length bytes.now }

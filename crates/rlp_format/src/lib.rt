@@ -1,6 +1,6 @@
-//! The format: definitions of items and their encodings, digits of numbers, and numbers of any width.
-//! It depends only on the standard library, and only `rlp`'s own crates list it. Users list `rlp`,
-//! which re-exports what they need.
+//! The format: definitions of items and their encodings, digits of numbers, and numbers of any
+//! width. Only the crates of this repository list it. Users list `rlp`, which re-exports what users
+//! need.
 #![tactic(auto)]
 
 pub mod count;

@@ -5,7 +5,7 @@ use Rattle.rlp.specs.Codec.{Codec, list_type}
 use Rattle.rlp_records.specs.Tested.{Passes, tested}
 use Rattle.rlp_headers.specs.{Changes.{account_changes, slot_changes}, declared.block_access_list.changes.AccountChanges.AccountChanges}
 
--- each value is in order itself, and comes before the next
+-- the lists in each value are in order, and each value comes before the next
 abbrev pub in_order : {M : Type 0} → (M → M → Bool) → (M → Bool) → List M → Bool
 in_order before inside [] = true
 in_order before inside (x ∷ []) = inside x
@@ -27,7 +27,7 @@ slot_inside m = changes_in_order m.1.0
 abbrev pub account_before : account_changes.reading.M → account_changes.reading.M → Bool
 account_before m n = is_lt (slice_cmp nat_cmp m.0 n.0)
 
--- the slots of an account are in order, those that changed and those that were read
+-- the slots of an account that changed are in order, and so are the slots that were read
 abbrev pub storage_in_order : account_changes.reading.M → Bool
 storage_in_order m = in_order first_before slot_inside m.1.0 && in_order nat_lt (λ n. true) m.1.1.0
 
@@ -39,7 +39,7 @@ account_changes_in_order m = changes_in_order m.1.1.1.0 && (changes_in_order m.1
 abbrev pub account_inside : account_changes.reading.M → Bool
 account_inside m = storage_in_order m && account_changes_in_order m
 
--- accounts are in order, and so are the lists of each
+-- whether accounts are in order, and the lists in each account
 abbrev pub accounts_in_order : List account_changes.reading.M → Bool
 accounts_in_order ms = in_order account_before account_inside ms
 
@@ -47,11 +47,11 @@ accounts_in_order ms = in_order account_before account_inside ms
 abbrev pub accounts : Codec (Vec AccountChanges Global)
 accounts = list_type vec_items account_changes
 
--- An access list of a block, seen as its accounts: the list of them. For accounts that aren't in order reading fails with `Custom` with this text.
+-- An access list of a block, seen as its accounts: the list of the accounts. Reading fails with `Custom` with this text if the accounts aren't in order.
 abbrev pub block_access_list : Codec (Vec AccountChanges Global)
 block_access_list =
     tested (codes "accounts are not in order") accounts accounts_in_order (Passes accounts accounts_in_order) (λ xs. (λ passes. passes, λ passes. passes))
 
--- the accounts are in order, and so are the lists of each
+-- the accounts are in order, and so are the lists in each account
 unfoldable pub AreAccountsInOrder : Vec AccountChanges Global → Type 0
 AreAccountsInOrder accounts = IsTrue (accounts_in_order (map account_changes.reading.seen (vec_items accounts)))

@@ -1,4 +1,4 @@
--- How what a block read and changed of accounts is written and read.
+-- How the accounts in an access list of a block are written and read: what the block read and changed of each account.
 use Rattle.std.specs.Vec.{vec_items}
 use Rattle.rlp.specs.{Codec.{Codec, byte_string, end, field, list_type, number, struct_of, uint}, Form.Form}
 use Rattle.rlp.specs.Form as form

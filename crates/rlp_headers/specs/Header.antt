@@ -6,7 +6,7 @@ use Rattle.rlp_headers.specs.{declared.header.forks.Prague.Prague, declared.head
 use Rattle.rlp_records.specs.{Address.address, Hash.hash}
 
 -- The protocol eth: [parent-hash, ommers-hash, coinbase, state-root, txs-root, receipts-root, bloom, difficulty, number, gas-limit, gas-used, time, extradata,
--- mix-digest, block-nonce, ...]. After these fifteen fields come those of the forks.
+-- mix-digest, block-nonce, ...]. After these fifteen fields come the fields of the forks.
 abbrev pub header_fields : Fields Header
 header_fields =
     field (λ (h : Header). h.parent_hash) hash (
@@ -26,7 +26,7 @@ header_fields =
     field (λ (h : Header). h.nonce) (byte_array 8) (
     optional_group (λ (h : Header). h.since_london) london_fields refl)))))))))))))))
 
--- the list of the fields
+-- a header of a block, as the list of its fields
 abbrev pub header : Codec Header
 header = struct_of header_fields
 

@@ -7,7 +7,8 @@ use Rattle.rlp_reading.proofs.KindLaws.{HaveKinds, kinds_read}
 use Rattle.rlp_headers.specs.declared.receipt_status.ReceiptStatus.{ReceiptStatus}
 use Rattle.rlp_headers.specs.declared.receipt_status.ReceiptStatus.TheVariants.{Failure, StateRoot, Success}
 
--- EIP-658: "1 indicating success, 0 indicating failure", as a number, so 0 is no bytes. Before Byzantium the 32 bytes of the root of the state.
+-- EIP-658: "1 indicating success, 0 indicating failure", as a number, so 0 is the empty string. Before Byzantium the status is the 32 bytes of the root of the
+-- state.
 abbrev pub status_bytes : ReceiptStatus → List ℕ
 status_bytes Failure = []
 status_bytes Success = 1 ∷ []
@@ -19,7 +20,7 @@ IsStatus Failure = ⊤
 IsStatus Success = ⊤
 IsStatus (StateRoot root) = length root.0 ≡ 32
 
--- whether the transaction succeeded, or `None` for a root, which doesn't say so
+-- whether the transaction succeeded, or `None` for a root, which doesn't say whether it did
 abbrev pub succeeded : ReceiptStatus → Option Bool
 succeeded Failure = Some false
 succeeded Success = Some true

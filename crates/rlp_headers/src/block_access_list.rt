@@ -17,12 +17,12 @@ use rlp_records::{Hash, encoding_hash};
 use std::alloc::{AllocError, Global};
 use std::marker::Model;
 
-/// What a block read and changed of all accounts: the list of them. Its addresses rise, and so do in
-/// each account the slots of storage, those that changed and those that were read, and in each list
-/// of changes the places in the block.
+/// What a block read and changed of all accounts: the list of the accounts. The addresses are in
+/// ascending order. So are, in each account, the slots of storage that changed and the slots that
+/// were read, and in each list of changes the places in the block.
 ///
-/// EIP-7928 is a draft, so this may change. A slot and its value are written as numbers. That no slot
-/// stands among those that changed and among those that were read isn't tested.
+/// EIP-7928 is a draft, so this type may change. A slot and its value are written as numbers.
+/// Whether a slot is among both the slots that changed and the slots that were read isn't tested.
 ///
 /// Contracts see the list as its accounts.
 #[derive(Debug, Drop)]
@@ -42,7 +42,8 @@ impl Model for BlockAccessList {
 }
 
 impl BlockAccessList {
-    /// The list of these accounts, or `None` if they or a list in one of them aren't in order.
+    /// The list of these accounts, or `None` if the accounts, or a list in an account, aren't in
+    /// order.
     #[tactic(auto, unfolding(crate::specs::AccessOrder::AreAccountsInOrder))]
     pub fn new(accounts: Vec<AccountChanges>) -> Option<BlockAccessList>
         ensures { SomeIff result (AreAccountsInOrder accounts) accounts }
@@ -82,7 +83,7 @@ impl Clone for BlockAccessList {
     }
 }
 
-/// A value that stands in a list that is in order.
+/// A value of a list that is in order.
 trait Ordered {
     /// The type of what contracts see of a value.
     ghost Seen: { Type 0 };
@@ -124,8 +125,8 @@ fn are_in_order<T: Ordered>(values: &[T]) -> bool
     true
 }
 
-/// Returns whether the number that the first bytes write is below that of the second, which are as
-/// many.
+/// Returns whether the big-endian number of the first bytes is below the number of the second
+/// bytes. The two have the same length.
 fn is_less(a: &[u8], b: &[u8]) -> bool
     requires { length a.now ≡ length b.now }
     ensures { result ≡ nat_lt (number_from_digits 256 a.now) (number_from_digits 256 b.now) }
@@ -209,7 +210,7 @@ impl Ordered for AccountChanges {
     }
 }
 
-/// Returns whether the slots of an account are in order, those that changed and those that were read.
+/// Returns whether the slots of an account that changed are in order, and the slots that were read.
 fn is_storage_in_order(account: &AccountChanges) -> bool
     ensures { result ≡ storage_in_order (account_changes.reading.seen account.now) }
 {
@@ -251,7 +252,7 @@ impl Decodable for BlockAccessList {
     }
 }
 
-/// The test of the order is of the whole.
+/// A fault of the order is a fault of the whole list.
 impl DecodePlaced for BlockAccessList {
     fn put_path(alloc: Global, rlp: &Rlp<'_>, path: &mut Vec<usize>) -> Result<(), AllocError> {
         match rlp.as_list::<AccountChanges>(alloc) {

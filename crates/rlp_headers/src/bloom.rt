@@ -13,7 +13,7 @@ use std::alloc::{AllocError, Global};
 #[derive(Debug, Clone, Copy, PartialEq, Eq)]
 pub struct Bloom(pub [u8; 256]);
 
-/// Written as the array of the bytes is.
+/// Written as the array of its bytes.
 impl Encodable for Bloom {
     ghost item = { bloom.item };
 
@@ -24,7 +24,7 @@ impl Encodable for Bloom {
     }
 }
 
-/// Read as the array of the bytes is. Fails with `RlpIsTooShort` if the string is shorter, and with
+/// Read as an array of 256 bytes. Fails with `RlpIsTooShort` if the string is shorter, and with
 /// `RlpIsTooBig` if it is longer. It doesn't allocate.
 impl Decodable for Bloom {
     ghost reading = { bloom.reading };

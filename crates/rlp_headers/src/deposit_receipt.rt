@@ -11,13 +11,13 @@ use rlp::{
 use rlp_records::{DEPOSIT_TYPE, Enveloped};
 use std::alloc::{AllocError, Global};
 
-/// The receipt of a deposit of the OP stack: the list of its fields, after the byte `0x7e`. The first
-/// four are those of a [`Receipt`](crate::Receipt).
+/// The receipt of a deposit of the OP stack: the list of its fields, after the byte `0x7e`. The
+/// first four fields are the fields of a [`Receipt`](crate::Receipt).
 #[derive(Debug, Clone, PartialEq, Eq, Drop)]
 pub struct DepositReceipt {
     /// The status, as in EIP-658.
     pub status_or_state_root: ReceiptStatus,
-    /// The gas that this transaction and those before it in the block used.
+    /// The gas that the block used up to this transaction, including it.
     pub cumulative_gas_used: u64,
     /// The filter of the logs.
     pub logs_bloom: Bloom,

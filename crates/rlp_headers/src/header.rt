@@ -16,16 +16,17 @@ use rlp::{
 use rlp_records::{Address, Hash, encoding_hash};
 use std::alloc::{AllocError, Global};
 
-/// The header of a block: the list of fifteen fields, and of those that later forks added.
+/// The header of a block: the list of fifteen fields, and of the fields that later forks added.
 ///
 /// See section 4.4 of the yellow paper, and the EIPs of the fields. A list of 15 items is a header
-/// of the first forks, and one of 16, 17, 20, 21 or 22 items is a header since [`London`],
-/// [`Shanghai`], [`Cancun`], [`Prague`] or [`Amsterdam`]; with the slot's number, since Amsterdam it
-/// has 23. A list with any other number of items fails with `RlpIncorrectListLen`. A header that has
-/// the fields of a fork also has the fields of every earlier fork.
+/// of the first forks, and a list of 16, 17, 20, 21 or 22 items is a header since [`London`],
+/// [`Shanghai`], [`Cancun`], [`Prague`] or [`Amsterdam`]; a header since Amsterdam that also has
+/// the slot's number has 23 items. A list with any other number of items fails with
+/// `RlpIncorrectListLen`. A header that has the fields of a fork also has the fields of every
+/// earlier fork.
 ///
-/// It is the header of Ethereum and of chains with its forks. The header of a chain that leaves out
-/// fields of a fork isn't read, such as a list of 18 or 19 items.
+/// This type reads the headers of Ethereum and of chains with the same forks. It doesn't read the
+/// headers of a chain that leaves out fields of a fork, such as a list of 18 or 19 items.
 #[derive(Debug, Clone, PartialEq, Eq, Drop)]
 pub struct Header {
     /// The hash of the parent's header.
@@ -179,7 +180,7 @@ impl StrictRead for Header {
 }
 
 impl Header {
-    /// Returns the hash of the block, which is that of its header's encoding.
+    /// Returns the hash of the block: the hash of the encoding of its header.
     pub fn hash(&self, alloc: Global) -> Result<Hash, AllocError>
         ensures fits { OnOk result (header.Fits self.now) }
         ensures hash { IfOk result (λ h. IsHashOf h (encoding (header.item self.now))) }

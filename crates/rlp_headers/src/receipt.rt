@@ -18,7 +18,7 @@ use std::alloc::{AllocError, Global};
 pub struct Receipt {
     /// The status, as in EIP-658, or before Byzantium the root of the state after the transaction.
     pub status_or_state_root: ReceiptStatus,
-    /// The gas that this transaction and those before it in the block used.
+    /// The gas that the block used up to this transaction, including it.
     pub cumulative_gas_used: u64,
     /// The filter of the logs.
     pub logs_bloom: Bloom,

@@ -1,4 +1,4 @@
-//! Statuses of receipts: a string of one byte, of none, or of 32.
+//! Statuses of receipts: a string of 0, 1 or 32 bytes.
 
 ghost use Rattle.std.specs.Prelude.{◌≡◌, ⊤, Ok, Err, IfErr, IfOk};
 ghost use Rattle.rlp.specs.Form.{fault_of};
@@ -19,8 +19,8 @@ pub enum ReceiptStatus {
     Failure,
     /// The transaction succeeded: the number 1.
     Success,
-    /// The root of the state after the transaction, in receipts before Byzantium. They don't say
-    /// whether it succeeded.
+    /// The root of the state after the transaction, in receipts before Byzantium, which don't say
+    /// whether the transaction succeeded.
     StateRoot(Hash),
 }
 
@@ -38,8 +38,8 @@ impl Encodable for ReceiptStatus {
     }
 }
 
-/// Reading fails with `Custom("unknown receipt status")` if the string isn't empty, isn't the byte
-/// 1, and hasn't 32 bytes. It doesn't allocate.
+/// Reading fails with `Custom("unknown receipt status")` if the string is neither empty, nor the
+/// byte 1, nor 32 bytes long. It doesn't allocate.
 impl Decodable for ReceiptStatus {
     ghost reading = { receipt_status.reading };
 

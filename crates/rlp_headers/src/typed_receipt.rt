@@ -12,8 +12,8 @@ use rlp_records::{
 use std::alloc::{AllocError, Global};
 
 /// A receipt with the type of its transaction, as in the list of a block's receipts: the receipt of
-/// a legacy transaction is a list, and that of a typed one the string of its envelope, as in
-/// EIP-2718.
+/// a legacy transaction is a list, and the receipt of a typed transaction is the string of its
+/// envelope, as in EIP-2718.
 #[derive(Debug, Clone, PartialEq, Eq, Drop)]
 pub enum TypedReceipt {
     /// The receipt of a transaction without a type.
@@ -28,8 +28,8 @@ pub enum TypedReceipt {
     SetCode(Receipt),
 }
 
-/// A receipt in the list of a block's receipts, of any type: one of a type that isn't known, such as a
-/// [`DepositReceipt`](crate::DepositReceipt), is kept, and is written back as it was read.
+/// A receipt in the list of a block's receipts, of any type. A receipt of an unknown type, such as
+/// a [`DepositReceipt`](crate::DepositReceipt), is kept as its bytes, and written back unchanged.
 pub type AnyReceipt = KnownOrOther<TypedReceipt>;
 
 impl Eip2718 for TypedReceipt {

@@ -69,7 +69,7 @@ impl StrictRead for Withdrawal {
     ghost strict = { withdrawal.reads_strictly };
 }
 
-/// The withdrawals of a block, in order: the list of them.
+/// The withdrawals of a block, in order: the list of the withdrawals.
 #[derive(Debug, Clone, PartialEq, Eq, Drop)]
 pub struct Withdrawals(pub Vec<Withdrawal>);
 

@@ -11,11 +11,11 @@ digits_of text = if starts_with nat_eq text (codes "0x") then drop 2 text else t
 abbrev pub bytes_in : List ℕ → Option (List ℕ)
 bytes_in text = result_ok (decode_of (digits_of text))
 
--- whether a text is one or more decimal digits, and their number is below 2^64
+-- whether a text is one or more decimal digits of a number below 2^64
 abbrev pub is_number : List ℕ → Bool
 is_number text = nat_lt 0 (length text) && (list_all is_ascii_digit text && nat_lt (digits_value 10 text) (2 ^ 64))
 
--- the number of a text, if it is one
+-- the number of a text, if it is decimal digits of a number below 2^64
 abbrev pub number_in : List ℕ → Option ℕ
 number_in text = if is_number text then Some (digits_value 10 text) else None
 

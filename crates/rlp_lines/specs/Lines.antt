@@ -30,10 +30,10 @@ abbrev pub line_of_last : List ℕ → List (List ℕ)
 line_of_last [] = []
 line_of_last (byte ∷ rest) = (byte ∷ rest) ∷ []
 
--- the line of a text that no newline ends, if there is one
+-- the last line of a text, if it isn't empty and no newline ends it
 abbrev pub unended_line : List ℕ → List (List ℕ)
 unended_line t = line_of_last (last_piece t)
 
--- the lines of a text: those that a newline ends, and then the text after the last newline, if it isn't empty
+-- the lines of a text: the lines that a newline ends, and then the text after the last newline, if it isn't empty
 abbrev pub lines : List ℕ → List (List ℕ)
 lines t = ended_lines t ++ unended_line t

@@ -16,7 +16,7 @@ IsKept longest kept true begun = longest < length begun
 abbrev pub IsLine : ℕ → Line → List ℕ → Type 0
 IsLine longest line begun = IsKept longest line.bytes.items line.over begun
 
--- the state after a text: some replies were written, the others wait, the last piece is kept, and it is noted whether a line was at fault
+-- the state after a text: some replies were written, the remaining replies wait, the last piece is kept, and it is noted whether a line was at fault
 pub record IsAfter (longest : ℕ) (answer : List ℕ → List ℕ) (text written waiting : List ℕ) (line : Line) : Type 0 where
   pub answered : written ++ waiting ≡ replies_to answer (ended_lines text)
   pub begun : IsLine longest line (last_piece text)

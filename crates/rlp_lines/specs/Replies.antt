@@ -3,7 +3,7 @@ use Rattle.std.specs.Prelude.{ℕ, Bool, nat_eq, nat_lt, ◌||◌, if◌then◌e
 use Rattle.std.specs.List.{flat_map, list_any, starts_with}
 use Rattle.rlp_lines.specs.Lines.{lines}
 
--- the answer to any line, by the most bytes that a line may have without its newline, the answer to a longer line, and the answer to a line that isn't longer
+-- the answer to any line, by the greatest length of a line without its newline, the answer to a longer line, and the answer to any other line
 unfoldable pub answer_by : ℕ → List ℕ → (List ℕ → List ℕ) → List ℕ → List ℕ
 answer_by longest long within line = if nat_lt longest (length line) then long else within line
 

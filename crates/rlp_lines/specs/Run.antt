@@ -28,7 +28,7 @@ pub record AreRepliesBefore (answer : List ℕ → List ℕ) (earlier text bytes
   pub is_line : refused < length (lines text)
   pub replies : bytes ≡ replies_to answer (take refused (lines text))
 
--- such replies were appended
+-- the whole replies to the lines before some line were appended
 pub record AppendsBefore (answer : List ℕ → List ℕ) (out0 out1 : Option (List ℕ)) (earlier text : List ℕ) : Type 0 where
   pub bytes : List ℕ
   pub replies : AreRepliesBefore answer earlier text bytes

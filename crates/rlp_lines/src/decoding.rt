@@ -1,4 +1,4 @@
-//! Hexadecimal digits, tested and decoded without a branch for each.
+//! Hexadecimal digits, tested and decoded without a branch for each digit.
 
 ghost use Rattle.std.specs.{Prelude.{◌≡◌, ◌*◌, ◌/◌, ◌%◌, ◌<◌, ◌≤◌, length, take, IsTrue, Some, None, Ok, false}, List.list_all, Result.result_ok};
 ghost use Rattle.hex.specs.Hex.{decode_of, hex_digit_value, is_hex_digit};
@@ -10,7 +10,7 @@ fn is_digit(byte: u8) -> bool
     byte.is_ascii_hexdigit()
 }
 
-/// Whether all bytes are digits. It reads each of them, so that many can be tested at once.
+/// Whether all bytes are digits. It reads every byte, so that the compiler can test many at once.
 fn are_digits(text: &[u8]) -> bool
     ensures { result ≡ list_all is_hex_digit text.now }
 {
@@ -21,7 +21,7 @@ fn are_digits(text: &[u8]) -> bool
     all
 }
 
-/// Whether a text is digits, two for each byte.
+/// Whether a text is hexadecimal digits, two for each byte.
 pub fn are_pairs(text: &[u8]) -> bool
     ensures some { IsTrue result
         → (length text.now % 2 ≡ 0) × IsTrue (list_all is_hex_digit text.now) }

@@ -53,8 +53,8 @@ fn put_digit(value: usize, byte: u8) -> Option<usize>
     tens.checked_add(usize::from(byte - b'0'))
 }
 
-/// The number of a text of decimal digits. Returns `None` if the text has another byte or none, or if
-/// the number isn't below 2^64.
+/// The number of a text of decimal digits. Returns `None` if the text is empty or has a byte that
+/// isn't a digit, or if the number isn't below 2^64.
 #[tactic(auto, using(crate::proofs::DigitLemmas::small_digit))]
 pub fn read_number(text: &[u8]) -> Option<usize>
     ensures { result ≡ number_in text.now }
@@ -91,7 +91,7 @@ fn push_few(bytes: &[u8], out: &mut String) -> Result<(), AllocError>
 }
 
 /// Appends each byte as two lower-case hexadecimal digits. Fails with `AllocError` if memory is
-/// refused. The digits of some first bytes may then be appended.
+/// refused. It may then have appended the digits of some first bytes.
 pub fn push_bytes(bytes: &[u8], out: &mut String) -> Result<(), AllocError>
     ensures ok { OnOk result
         (string_bytes out.new ≡ string_bytes out.old ++ encode_lower bytes.now) }

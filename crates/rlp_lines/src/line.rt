@@ -15,7 +15,7 @@ pub(crate) struct Line {
     bytes: Vec<u8>,
     over: bool,
     faulty: bool,
-    // A reply is built here, and then added to others whole or not at all.
+    // A reply is built here, and then added to the earlier replies as a whole or not at all.
     reply: String,
 }
 
@@ -129,8 +129,8 @@ impl Line {
         Ok(())
     }
 
-    /// Takes bytes, and appends the replies to the lines that end in them. It stops at the first
-    /// line for which memory is refused.
+    /// Takes bytes, and appends the replies to the lines that end in these bytes. It stops at the
+    /// first line for which memory is refused.
     pub(crate) fn feed<A: LineAnswers>(
         &mut self,
         alloc: Global,

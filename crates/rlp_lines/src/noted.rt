@@ -7,8 +7,8 @@ use std::io;
 use std::io::{Read, Write};
 use std::marker::Model;
 
-/// A reader or writer that remembers its calls: whether one has failed, how many reads it made, and
-/// whether it was flushed since the last write that took bytes.
+/// A reader or writer that remembers its calls: whether a call has failed, how many reads it made,
+/// and whether it was flushed since the last write that took bytes.
 #[derive(Drop)]
 pub struct Noted<T> {
     inner: T,
@@ -60,7 +60,7 @@ impl<T> Noted<T> {
         self.failed
     }
 
-    /// The number of reads. The count stays at `u64::MAX` once it is there.
+    /// The number of reads. The count doesn't grow beyond `u64::MAX`.
     pub fn reads(&self) -> u64
         ensures { result ≡ self.now.reads }
     {
@@ -74,7 +74,8 @@ impl<T> Noted<T> {
         self.flushed
     }
 
-    /// Remembers a fault. It counts as failed from then on.
+    /// Remembers whether a call failed: if `fault` is true, the reader or writer counts as failed
+    /// from now on.
     fn note(&mut self, fault: bool)
         ensures { self.new ≡ record self.old { failed = self.old.failed || fault } }
     {
@@ -101,11 +102,11 @@ impl<R: Read> Noted<R> {
 }
 
 impl<W: Write> Noted<W> {
-    /// Writes once, and returns how many bytes were taken. If it takes any, it no longer counts as
-    /// flushed.
+    /// Writes once, and returns how many bytes the writer took. If it took a byte, it no longer
+    /// counts as flushed.
     ///
-    /// If the writer fails, returns its error and counts it as failed. A writer that takes none of
-    /// one or more bytes counts as failed too.
+    /// If the writer fails, returns its error and counts it as failed. A writer that is given bytes
+    /// and takes none of them counts as failed too.
     pub fn write(&mut self, buf: &[u8]) -> io::Result<usize>
         ensures bound { WritesAtMost result buf.now }
         ensures bytes { WriteAppends (W.contents self.old.inner)

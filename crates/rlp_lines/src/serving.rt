@@ -13,8 +13,8 @@ use std::io::{Read, Write};
 /// The most bytes of one read.
 const CHUNK: usize = 16_384;
 
-/// Why a run ended before the end of its input. It has written whole answers only, except after
-/// `Write`.
+/// Why a run ended before the end of its input. The run has written whole answers only, except
+/// after `Write`.
 #[derive(Debug, PartialEq, Eq, Drop)]
 pub enum RunFault {
     /// Memory was refused. The run has written the answers to exactly the lines before some line,
@@ -62,8 +62,8 @@ fn write_whole<W: Write>(output: &mut Noted<W>, bytes: &[u8]) -> Result<(), RunF
     Ok(())
 }
 
-/// Writes all the bytes, and flushes. Fails with [`RunFault::Write`], and some first bytes may then be
-/// written.
+/// Writes all the bytes, and flushes. Fails with [`RunFault::Write`], and may then have written
+/// some first bytes.
 pub fn write_and_flush<W: Write>(output: &mut Noted<W>, bytes: &[u8]) -> Result<(), RunFault>
     ensures ok { OnOk result (Appends (W.contents output.old.inner)
         (W.contents output.new.inner) bytes.now) }
@@ -81,8 +81,7 @@ pub fn write_and_flush<W: Write>(output: &mut Noted<W>, bytes: &[u8]) -> Result<
     }
 }
 
-/// Answers the lines that end in these bytes. It stops at the first line for which memory is
-/// refused.
+/// Answers the lines that end in these bytes, up to the first line for which memory is refused.
 fn serve<A: LineAnswers, W: Write>(
     alloc: Global,
     answers: &A,
@@ -152,7 +151,7 @@ fn finish<A: LineAnswers, W: Write>(
 
 /// Answers each line of the input as `answers` says, until its end. Returns whether an answer says
 /// that its line is at fault: it begins with `error`, or is an object of JSON whose first key is
-/// `error`. Fails with the [`RunFault`] that stopped it.
+/// `error`. Fails with the [`RunFault`] that stopped the run.
 pub fn answer_lines<A: LineAnswers, R: Read, W: Write>(
     alloc: Global,
     answers: &A,
@@ -184,8 +183,8 @@ pub fn answer_lines<A: LineAnswers, R: Read, W: Write>(
     Err(RunFault::Read)
 }
 
-/// Answers each line of a text as `answers` says, as [`answer_lines`] answers those of an input, and
-/// flushes. Fails with [`RunFault::Memory`] or [`RunFault::Write`].
+/// Answers each line of a text, as [`answer_lines`] answers the lines of an input, and flushes.
+/// Fails with [`RunFault::Memory`] or [`RunFault::Write`].
 pub fn answer_text<A: LineAnswers, W: Write>(
     alloc: Global,
     answers: &A,

@@ -19,18 +19,18 @@ numbered_of offset d = and_then ((number 8).reading.read (view_of d)).result (af
 
 -- ---- the messages of a capability
 
--- the bodies of messages: how each is written and read by its number within the capability, the numbers, and that each is below 2^8
+-- the bodies of messages: how each body is written and read by its number within the capability, the numbers, and the proof that each number is below 2^8
 pub record Bodies (B : Type 0) : Type 1 where
   pub cases : Cases B
   pub numbers : List ℕ
   pub small : (x : B) → cases.cases.tag x < 0x100
 
--- the number of a body is below 2^8, if it is the first body or one of the others
+-- the number of a body is below 2^8, if it is the first body or a later one
 pub first_small : {A B : Type 0} (tag : ℕ) (more : B → ℕ) → tag < 0x100 → ((y : B) → more y < 0x100) → (s : A ⊎ B) → sum_tag tag more s < 0x100
 first_small tag more low small (inl x) = low
 first_small tag more low small (inr y) = small y
 
--- the last body, by its number. That the number is below 2^8 is proved by `refl`.
+-- the last body, by its number. `refl` proves that the number is below 2^8.
 abbrev pub last_message : {A : Type 0} (number : ℕ) → nat_lt number 0x100 ≡ true → Codec A → Bodies A
 last_message number low c = record {
   cases = last_case unknown_message number c;
@@ -38,7 +38,7 @@ last_message number low c = record {
   small = λ x. ltb-true number 0x100 low;
 }
 
--- a body before others
+-- a body before other bodies
 abbrev pub and_message : {A B : Type 0} (number : ℕ) → nat_lt number 0x100 ≡ true → Codec A → Bodies B → Bodies (A ⊎ B)
 and_message number low c more = record {
   cases = and_case number c more.cases;
@@ -46,7 +46,7 @@ and_message number low c more = record {
   small = first_small number more.cases.cases.tag (ltb-true number 0x100 low) more.small;
 }
 
--- the messages of a capability: their bodies, and the body of a message
+-- the messages of a capability: the table of their bodies, and which body a message has
 pub record Table (M : Type 0) : Type 1 where
   pub Body : Type 0
   pub bodies : Bodies Body
@@ -65,7 +65,7 @@ module _ {M : Type 0} (table : Table M) where
   abbrev pub Fits : M → Type 0
   Fits m = table.bodies.cases.cases.Fits (table.body m)
 
-  -- frame-data = msg-id || msg-data of RLPx: the encoding of the id of a message, which is the number after the offset, and then that of the body
+  -- frame-data = msg-id || msg-data of RLPx: the encoding of the id of a message, which is the number plus the offset, and then the encoding of the body
   abbrev pub bytes_of : ℕ → M → List ℕ
   bytes_of offset m = encoding (number_item (offset + number_of m)) ++ encoding (item_of m)
 
@@ -81,6 +81,6 @@ module _ {M : Type 0} (table : Table M) where
   abbrev pub read_of : ℕ → List ℕ → Answer Seen Fault
   read_of n b = table.bodies.cases.cases.read n (strict_view_of b)
 
-  -- what the bytes of a message give: the number, and by it the body
+  -- what the bytes of a message give: the number is read, and then the body by the number
   abbrev pub message_of : ℕ → List ℕ → Answer Seen Fault
   message_of offset d = go_on (here (numbered_of offset d)) (λ n. read_of n.0 n.1)

@@ -1,12 +1,13 @@
-//! What holds of messages: their bytes tell them apart, and both ends find the same offsets.
+//! What holds of messages: different messages have different bytes, and the two ends of a
+//! connection find the same offsets.
 
 ghost use Rattle.std.specs.Prelude.{◌≡◌, ◌<◌, ◌^◌, ℕ, List, length, true};
 ghost use Rattle.rlp_messages.specs.{Message.{Fits, bytes_of, seen_of}, P2p.Offsets.{Known, announced, know_same_ids, lists_each_once, shared_offset}};
 
 use crate::Message;
 
-/// Two messages of one protocol that are written as the same bytes, fewer than 2^64, after one offset
-/// have the same number, and each of their fields is the same.
+/// Two messages of one protocol that are written as the same bytes, fewer than 2^64, with the same
+/// offset have the same number and the same fields.
 pub fn bytes_tell_messages<M: Message>()
     ensures { (offset : ℕ) (one other : M) → Fits M.table one → Fits M.table other
         → length (bytes_of M.table offset one) < 2 ^ 64
@@ -14,8 +15,8 @@ pub fn bytes_tell_messages<M: Message>()
         → seen_of M.table one ≡ seen_of M.table other }
 {}
 
-/// Two clients find the same offset of each capability, if each lists a capability once, and they know
-/// the same number of ids of each capability that both have.
+/// Two clients find the same offset of each capability, if each lists a capability once, and the
+/// two know the same number of ids for each capability that both have.
 pub fn both_ends_agree()
     ensures { (ours theirs : List Known) → lists_each_once ours ≡ true
         → lists_each_once theirs ≡ true → know_same_ids ours theirs ≡ true

@@ -11,12 +11,14 @@ use bytes::BytesMut;
 use rlp::{DecoderError, Encodable, RlpStream};
 use std::alloc::{AllocError, Global};
 
-/// A message of any number of a capability, such as [`Eth69Message`](crate::Eth69Message). A message
-/// is written as its id, which is the number after the capability's offset, and its body.
+/// A message of any number of a capability, such as [`Eth69Message`](crate::Eth69Message). A
+/// message is written as its id, which is its number plus the offset of the capability, and its
+/// body.
 ///
 /// An implementation says by `table` which bodies there are, with their numbers: `and_message` and
-/// `last_message` make it of the codecs of the bodies. Its three functions go by the number or the
-/// body of a message. The functions for whole messages are provided.
+/// `last_message` make the bodies of the table from their codecs. An implementation also has three
+/// functions about the number or the body of a message. The functions for whole messages are
+/// provided.
 pub trait Message: Sized + Drop {
     /// The messages of the capability.
     ghost table: { Table Self };
@@ -32,8 +34,8 @@ pub trait Message: Sized + Drop {
         ensures refused { OnErr result (GrowsTo s.old.state s.new.state) }
         ensures moved { MovedGrows s.old s.new };
 
-    /// Reads the body of a message by its number, with at most this number of items if there is one.
-    /// Implementations are a call of [`decode_numbered`](crate::decode_numbered).
+    /// Reads the body of a message by its number, with at most this number of items, or any number
+    /// for `None`. An implementation calls [`decode_numbered`](crate::decode_numbered).
     ///
     /// Fails with `Custom("unknown message")` for a number without a message, and else as
     /// [`decode_within`](crate::decode_within) does.
@@ -52,9 +54,10 @@ pub trait Message: Sized + Drop {
             × (((read_of table message.now.number message.now.body.now).result ≡ Err (fault_of e))
             ⊎ (e ≡ OutOfMemory)))) };
 
-    /// Returns the bytes of the message: the encoding of its id, which is the number after the
-    /// offset, and the encoding of its body. RLPx compresses the body, unless it is of a
-    /// [`Hello`](crate::Hello), and sends both in a frame; this crate does neither.
+    /// Returns the bytes of the message: the encoding of its id, which is its number plus the
+    /// offset, and the encoding of its body. RLPx compresses the body, except the body of a
+    /// [`Hello`](crate::Hello), and sends the id and the body in a frame. This crate neither
+    /// compresses nor makes frames.
     final fn to_message(&self, alloc: Global, offset: u8) -> Result<BytesMut, AllocError>
         ensures fits { OnOk result (Fits table self.now) }
         ensures bytes { IfOk result (λ b. b.items ≡ bytes_of table offset self.now) }
@@ -65,8 +68,8 @@ pub trait Message: Sized + Drop {
         Ok(s.out())
     }
 
-    /// Reads a message strictly from its bytes, as [`Message::to_message`] returns them. For such
-    /// bytes it fails only if memory runs out.
+    /// Reads a message strictly from its bytes, as [`Message::to_message`] returns them. For the
+    /// bytes of a message it fails only if memory is refused.
     ///
     /// Fails as reading a `u64` does if the bytes begin with no id, with `Custom("unknown message")`
     /// for an id below the offset or without a message, and else with the strict fault of the body.
@@ -86,12 +89,12 @@ pub trait Message: Sized + Drop {
     }
 
     /// Reads a message as [`Message::from_message`] does, if its bytes are within the bounds. It
-    /// doesn't allocate for bytes that this refuses.
+    /// doesn't allocate for bytes that aren't.
     ///
-    /// Fails with `Custom("too many bytes")` for more bytes than the bound, then by the id as
-    /// [`Message::from_message`] does, then by the body as `decode_at_most` of `rlp_records` does, as
-    /// with `Custom("too many items")`, and else with the strict fault of the body. For the bytes of
-    /// a message within the bounds it fails only if memory runs out.
+    /// Fails with `Custom("too many bytes")` for more bytes than the bound, then with a fault of
+    /// the id as [`Message::from_message`] does, then as `decode_at_most` of `rlp_records` does for
+    /// the body, such as with `Custom("too many items")`, and else with the strict fault of the
+    /// body. For the bytes of a message within the bounds it fails only if memory is refused.
     final fn from_message_at_most(
         alloc: Global,
         offset: u8,

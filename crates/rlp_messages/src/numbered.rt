@@ -12,15 +12,15 @@ use std::alloc::Global;
 /// A message whose id is read.
 #[derive(Clone, Copy)]
 pub struct Numbered<'a> {
-    /// The number of the message, which is the id without the offset.
+    /// The number of the message, which is the id minus the offset.
     pub number: u64,
     /// The bytes after the id.
     pub body: &'a [u8],
 }
 
 impl<'a> Numbered<'a> {
-    /// Reads the id that the bytes begin with. It doesn't allocate. After the offset 0 the number is
-    /// the id itself, which tells the capability of a message.
+    /// Reads the id that the bytes begin with. It doesn't allocate. With the offset 0 the number is
+    /// the id itself, by which a caller finds the capability of the message.
     ///
     /// Fails as reading a `u64` does, and with `Custom("unknown message")` for an id below the
     /// offset.
@@ -46,11 +46,11 @@ impl<'a> Numbered<'a> {
     }
 }
 
-/// Reads the body of a message strictly, with at most this number of items if there is one. It
-/// doesn't allocate for bytes that the number refuses.
+/// Reads the body of a message strictly, with at most this number of items, or any number for
+/// `None`. It doesn't allocate for bytes that have more items or aren't the encoding of an item.
 ///
-/// Fails as `decode_at_most` of `rlp_records` does if there is a number, and else with the strict
-/// fault of the body.
+/// Fails as `decode_at_most` of `rlp_records` does if a number of items is given, and else with the
+/// strict fault of the body.
 pub fn decode_within<R: StrictRead>(
     alloc: Global,
     bytes: &[u8],

@@ -17,7 +17,7 @@ parts_of_node =
     field (λ (f : NodeFields). f.sequence) (number 8) (
     groups (λ (f : NodeFields). vec_items f.pairs) pair_fields refl refl))
 
--- the list of the fields
+-- the fields of a node record, as one list
 abbrev pub node_fields : Codec NodeFields
 node_fields = struct_of parts_of_node
 

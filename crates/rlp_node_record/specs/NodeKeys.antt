@@ -5,12 +5,12 @@ use Rattle.rlp.specs.{DecoderError.DecoderError, DecoderError.TheVariants.OutOfM
 use Rattle.rlp.specs.{Values.Value.{FitsBytes, number_item}, Views.View.strict_view_of, Form.{Faults, Gives, Reading}}
 use Rattle.rlp_node_record.specs.{declared.node_fields.NodeFields.NodeFields, declared.node_fields.NodePair.NodePair}
 
--- the value of a key among pairs, as the bytes of its item: that of the first pair with the key, if there is one
+-- the value of a key among pairs, as the bytes of its item: the value of the first pair with the key, if a pair has it
 abbrev pub value_among : List ℕ → List NodePair → Option (List ℕ)
 value_among key [] = None
 value_among key (pair ∷ pairs) = if bytes_eq (vec_items pair.key) key then Some pair.value else value_among key pairs
 
--- the value of a key, which stands in a record at most once
+-- the value of a key, which a record has at most once
 abbrev pub value_of : List ℕ → NodeFields → Option (List ℕ)
 value_of key f = value_among key (vec_items f.pairs)
 
@@ -23,7 +23,7 @@ abbrev pub has_key : List ℕ → List (List ℕ) → Bool
 has_key key [] = false
 has_key key (first ∷ keys) = bytes_eq first key || has_key key keys
 
--- What a key gives as a value of any type: nothing if the record hasn't the key, and else what a strict view of the key's value gives, or its fault.
+-- What a key gives as a value of any type: nothing if the record doesn't have the key, and else the value or the fault that a strict view of the key's value gives.
 abbrev pub ReadsKey : {A : Type 0} → Reading A → Option (List ℕ) → Option (Result A DecoderError) → Type 0
 ReadsKey r None None = ⊤
 ReadsKey r None (Some answer) = ⊥
@@ -31,8 +31,8 @@ ReadsKey r (Some b) None = ⊥
 ReadsKey r (Some b) (Some (Ok x)) = Gives r (strict_view_of b) x
 ReadsKey r (Some b) (Some (Err e)) = Faults r (strict_view_of b) e ⊎ ((e ≡ OutOfMemory) × IsTrue r.takes_memory)
 
--- What a known key gives: the value that fits its type and whose encoding is the key's value. It gives nothing if there is no such value: the record hasn't
--- the key, or the key's value has another shape.
+-- What a known key gives: the value that fits its type and whose encoding is the key's value. It gives nothing if there is no such value: the record doesn't have
+-- the key, or the key's value has another form.
 abbrev pub GivesKnown : {A : Type 0} → (A → Type 0) → (A → Item) → Option (List ℕ) → Option A → Type 0
 GivesKnown Fits item held (Some x) = Fits x × (held ≡ Some (encoding (item x)))
 GivesKnown {A} Fits item held None = (x : A) → Fits x → held ≢ Some (encoding (item x))

@@ -1,4 +1,4 @@
--- Node records are read back, and are read from nothing but their encodings.
+-- Node records are read back, and are read only from their encodings.
 use Rattle.std.proofs.Common.{◌≡◌, ◌≤◌, ◌<◌, ◌^◌, ℕ, List, [], ◌∷◌, length, map, refl, sym, ap, ◌∙◌, subst, arith, Result, Ok, Err, ltb, ltb-false, le-ltb}
 use Rattle.std.proofs.{Common.{◌||◌, Bool, true, false, if◌then◌else◌, codes, Option, Some, is_some}, lemmas.Bool.{cond-true, cond-false}}
 use Rattle.std.specs.{Str.bytes_eq, Bool.⊤, Vec.vec_items}
@@ -53,7 +53,7 @@ record_keys f = seen_keys (vec_items f.pairs)
 
 -- ---- what bytes give
 
--- fields are those of a record, if the keys are a record's and the encoding is of few bytes
+-- fields are the fields of a record, if their keys are the keys of a record and the encoding is short enough
 pub record_made : (b : List ℕ) (f : NodeFields) → node_fields.Fits f → b ≡ encoding (node_fields.item f) → AreRecordKeys (vec_items f.pairs) → AreBytes b
     → length b ≤ longest_record → IsNodeRecord f
 record_made b f fit whole keys bytes short = record {

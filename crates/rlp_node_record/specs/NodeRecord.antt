@@ -24,7 +24,7 @@ keys_of pairs = map (λ (p : NodePair). vec_items p.key) pairs
 unfoldable pub AreInOrder : List NodePair → Type 0
 AreInOrder pairs = IsTrue (keys_rise (keys_of pairs))
 
--- The fields are those of a node record: the keys are in order, `id` is one of them, and the encoding is of bytes and within the limit.
+-- The fields are the fields of a node record: the keys are in order, `id` is one of them, and the encoding is made of bytes and is within the limit.
 pub record IsNodeRecord (f : NodeFields) : Type 0 where
   pub fits : node_fields.Fits f
   pub rising : AreInOrder (vec_items f.pairs)
@@ -36,13 +36,13 @@ pub record IsNodeRecord (f : NodeFields) : Type 0 where
 abbrev pub AreRecordKeys : List NodePair → Type 0
 AreRecordKeys pairs = AreInOrder pairs × HasId pairs
 
--- the fault of keys that aren't those of a node record: they aren't in order, or they are and `id` isn't one of them
+-- the fault of keys that aren't the keys of a node record: the keys aren't in order, or they are in order and `id` isn't one of them
 abbrev pub test_keys : List (List ℕ) → Result ⊤ Fault
 test_keys keys =
     if keys_rise keys then (if has_key (codes "id") keys then Ok tt else Err (custom (codes "key id is missing")))
     else Err (custom (codes "keys are not in order"))
 
--- the fault of fields that aren't those of a node record: the keys have a fault, or they don't and the encoding is too long
+-- the fault of fields that aren't the fields of a node record: the keys have a fault, or the keys have no fault and the encoding is too long
 abbrev pub test_fields : NodeFields → Result ⊤ Fault
 test_fields f =
     and_then (test_keys (keys_of (vec_items f.pairs)))
@@ -52,7 +52,7 @@ test_fields f =
 abbrev pub keys_seen : node_fields.reading.M → List (List ℕ)
 keys_seen m = map (λ p. p.0) m.1.1
 
--- What the bytes of an item give: they aren't too long, the fields are read strictly, and then the keys are tested.
+-- What the bytes of an item give: the length is tested, the fields are read strictly, and then the keys are tested.
 abbrev pub read_record : List ℕ → Answer node_fields.reading.M Fault
 read_record b =
     if nat_lt longest_record (length b) then here (Err is_too_big)

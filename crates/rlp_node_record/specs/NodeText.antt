@@ -12,7 +12,7 @@ base64_of b = encode_of url_safe_no_pad b
 abbrev pub text_of : List ℕ → List ℕ
 text_of b = codes "enr:" ++ base64_of b
 
--- the text of a record: that of its encoding
+-- the text of a record: the text of its encoding
 abbrev pub node_text : NodeFields → List ℕ
 node_text f = text_of (encoding (node_fields.item f))
 
@@ -24,7 +24,7 @@ HasPrefix t = (rest : List ℕ) × (t ≡ codes "enr:" ++ rest)
 abbrev pub IsNotBase64 : List ℕ → Type 0
 IsNotBase64 digits = (b : List ℕ) → AreBytes b → digits ≢ base64_of b
 
--- Why a text isn't that of a record: it doesn't begin with `enr:`, what follows isn't base64, or the bytes have a fault if they are read strictly.
+-- Why a text isn't the text of a record: it doesn't begin with `enr:`, the text after `enr:` isn't base64, or reading the bytes strictly fails.
 pub data IsNodeTextFault (t : List ℕ) (e : DecoderError) : Type 0 where
   no_prefix : ¬ HasPrefix t → fault_of e ≡ custom (codes "text does not begin with enr:") → IsNodeTextFault t e
   not_base64 : (digits : List ℕ) → t ≡ codes "enr:" ++ digits → IsNotBase64 digits → fault_of e ≡ custom (codes "text is not base64") → IsNodeTextFault t e

@@ -1,5 +1,5 @@
-//! What holds of the texts of node records: each record is read back from its text, and no other
-//! record has this text.
+//! What holds of the texts of node records: each record is read back from its text, and different
+//! records have different texts.
 
 ghost use Rattle.std.specs.Prelude.{◌≡◌, IfErr, IfOk};
 ghost use Rattle.rlp.specs.DecoderError.TheVariants.{OutOfMemory};
@@ -9,9 +9,9 @@ use crate::NodeRecord;
 use rlp::DecoderError;
 use std::alloc::Global;
 
-/// The node record that is read from the text of a node record: it has the same fields. The call
-/// fails only if memory runs out. `only` says that any other record has another text, so a text
-/// names one record.
+/// Writes a node record as text, and reads it back: the record that is read has the same fields.
+/// The call fails only if memory is refused. `only` says that records with different fields have
+/// different texts, so a text names one record.
 pub fn node_text_round_trips(alloc: Global, node: &NodeRecord) -> Result<NodeRecord, DecoderError>
     ensures same { IfOk result (λ r. node_fields.reading.seen r
         ≡ node_fields.reading.seen node.now) }

@@ -6,7 +6,7 @@ ghost use Rattle.rlp_node_record.specs.NodeKeys.{HasId, value_among};
 use crate::node_fields::NodePair;
 use rlp::RawItem;
 
-/// The value of the first pair with this key, or `None` if there is none.
+/// The value of the first pair with this key, or `None` if no pair has it.
 pub(crate) fn value_among<'a>(pairs: &'a [NodePair], key: &[u8]) -> Option<&'a RawItem>
     ensures { option_copied result ≡ value_among key.now pairs.now }
 {

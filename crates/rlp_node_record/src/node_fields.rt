@@ -21,16 +21,16 @@ pub struct NodePair {
     pub value: RawItem,
 }
 
-/// The fields of a node record, as in EIP-778. They are one list: the signature, the sequence
-/// number, and then each key and its value, without lists of their own.
+/// The fields of a node record, as in EIP-778. The fields are one list: the signature, the sequence
+/// number, and then each key followed by its value, with no list around the two.
 ///
-/// The order of the keys, the key `id` and the size aren't tested:
-/// [`NodeRecord`](crate::NodeRecord) has fields that passed these tests.
+/// The order of the keys, the key `id` and the size aren't tested: the fields of a
+/// [`NodeRecord`](crate::NodeRecord) have passed these tests.
 #[derive(Debug, Clone, PartialEq, Eq, Drop)]
 pub struct NodeFields {
     /// The signature of the other fields.
     pub signature: Vec<u8>,
-    /// The number of the record, which grows with each change of it.
+    /// The number of the record, which grows with each change of the record.
     pub sequence: u64,
     /// The keys and their values.
     pub pairs: Vec<NodePair>,

@@ -17,11 +17,11 @@ use std::alloc::{AllocError, Global};
 use std::cmp::Ordering;
 use std::marker::Model;
 
-/// A node record, as in EIP-778: what a node tells of itself. Its keys are in order, each once, `id`
-/// is one of them, and its encoding has at most [`NodeRecord::MAX_LEN`] bytes.
+/// A node record, as in EIP-778: what a node says about itself. Its keys are in order, each once,
+/// `id` is one of them, and its encoding has at most [`NodeRecord::MAX_LEN`] bytes.
 ///
-/// The signature isn't checked, and neither is what the values of known keys are. The identity
-/// scheme of the key `id` says how to check the signature of [`NodeRecord::signed_content`].
+/// The signature and the values of known keys aren't checked. The identity scheme of the key `id`
+/// says how to check the signature of [`NodeRecord::signed_content`].
 ///
 /// Contracts see a record as its fields.
 #[derive(Debug, Drop)]
@@ -46,8 +46,8 @@ impl NodeRecord {
     /// The node record with these fields.
     ///
     /// Fails with `Custom("keys are not in order")` if a key isn't after the one before it, in the
-    /// order of their bytes, or else with `Custom("key id is missing")`. Else it fails with
-    /// `RlpIsTooBig` if the encoding has more than [`NodeRecord::MAX_LEN`] bytes, and with
+    /// order of their bytes, or with `Custom("key id is missing")`. If the keys are right, it fails
+    /// with `RlpIsTooBig` if the encoding has more than [`NodeRecord::MAX_LEN`] bytes, and with
     /// `OutOfMemory` if memory is refused.
     #[tactic(auto, using(crate::proofs::Keys::keys_tested))]
     pub fn new(alloc: Global, fields: NodeFields) -> Result<NodeRecord, DecoderError>
@@ -118,7 +118,8 @@ fn are_in_order(pairs: &[NodePair]) -> bool
     keys_rise(pairs)
 }
 
-/// The same, by the first two keys and then the others.
+/// Returns whether each key is after the one before it, by the first two keys and then the
+/// remaining keys.
 fn keys_rise(pairs: &[NodePair]) -> bool
     ensures { result ≡ keys_rise (keys_of pairs.now) }
 {
@@ -153,8 +154,8 @@ fn record_fields(alloc: Global, bytes: &[u8]) -> Result<NodeFields, DecoderError
     }
 }
 
-/// Appends the path of the fault of bytes that are one item. The tests of the size and of the keys
-/// are of the whole.
+/// Appends the path of the fault of bytes that are one item. A fault of the size or of the keys is
+/// a fault of the whole record.
 fn put_record_path(alloc: Global, bytes: &[u8], path: &mut Vec<usize>) -> Result<(), AllocError>
     ensures { OnOk result (IsPlaced (read_record bytes.now) path.old.items path.new.items) }
 {
@@ -178,8 +179,8 @@ impl Encodable for NodeRecord {
     }
 }
 
-/// Reads the whole encoding of a record, also from a lenient view, since the signature is of these
-/// bytes. Only bytes that follow the record are ignored.
+/// Reads the whole encoding of a record, also from a lenient view, since the signature is of bytes
+/// of this encoding. From a lenient view too, only the bytes that follow the record are ignored.
 ///
 /// Fails as [`Rlp::payload_info`] does, with `RlpIsTooBig` if the record has more than
 /// [`NodeRecord::MAX_LEN`] bytes, with a fault of its fields, and with

@@ -21,12 +21,12 @@ impl NodeRecord {
         text_of(alloc, bytes.as_slice())
     }
 
-    /// The record of this text, read strictly: each record has one text.
+    /// The record of this text, read strictly: each record is read from one text only.
     ///
     /// Fails with `Custom("text does not begin with enr:")`, with `Custom("text is not base64")` if
-    /// what follows isn't URL-safe base64 without padding, with the fault that
-    /// [`rlp::decode_strict`] finds in the bytes, and with `OutOfMemory` if memory is refused. Bits of
-    /// the last digit that belong to no byte must be 0; some clients ignore them.
+    /// the text after `enr:` isn't URL-safe base64 without padding, with the fault that
+    /// [`rlp::decode_strict`] finds in the bytes, and with `OutOfMemory` if memory is refused. Bits
+    /// of the last digit that belong to no byte must be 0; some clients ignore them.
     pub fn from_text(alloc: Global, text: &str) -> Result<NodeRecord, DecoderError>
         ensures value { IfOk result (λ r. IsNodeRecord r × (text.now ≡ node_text r)) }
         ensures fault { IfErr result (λ e. IsNodeTextFault text.now e
@@ -51,7 +51,7 @@ fn text_of(alloc: Global, bytes: &[u8]) -> Result<String, AllocError>
     Ok(text)
 }
 
-/// What follows `enr:`, or `None` if the text doesn't begin with it.
+/// The text after `enr:`, or `None` if the text doesn't begin with `enr:`.
 fn digits_of(text: &[u8]) -> Option<&[u8]>
     ensures { MatchOption result (¬ HasPrefix text.now)
         (λ digits. text.now ≡ codes "enr:" ++ digits.now) }

@@ -8,8 +8,8 @@ use crate::lookup::value_among;
 use rlp::{Decodable, DecoderError, RawItem, StrictRead};
 use std::alloc::Global;
 
-/// The keys. A getter of a key that EIP-778 defines gives `None` if the record hasn't the key, and
-/// also if the key's value hasn't the shape that EIP-778 gives it.
+/// The keys. A getter of a key that EIP-778 defines returns `None` if the record doesn't have the
+/// key, and also if the value of the key doesn't have the form of EIP-778.
 impl NodeRecord {
     /// The value of a key, or `None` if the record hasn't the key.
     pub fn value(&self, key: &[u8]) -> Option<&RawItem>
@@ -18,8 +18,8 @@ impl NodeRecord {
         value_among(self.fields().pairs.as_slice(), key)
     }
 
-    /// The value of a key as a value of this type, or `None` if the record hasn't the key. It is
-    /// read strictly, and the fault is that of [`rlp::decode_strict`].
+    /// The value of a key as a value of this type, or `None` if the record hasn't the key. Reading
+    /// is strict, and fails as [`rlp::decode_strict`] does.
     pub fn get<T: Decodable>(&self, alloc: Global, key: &[u8]) -> Option<Result<T, DecoderError>>
         ensures { ReadsKey T.reading (value_of key.now self.now) result }
     {
@@ -74,16 +74,16 @@ impl NodeRecord {
         known(self, b"ip6")
     }
 
-    /// The TCP port for the IPv6 address: the number at the key `tcp6`. If there is none, the port
-    /// of [`NodeRecord::tcp`] is for both addresses.
+    /// The TCP port for the IPv6 address: the number at the key `tcp6`. If the record doesn't have
+    /// the key, the port of [`NodeRecord::tcp`] is for both addresses.
     pub fn tcp6(&self) -> Option<u16>
         ensures { GivesPort (codes "tcp6") self.now result }
     {
         known(self, b"tcp6")
     }
 
-    /// The UDP port for the IPv6 address: the number at the key `udp6`. If there is none, the port
-    /// of [`NodeRecord::udp`] is for both addresses.
+    /// The UDP port for the IPv6 address: the number at the key `udp6`. If the record doesn't have
+    /// the key, the port of [`NodeRecord::udp`] is for both addresses.
     pub fn udp6(&self) -> Option<u16>
         ensures { GivesPort (codes "udp6") self.now result }
     {
@@ -92,7 +92,7 @@ impl NodeRecord {
 }
 
 /// The value of a key as a value of a type whose reading doesn't allocate, or `None` if the record
-/// hasn't the key or its value isn't one of this type.
+/// hasn't the key or the value of the key isn't a value of this type.
 fn known<T: StrictRead>(node: &NodeRecord, key: &[u8]) -> Option<T>
     requires { T.reading.takes_memory ≡ false }
     ensures { GivesKnown T.fits T.item (value_of key.now node.now) result }

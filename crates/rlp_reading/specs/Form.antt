@@ -73,7 +73,7 @@ pub record Answer (M E : Type 0) : Type 0 where
   pub result : Result M E
   pub path : Path
 
--- The answer of a view whose fault, if there is one, is a fault of the view as a whole.
+-- The answer of a view, with any fault as a fault of the view as a whole.
 abbrev pub here : {M E : Type 0} → Result M E → Answer M E
 here r = record { result = r; path = [] }
 
@@ -114,8 +114,8 @@ IsFound false a old new = (fault_path a ≡ None) × (new ≡ old)
 
 -- ---- what views give
 
--- How the values of a type are read: what contracts see of a value, the item of a value, by what contracts see of the value, what a view gives apart from memory,
--- and whether reading may also fail with `OutOfMemory`.
+-- How the values of a type are read: what contracts see of a value, the item of a value, by what contracts see of the value, what a view gives if no memory is
+-- refused, and whether reading may also fail with `OutOfMemory`.
 pub record Reading (A : Type 0) : Type 1 where
   pub M : Type 0
   pub seen : A → M
@@ -147,7 +147,7 @@ number_of width digits =
     else if begins_with_zero digits then Err invalid_indirection
     else Ok (number_from_digits 256 digits)
 
--- The truth value that a number stands for: `false` for 0 and `true` for 1.
+-- The bool that a number stands for: `false` for 0 and `true` for 1.
 abbrev pub bit_of : ℕ → Result Bool Fault
 bit_of zero = Ok false
 bit_of (suc zero) = Ok true
@@ -229,8 +229,8 @@ pub record Form (A : Type 0) : Type 1 where
   pub item : A → Item
   pub reading : Reading A
 
--- A type of strings: which values fit, the bytes of a value, what contracts see of a value, the bytes of a value, by what contracts see of the value, what a
--- string gives, and whether reading takes memory.
+-- A type of strings: which values fit, the bytes of a value, what contracts see of a value, the bytes of a value, by what contracts see of the value, what a string
+-- gives, and whether reading allocates.
 abbrev pub string_type : {A M : Type 0} → (A → Type 0) → (A → List ℕ) → (A → M) → (M → List ℕ) → (List ℕ → Result M Fault) → Bool → Form A
 string_type {M = M} Fits bytes seen written read takes_memory = record {
   Fits = Fits;
@@ -248,7 +248,7 @@ string_type {M = M} Fits bytes seen written read takes_memory = record {
 abbrev pub number : ℕ → Form ℕ
 number width = string_type (FitsBytes width) big_endian (λ n. n) big_endian (number_of width) false
 
--- Truth values.
+-- Bools.
 abbrev pub truth_value : Form Bool
 truth_value = string_type (λ b. ⊤) (λ b. big_endian (bit b)) (λ b. b) (λ b. big_endian (bit b)) (λ d. and_then (number_of 1 d) bit_of) false
 
@@ -286,7 +286,7 @@ option c = record { Fits = λ o. IfSome o c.Fits; item = option_item c.item; rea
 abbrev pub list_type : {A B : Type 0} → (B → List A) → Form A → Form B
 list_type values c = record { Fits = λ b. All c.Fits (values b); item = λ b. list_of (map c.item (values b)); reading = list_reading values c.reading }
 
--- A type that holds one value, and takes no memory for the value.
+-- A type that holds one value, and allocates no memory for the value.
 abbrev pub newtype : {A B : Type 0} → (B → A) → Form A → Form B
 newtype value c = record {
   Fits = λ b. c.Fits (value b);

@@ -1,4 +1,4 @@
--- Values of several types, told apart by their kind of item or by a tag in front of a payload.
+-- Values of several types, which differ in the kind of item or in a tag in front of a payload.
 use Rattle.std.specs.Prelude.{ℕ, ◌⊎◌, ◌==◌, ◌||◌, Bool, true, false, if◌then◌else◌, List, [], ◌∷◌, Err}
 use Rattle.std.proofs.Common.{inl, inr}
 use Rattle.rlp_format.specs.{Format.Encoding.{Item, list_of, string, encoding}, Values.Value.{FitsBytes, number_item}}

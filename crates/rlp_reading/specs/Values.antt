@@ -2,7 +2,7 @@
 pub use Rattle.rlp_format.specs.Values.Value
 -- which bytes give which value, and which fault
 pub mod ValueReading
--- the same for lists of values
+-- which views give which list of values
 pub mod ListReading
 -- what it means that decoding undoes encoding
 pub mod RoundTrip
@@ -14,5 +14,5 @@ pub mod FieldPlace
 pub mod StructReading
 -- items that are kept as the bytes of their encodings
 pub mod RawItem
--- values of several types, and why there is none
+-- values of several types
 pub mod Sums

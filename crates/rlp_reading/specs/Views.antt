@@ -1,8 +1,8 @@
 -- the results of a view's methods
 pub mod View
--- results for bytes, from those for their items
+-- results for bytes, from the results for their items
 pub mod ByItems
--- the text that a view prints as
+-- the printed text of a view
 pub mod Text
 -- the text of a fault of a tree
 pub mod FaultText

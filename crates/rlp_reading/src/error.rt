@@ -10,9 +10,9 @@ use std::fmt;
 /// A fault of decoding.
 #[derive(Debug, PartialEq, Eq, Drop)]
 pub enum DecoderError {
-    /// There are more bytes than the value takes.
+    /// Bytes follow the item, or the value is too large for its type.
     RlpIsTooBig,
-    /// The bytes end early.
+    /// The bytes end before the item does, or the value is too short for its type.
     RlpIsTooShort,
     /// A list was expected, but there is a string or nothing.
     RlpExpectedToBeList,
@@ -24,10 +24,10 @@ pub enum DecoderError {
     RlpDataLenWithZeroPrefix,
     /// The length of a list begins with a zero byte.
     RlpListLenWithZeroPrefix,
-    /// The bytes encode the value, but not canonically: a shorter header would serve, or a number
+    /// The bytes encode the value, but not canonically: a shorter header is possible, or a number
     /// begins with a zero byte.
     RlpInvalidIndirection,
-    /// The announced length of a string is more than the bytes that follow.
+    /// The header of a string announces more bytes than follow.
     RlpInconsistentLengthAndData,
     /// The header and the string that it announces would be 2^64 bytes or longer.
     RlpInvalidLength,
@@ -103,7 +103,7 @@ impl fmt::Display for DecoderError {
 
 impl Error for DecoderError {}
 
-/// Memory was refused, for anything.
+/// Memory was refused.
 impl From<AllocError> for DecoderError {
     ghost use Rattle.rlp_reading.specs.declared.error.DecoderError.TheVariants.{OutOfMemory};
 

@@ -12,22 +12,24 @@ use std::fmt::Display;
 pub struct FlatItem {
     /// The place of the item's first byte.
     pub place: usize,
-    /// The number of bytes of its header. It is 0 for a byte below `0x80`, which is its own value.
+    /// The number of bytes of the item's header. It is 0 for a byte below `0x80`, which is its own
+    /// encoding.
     pub header_len: usize,
-    /// The number of bytes of its payload, which follows the header.
+    /// The number of bytes of the item's payload, which follows the header.
     pub payload_len: usize,
-    /// The number of lists around it.
+    /// The number of lists around the item.
     pub depth: usize,
-    /// Whether it is a list.
+    /// Whether the item is a list.
     pub is_list: bool,
 }
 
 /// Why bytes aren't the encoding of an item within a depth.
 #[derive(Debug, PartialEq, Eq, Drop)]
 pub enum TreeFault {
-    /// Bytes that aren't an item, or aren't its encoding; or memory was refused.
+    /// The bytes aren't an item, or aren't the canonical encoding of the item; or memory was
+    /// refused.
     Decoding(DecoderError),
-    /// A list inside as many lists as the depth allows.
+    /// A list stands inside as many lists as the depth allows.
     TooDeep,
 }
 

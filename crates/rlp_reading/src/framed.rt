@@ -34,7 +34,7 @@ pub fn is_null(bytes: &[u8]) -> bool
     matches!(bytes, [])
 }
 
-/// Returns whether the first byte is one of a list. Without bytes it returns `false`.
+/// Returns whether the first byte begins a list. Returns `false` if there are no bytes.
 pub fn begins_as_list(bytes: &[u8]) -> bool
     ensures { result ≡ begins_as_list bytes.now }
 {
@@ -75,7 +75,8 @@ pub fn first_framed<'a>(bytes: &'a [u8]) -> Result<(Framed<'a>, &'a [u8]), Decod
 }
 
 /// Returns the string of at most 55 bytes that the bytes begin with, with its header, and the bytes
-/// that follow it. Its first byte tells where it ends. `None` says nothing about the bytes.
+/// that follow it. The first byte of the string tells where the string ends. `None` says nothing
+/// about the bytes.
 #[inline(always)]
 pub(crate) fn short_framed<'a>(bytes: &'a [u8]) -> Option<(&'a [u8], &'a [u8])>
     ensures parts { IfSome result (λ r. split bytes.now ≡ r.0.now ∷ split r.1.now) }
@@ -107,7 +108,8 @@ pub fn framing_of(bytes: &[u8]) -> Result<PayloadInfo, DecoderError>
     Ok(info)
 }
 
-/// Returns the header if the bytes are exactly one framed item. Else fails with their strict fault.
+/// Returns the header if the bytes are exactly one framed item, and else the strict fault of the
+/// bytes.
 #[tactic(auto, using(crate::proofs::Views::Fronts::strict_fronts))]
 pub fn whole_framing(bytes: &[u8]) -> Result<PayloadInfo, DecoderError>
     ensures fault { MatchResult result (λ _. strict_fault bytes.now ≡ None)
@@ -122,7 +124,8 @@ pub fn whole_framing(bytes: &[u8]) -> Result<PayloadInfo, DecoderError>
     Ok(header)
 }
 
-/// Returns the item if the bytes are exactly one framed item. Else fails with their strict fault.
+/// Returns the item if the bytes are exactly one framed item, and else the strict fault of the
+/// bytes.
 #[tactic(auto, using(crate::proofs::Views::Fronts::strict_fronts))]
 pub fn whole_framed<'a>(bytes: &'a [u8]) -> Result<Framed<'a>, DecoderError>
     ensures fault { MatchResult result (λ _. strict_fault bytes.now ≡ None)

@@ -37,7 +37,7 @@ impl PayloadInfo {
     }
 
     /// Returns the number of bytes of header and value together. [`PayloadInfo::checked_total`]
-    /// tests whether that is a `usize`.
+    /// tests whether a `usize` can hold that number.
     pub fn total(&self) -> usize
         requires { total_len self.now < 2 ^ 64 }
         ensures { result ≡ total_len self.now }

@@ -8,12 +8,13 @@ use crate::framed::{Framed, begins_as_list, first_framed, short_framed};
 use rlp_format::count::Count;
 use std::marker::Model;
 
-/// A reader of bytes, item by item, which counts the headers that it reads. Contracts see it as the
-/// record `Reading` of the bytes that are left and that number. Only [`ItemReader::next_framed`] and
-/// [`ItemReader::next_item`] read a header here, and each counts it.
+/// A reader of bytes, item by item, which counts the headers that it reads. Contracts see a reader
+/// as the record `Reading` of the bytes that are left and the number of headers that were read.
+/// Only [`ItemReader::next_framed`] and [`ItemReader::next_item`] read a header here, and each
+/// counts the header.
 ///
-/// Iterators go by it. Walks that no promise counts, such as `Rlp::at`, read headers by
-/// `first_framed` and don't count them.
+/// Iterators use this reader. Functions whose contracts don't speak of headers, such as `Rlp::at`,
+/// read headers by `first_framed` and don't count them.
 #[derive(Drop)]
 pub struct ItemReader<'a> {
     rest: &'a [u8],
@@ -67,8 +68,8 @@ impl<'a> ItemReader<'a> {
         Ok(framed)
     }
 
-    /// The bytes of the next item, or why the bytes aren't framed. It is the same as
-    /// [`ItemReader::next_framed`], but finds sooner where a string of at most 55 bytes ends.
+    /// The bytes of the next item, or why the bytes aren't framed. The same as
+    /// [`ItemReader::next_framed`], but faster for strings of at most 55 bytes.
     #[inline(always)]
     pub fn next_item(&mut self) -> Result<&'a [u8], DecoderError>
         ensures parts { MatchResult result
@@ -131,7 +132,8 @@ pub fn count_items(payload: &[u8]) -> usize
     count
 }
 
-/// The number of items in a payload that has nothing but items, or the fault of what follows them.
+/// The number of items in a payload that has nothing but items, or the fault of the bytes that
+/// follow the items.
 pub fn try_count_items(payload: &[u8]) -> Result<usize, DecoderError>
     ensures fault { MatchResult result (λ _. fault_of_some (after_items payload.now) ≡ None)
         (λ e. fault_of_some (after_items payload.now) ≡ Some e) }

@@ -1,6 +1,6 @@
-//! Reading: definitions of headers, views and values, and the functions that read headers, items and
-//! strings from a slice and walk over its items. It depends on `rlp_format`, and only `rlp`'s own crates
-//! list it. Users list `rlp`, which re-exports the definitions.
+//! Reading: definitions of headers, views and values, and the functions that read headers, items
+//! and strings from a slice and walk over its items. It depends on `rlp_format`, and only the
+//! crates of this repository list it. Users list `rlp`, which re-exports the definitions.
 #![tactic(auto)]
 
 pub mod depth;

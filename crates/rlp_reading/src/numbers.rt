@@ -1,4 +1,4 @@
-//! The digits of numbers, the most significant first.
+//! Big-endian digits of numbers.
 
 ghost use Rattle.std.specs.{Prelude.{◌≡◌, ◌≤◌, length, IfOk, IfErr}, Option.SomeIff, Int.Digits.number_from_digits};
 ghost use Rattle.rlp_format.specs.{Format.Encoding.big_endian, Values.Value.FitsBytes};
@@ -36,8 +36,8 @@ fn digits_at_once(digits: &[u8]) -> usize
     }
 }
 
-/// Tests whether these are the digits of a number of at most `width` bytes: first their number, and
-/// then the first digit.
+/// Tests whether these are the digits of a number of at most `width` bytes: first the number of
+/// digits, and then the first digit.
 #[inline(always)]
 #[tactic(auto, using(crate::proofs::Lemmas::Numbers::digit_faults))]
 pub fn check_digits(digits: &[u8], width: usize) -> Result<(), DecoderError>

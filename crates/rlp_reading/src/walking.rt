@@ -32,8 +32,8 @@ pub fn is_canonical(bytes: &[u8], max_depth: usize) -> bool
 /// The items of the tree whose encoding the bytes are, or why they aren't the encoding of an item
 /// of depth at most `max_depth`.
 ///
-/// It goes over the bytes twice: once for their fault and the number of items, and then to fill
-/// memory for just as many, for which it asks once.
+/// It walks over the bytes twice: once for the fault and the number of items, and once to fill a
+/// vector, for which it allocates once.
 pub fn flatten(alloc: Global, bytes: &[u8], max_depth: usize) -> Result<Vec<FlatItem>, TreeFault>
     ensures items { IfOk result (λ v. IsFlat max_depth bytes.now v.items) }
     ensures fault { IfErr result (λ e. IsFlatFault max_depth bytes.now e) }
@@ -71,8 +71,8 @@ pub fn walk_whole<R: FlatRow>(
     }
 }
 
-/// Writes the rows of an item behind the first `count` rows, and returns their new number, or the
-/// item's first fault within `left` lists. A row that has no room isn't written.
+/// Writes the rows of an item behind the first `count` rows, and returns the new number of rows, or
+/// the item's first fault within `left` lists. A row that has no room isn't written.
 fn walk<R: FlatRow>(
     framed: &Framed<'_>,
     place: usize,

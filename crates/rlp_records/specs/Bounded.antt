@@ -1,4 +1,4 @@
--- Bounds on what is read from strangers.
+-- Bounds on untrusted bytes.
 use Rattle.std.specs.Prelude.{ℕ, ◌≡◌, ◌+◌, ◌≤◌, ◌&&◌, nat_le, nat_lt, if◌then◌else◌, Bool, List, [], ◌∷◌, Option, Some, None, Err, length, codes}
 use Rattle.std.specs.Str.{bytes_eq}
 use Rattle.rlp.specs.{DecoderError.DecoderError, Format.Encoding.{Item, Items, item_and, item_depth, list, no_items, string, encoding}}
@@ -7,7 +7,7 @@ use Rattle.rlp.specs.Views.View.{View, strict_view_of}
 use Rattle.rlp_reading.specs.{Form.{Answer, Fault, custom, fault_of, here}, declared.flat.TreeFault.TreeFault}
 use Rattle.rlp_reading.specs.declared.flat.TreeFault.TheVariants.{Decoding, TooDeep}
 
--- the number of strings and lists in an item: itself, and the items in it at every depth
+-- the number of strings and lists in an item: the item itself, and the items in it at every depth
 abbrev pub items_in : Item → ℕ
 items_in x = length (flat x)
 
@@ -26,19 +26,19 @@ abbrev pub bytes_counted : List ℕ → Option DecoderError → ℕ
 bytes_counted b None = length b
 bytes_counted b (Some e) = 0
 
--- What is counted of the payload of an envelope. A list counts as the number of the items in it, with itself. A list that isn't an encoding, or in which lists
--- nest deeper than 256, counts as many items as it has bytes, since reading it ends with a fault after fewer. Other payloads have a fault at once, and count nothing.
+-- What is counted of the payload of an envelope. A list counts as the number of the items in it, with itself. A list that isn't an encoding, or in which lists nest
+-- deeper than 256, counts as many items as it has bytes: reading it fails before it has read that many. Other payloads fail at once, and count as no items.
 abbrev pub payload_items : List ℕ → ℕ
 payload_items payload =
     if begins_as_list payload then (if is_encoding payload then items_in (raw_item_of payload) else bytes_counted payload (strict_fault payload))
     else 0
 
--- what is counted of a string besides itself: the payload, if the string is an envelope of a type that is read
+-- the number of items that a string counts as, besides the string itself: the number that its payload counts as, if the string is an envelope of a type that is read
 abbrev pub items_in_string : List ℕ → ℕ
 items_in_string [] = 0
 items_in_string (kind ∷ payload) = if is_read_type kind then payload_items payload else 0
 
--- what is counted of the strings in an item besides themselves
+-- the number of items that the strings in an item count as, besides the strings themselves
 abbrev mutual
   pub items_in_envelopes : Item → ℕ
   items_in_envelopes (string d) = items_in_string d
@@ -70,8 +70,8 @@ depth_fault None = None
 depth_fault (Some TooDeep) = Some (custom (codes "nested too deep"))
 depth_fault (Some (Decoding e)) = Some (fault_of e)
 
--- Why bytes are refused before a value is read: they are the encoding of an item with more items, or lists nest too deep, or they aren't the encoding of an
--- item, and the fault is the first in the order of the bytes.
+-- Why bytes are refused before a value is read: the bytes are the encoding of an item with more than `most` items, or lists nest too deep, or the bytes aren't the
+-- encoding of an item. Of the last two the fault is the first in the order of the bytes.
 abbrev pub bound_fault : ℕ → List ℕ → Option Fault
 bound_fault most b = if is_encoding b then count_fault most (raw_item_of b) else depth_fault (tree_fault 256 b)
 

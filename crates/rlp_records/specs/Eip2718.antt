@@ -1,4 +1,4 @@
--- Values of the types of EIP-2718: transactions or receipts. A value of the type without a number is a list, and a value of a type with a number an envelope.
+-- Values of the types of EIP-2718: transactions or receipts. A value of the type without a number is a list, and a value of a type with a number is an envelope.
 use Rattle.std.specs.Prelude.{ℕ, ◌≡◌, ◌<◌, ◌⊎◌, true, List, Option, Some, None, refl}
 use Rattle.std.proofs.Common.{arith, inl, inr}
 use Rattle.rlp.specs.{Codec.{Cases, Codec, and_case, enveloped, last_case, list_or_string, newtype}, Format.Encoding.{Item, is_list}}
@@ -6,8 +6,8 @@ use Rattle.rlp.specs.{Values.Sums.sum_item, Views.View.View}
 use Rattle.rlp_reading.specs.Form.{Answer, Fault, map_answer}
 use Rattle.rlp_records.specs.{Alone.{read_alone, unknown_type}, OtherEnvelope.authorization_magic}
 
--- The types that a value may have: the codec of the type without a number, whose values are lists, and those of the types with a number, each below the MAGIC of
--- EIP-7702.
+-- The types that a value may have: the codec of the type without a number, whose values are lists, and the codecs of the types with a number, each number below the
+-- MAGIC of EIP-7702.
 pub record TypedSum (A : Type 0) : Type 1 where
   pub Legacy : Type 0
   pub Numbered : Type 0
@@ -21,7 +21,7 @@ pub record TypedSum (A : Type 0) : Type 1 where
 abbrev pub typed : {A : Type 0} → TypedSum A → Codec A
 typed t = newtype t.as_sum (list_or_string t.legacy (enveloped t.numbered) t.lists (λ y. refl))
 
--- what bytes give by themselves
+-- what the bytes of a standalone value give
 abbrev pub typed_alone : {A : Type 0} (t : TypedSum A) → List ℕ → Answer (typed t).reading.M Fault
 typed_alone t d = read_alone t.legacy.reading.read t.numbered.cases.read d
 
@@ -34,7 +34,7 @@ number_on_right tag (inr y) = Some (tag y)
 abbrev pub type_number : {A : Type 0} → TypedSum A → A → Option ℕ
 type_number t x = number_on_right t.numbered.cases.tag (t.as_sum x)
 
--- the number, and 0 without one
+-- the number, or 0 for no number
 abbrev pub number_or_zero : Option ℕ → ℕ
 number_or_zero None = 0
 number_or_zero (Some kind) = kind
@@ -47,7 +47,7 @@ type_of t x = number_or_zero (type_number t x)
 abbrev pub payload_item : {A : Type 0} → TypedSum A → A → Item
 payload_item t x = sum_item t.legacy.item t.numbered.cases.item (t.as_sum x)
 
--- what a payload gives that is read as the payload of the type with this number, or as a value of the type without one
+-- what a payload gives that is read as the payload of the type with this number, or as a value of the type without a number
 abbrev pub read_payload : {A : Type 0} (t : TypedSum A) → Option ℕ → View → Answer (typed t).reading.M Fault
 read_payload t None v = map_answer inl (t.legacy.reading.read v)
 read_payload t (Some kind) v = map_answer inr (t.numbered.cases.read kind v)
@@ -66,7 +66,7 @@ below_magic a b c d (inr (inl x)) = omega arith
 below_magic a b c d (inr (inr (inl x))) = omega arith
 below_magic a b c d (inr (inr (inr x))) = omega arith
 
--- Values of the type without a number, or of one of these types. That a value of the type without a number is a list is proved by `λ x. refl`.
+-- Values of the type without a number, or of one of these types. `λ x. refl` proves that a value of the type without a number is a list.
 abbrev pub typed_by : {S L A B C D : Type 0} → (S → L ⊎ (A ⊎ (B ⊎ (C ⊎ D)))) → (l : Codec L) → ((x : L) → is_list (l.item x) ≡ true)
     → Codec A → Codec B → Codec C → Codec D → TypedSum S
 typed_by {L = L} {A = A} {B = B} {C = C} {D = D} as_sum l lists a b c d = record {

@@ -1,9 +1,9 @@
--- Values after a byte that says what they are, as in EIP-2718 and EIP-7702.
+-- Values after a byte that says what the value is, as in EIP-2718 and EIP-7702.
 use Rattle.std.specs.Prelude.{ℕ, List, [], ◌∷◌, Err, codes}
 use Rattle.rlp.specs.Views.View.{View, strict_view_of}
 use Rattle.rlp_reading.specs.{Form.{Answer, Fault, custom, here}, Sums.read_last}
 
--- What bytes give that are the byte `kind` and then an encoding, which `read` reads strictly. Bytes that are empty or begin with another byte have a custom
+-- What bytes that are the byte `kind` and then an encoding give: `read` reads the encoding strictly. Bytes that are empty or begin with another byte have a custom
 -- fault with the text `other`.
 abbrev pub read_after : {M : Type 0} → ℕ → List ℕ → (View → Answer M Fault) → List ℕ → Answer M Fault
 read_after kind other read [] = here (Err (custom other))

@@ -96,8 +96,8 @@ unfoldable pub bytes_of_lanes : List ℕ → ℕ → List ℕ
 bytes_of_lanes a zero = []
 bytes_of_lanes a (suc n) = bytes_of_lanes a n ++ to_le_bytes w64 (slice_index a n)
 
--- the bytes that pad10*1 adds where n more bytes fill the block: a bit 1, zeros, and a bit 1 (5.1; B.2 has such bytes, which begin
--- with the suffix of SHA-3 there)
+-- the bytes that pad10*1 adds where n more bytes fill the block: a bit 1, zeros, and a bit 1 (5.1; B.2 has examples of these bytes for SHA-3, where they begin with
+-- a suffix)
 unfoldable pub padding : ℕ → List ℕ
 padding zero = []
 padding (suc zero) = 0x81 ∷ []
@@ -116,7 +116,7 @@ unfoldable pub absorbed : List ℕ → ℕ → List ℕ
 absorbed p zero = replicate 25 0
 absorbed p (suc n) = absorb (absorbed p n) (take 136 (drop (n * 136) p))
 
--- Keccak-256: KECCAK[512] with 256 bits of output (5.2), which are the first 32 bytes of the last state (4, algorithm 8). Ethereum
--- uses it. SHA3-256 is the same of a message with two more bits.
+-- Keccak-256: KECCAK[512] with 256 bits of output (5.2), which are the first 32 bytes of the last state (4, algorithm 8). Ethereum uses Keccak-256. SHA3-256 is the
+-- same function of a message with two more bits.
 unfoldable pub keccak256 : List ℕ → List ℕ
 keccak256 m = take 32 (bytes_of_lanes (absorbed (padded_message m) (length (padded_message m) / 136)) 25)

@@ -12,16 +12,16 @@ abbrev pub value_or_bytes : {A : Type 0} → KnownOrOther A → A ⊎ List ℕ
 value_or_bytes (Known x) = inl x
 value_or_bytes (Other d) = inr d
 
--- a value of a type that is known, or the string "TransactionType || TransactionPayload" of another type
+-- a value of a known type, or the string "TransactionType || TransactionPayload" of another type
 abbrev pub with_others : {A : Type 0} → TypedSum A → Codec (KnownOrOther A)
 with_others t = newtype value_or_bytes
     (kept (typed t) (λ x. known_apart t.legacy.item t.numbered.cases t.lists (λ y. is_known (t.numbered.cases.tag y) (t.known y)) (t.as_sum x)))
 
--- what bytes give by themselves: the bytes of another type are a value as they are
+-- what the bytes of a standalone value give: the bytes of another type are a value as they are
 abbrev pub any_alone : {A : Type 0} (t : TypedSum A) → List ℕ → Answer (with_others t).reading.M Fault
 any_alone t = kept_alone (typed_alone t)
 
--- the number of the type, and 0 without one
+-- the number of the type, or 0 for the type without a number
 abbrev pub any_type : {A : Type 0} → TypedSum A → KnownOrOther A → ℕ
 any_type t (Known x) = type_of t x
 any_type t (Other d) = other_type d

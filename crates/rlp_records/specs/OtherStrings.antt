@@ -1,4 +1,4 @@
--- Values of a type beside strings that are none of the items of the type.
+-- Values of a type, and strings that aren't items of the type.
 use Rattle.std.proofs.Common.{◌≡◌, ℕ, ◌^◌, ◌<◌, ◌⊎◌, inl, inr, Bool, true, false, IsTrue, if◌then◌else◌, List, [], ◌∷◌, length, refl, sym, ap, ◌∙◌, subst}
 use Rattle.std.proofs.{Common.{arith, le-ltb, leb-true, lt-ltb, ltb, Result, Ok, Err}, lemmas.Bool.{cond-true, cond-false}}
 use Rattle.rlp.specs.{Codec.{Codec, lawful, plain}, DecoderError.DecoderError, DecoderError.TheVariants.RlpExpectedToBeData}
@@ -10,12 +10,12 @@ use Rattle.rlp_reading.proofs.{Lemmas.Strings.string_list, Lemmas.StringsHeld.{R
 use Rattle.rlp_reading.proofs.{Lemmas.Sums.list_first, SumLaws.{sums_fit, sums_written}}
 use Rattle.rlp_records.specs.OtherEnvelope.{IsOther, authorization_magic, is_other, is_other_type}
 
--- What a view gives whose string is r: the string if it is one that `is` tells, and else what the type gives.
+-- What a view whose string is r gives: the string, if `is` holds for it, and else what the type gives.
 abbrev pub string_or : {M : Type 0} → (List ℕ → Bool) → Answer M Fault → Result (List ℕ) Fault → Answer (M ⊎ List ℕ) Fault
 string_or is a (Ok d) = if is d then here (Ok (inr d)) else map_answer inl a
 string_or is a (Err e) = map_answer inl a
 
--- A value of a type, or a string that is none of its items. A view that holds such a string gives it, and any other view is read as the type.
+-- A value of a type, or a string that isn't an item of the type. A view that holds such a string gives the string, and any other view is read as the type.
 abbrev pub or_string : {A : Type 0} → Form A → (List ℕ → Bool) → Form (A ⊎ List ℕ)
 or_string c is = record {
   Fits = OnSum c.Fits (λ d. IsTrue (is d));
@@ -45,7 +45,7 @@ module _ {A : Type 0} (c : Form A) (is : List ℕ → Bool) (apart : (x : A) (d 
   result_same : {M : Type 0} {a b : Answer M Fault} → a ≡ b → a.result ≡ b.result
   result_same {M} same = ap (λ (a : Answer M Fault). a.result) same
 
-  -- what a view gives whose string is r
+  -- what a view whose string is r gives
   abbrev chosen : View → Result (List ℕ) Fault → Result (c.reading.M ⊎ List ℕ) Fault
   chosen v r = (string_or is (c.reading.read v) r).result
 
@@ -111,7 +111,7 @@ is_known kind small =
     let low : ltb kind 0x80 ≡ true = lt-ltb kind 0x80 (omega (arith, small)) in
     cc
 
--- No value of a type that is known is written as the string of another type: it is a list, or the string of the envelope of a type that isn't another.
+-- No value of a known type is written as the string of another type: it is a list, or the string of the envelope of a known type.
 pub known_apart : {A B : Type 0} (item : A → Item) (cases : CasesForm B) → ((x : A) → is_list (item x) ≡ true) → ((y : B) → is_other_type (cases.tag y) ≡ false)
     → (s : A ⊎ B) (d : List ℕ) → IsOther d → ¬ (sum_item item (λ y. string (envelope cases y)) s ≡ string d)
 known_apart item cases lists known (inl x) d other same = let kinds : true ≡ false = sym (lists x) ∙ ap is_list same in cc
@@ -122,6 +122,6 @@ known_apart item cases lists known (inr y) d other same =
 abbrev pub kept : {A : Type 0} (c : Codec A) → ((x : A) (d : List ℕ) → IsOther d → ¬ (c.item x ≡ string d)) → Codec (A ⊎ List ℕ)
 kept c apart = lawful (or_string (plain c) is_other) (or_lawful (plain c) is_other apart c.reads_strictly)
 
--- what bytes give by themselves: those of another type are kept as they are, and others give what `read` gives
+-- what the bytes of a standalone value give: the bytes of another type are kept as they are, and other bytes give what `read` gives
 abbrev pub kept_alone : {M : Type 0} → (List ℕ → Answer M Fault) → List ℕ → Answer (M ⊎ List ℕ) Fault
 kept_alone read d = string_or is_other (read d) (Ok d)

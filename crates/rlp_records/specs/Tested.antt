@@ -1,4 +1,4 @@
--- Types whose values are those values of another type that pass a test.
+-- Types whose values are the values of another type that pass a test.
 use Rattle.std.proofs.Common.{◌≡◌, ◌↔◌, Bool, true, false, if◌then◌else◌, ℕ, List, Result, Ok, Err, ap, refl, subst, ◌∙◌}
 use Rattle.rlp.specs.Codec.{Codec, lawful}
 use Rattle.rlp_reading.specs.{Form.{Fault, Form, and_then, custom, go_on, here}, Laws.{GivesOnly, IsLawful, ReadsBack, viewed}}
@@ -58,6 +58,6 @@ module _ {A : Type 0} (text : List ℕ) (c : Codec A) (test : c.reading.M → Bo
     exact = tested_only;
   }
 
--- The values of a type that pass a test; for other values reading fails with `Custom` with this text. `Fits` says in its own words which values pass.
+-- The values of a type that pass a test; reading any other value fails with `Custom` with this text. `Fits` says in its own words which values pass.
 abbrev pub tested : {A : Type 0} → List ℕ → (c : Codec A) → (test : c.reading.M → Bool) → (Fits : A → Type 0) → ((x : A) → Fits x ↔ Passes c test x) → Codec A
 tested text c test Fits same = lawful (tested_form text c test Fits) (tested_lawful text c test Fits same)

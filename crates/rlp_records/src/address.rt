@@ -13,7 +13,7 @@ use std::alloc::{AllocError, Global};
 #[derive(Debug, Clone, Copy, PartialEq, Eq)]
 pub struct Address(pub [u8; 20]);
 
-/// Written as the array of the bytes is.
+/// Written as the array of its bytes.
 impl Encodable for Address {
     ghost item = { address.item };
 
@@ -24,7 +24,7 @@ impl Encodable for Address {
     }
 }
 
-/// Read as the array of the bytes is. Fails with `RlpIsTooShort` if the string is shorter, and with
+/// Read as an array of 20 bytes. Fails with `RlpIsTooShort` if the string is shorter, and with
 /// `RlpIsTooBig` if it is longer. It doesn't allocate.
 impl Decodable for Address {
     ghost reading = { address.reading };

@@ -1,4 +1,4 @@
-//! Reading with a bound on the number of items, for bytes of strangers.
+//! Reading with a bound on the number of items, for untrusted bytes.
 
 ghost use Rattle.std.specs.Prelude.{◌≡◌, ◌⊎◌, Err, IfErr, IfOk, IsTrue, MatchResult, None, Ok, Some};
 ghost use Rattle.rlp.specs.{DecoderError.TheVariants.OutOfMemory, Format.Encoding.encoding, Values.Value.AreAlike};
@@ -11,18 +11,18 @@ use rlp_reading::walking::walk_whole;
 use std::alloc::Global;
 
 /// The record whose whole encoding the bytes are, if it has at most `most` items. Each string and
-/// each list counts, at every depth, and the record itself.
+/// each list counts as one item, at every depth, and so does the record itself.
 ///
-/// So do the items in each string that is an envelope: a byte from 1 to 4, the type of a
-/// transaction or a receipt, and a list. Any string of this form counts so, also the input of a
-/// call. If reading the list would fail, each of its bytes counts as an item.
+/// The items in an envelope count too. An envelope is any string that is a byte from 1 to 4, the
+/// type of a transaction or a receipt, and then a list; it may also be the input of a call. If the
+/// list can't be read, each of its bytes counts as one item.
 ///
-/// It goes over the bytes before it reads the record, and doesn't allocate for bytes that this
-/// refuses. For the encoding of a record within the bounds it fails only if memory runs out.
+/// It walks over the bytes before it reads the record, and doesn't allocate for bytes that fail
+/// there. For the encoding of a record within the bounds it fails only if memory is refused.
 ///
 /// Fails with the first fault of the bytes if they aren't the encoding of an item, with
-/// `Custom("nested too deep")` for more than 256 lists in one another, with
-/// `Custom("too many items")`, and else with the strict fault of the record.
+/// `Custom("nested too deep")` if lists nest deeper than 256, with `Custom("too many items")`, and
+/// else with the strict fault of the record.
 pub fn decode_at_most<R: StrictRead>(
     alloc: Global,
     bytes: &[u8],

@@ -10,13 +10,13 @@ use bytes::BytesMut;
 use rlp::{DecoderError, Encodable, Envelope, Rlp, RlpStream, write_envelope};
 use std::alloc::{AllocError, Global};
 
-/// A type whose values have types of EIP-2718 themselves, such as transactions and receipts: a value
-/// of the type without a number is a list, and a value of a type with a number is an envelope, the
-/// byte of its type and the encoding of its payload.
+/// A type whose values are of the types of EIP-2718, such as transactions and receipts. A value of
+/// the type without a number is a list. A value of a type with a number is an envelope: the byte of
+/// its type, and the encoding of its payload.
 ///
-/// An implementation says which types there are, and writes and reads their payloads. In a list, an
-/// envelope is a string: [`Eip2718::append_item`], [`Eip2718::decode_item`] and
-/// [`Eip2718::put_item_path`] are the bodies of the traits by which the type stands in one.
+/// An implementation says which types there are, and writes and reads the payloads of the types. In
+/// a list, an envelope is a string: [`Eip2718::append_item`], [`Eip2718::decode_item`] and
+/// [`Eip2718::put_item_path`] are the bodies of the methods that write and read a value as an item.
 pub trait Eip2718: Sized + Drop {
     /// The types that a value may have.
     ghost types: { TypedSum Self };
@@ -32,7 +32,7 @@ pub trait Eip2718: Sized + Drop {
         ensures refused { OnErr result (GrowsTo s.old.state s.new.state) }
         ensures moved { MovedGrows s.old s.new };
 
-    /// Reads a payload of the type with this number, or a value of the type without one.
+    /// Reads a payload of the type with this number, or a value of the type without a number.
     ///
     /// Fails with `Custom("unknown transaction type")` for a number that no type has, and else with
     /// the fault of the payload.
@@ -68,8 +68,8 @@ pub trait Eip2718: Sized + Drop {
         }
     }
 
-    /// Returns the bytes of the value by itself, outside a list: the encoding of a value of the type
-    /// without a number, or the byte of the type and the encoding of the payload.
+    /// Returns the bytes of the standalone value, outside a list: the encoding of a value of the
+    /// type without a number, or the byte of the type and the encoding of the payload.
     final fn to_bytes(&self, alloc: Global) -> Result<BytesMut, AllocError>
         ensures fits { OnOk result ((typed types).Fits self.now) }
         ensures bytes { IfOk result (λ b. b.items ≡ bytes_alone ((typed types).item self.now)) }
@@ -80,11 +80,12 @@ pub trait Eip2718: Sized + Drop {
         }
     }
 
-    /// Reads a value strictly from its bytes, as [`Eip2718::to_bytes`] returns them. For such bytes it
-    /// fails only if memory runs out.
+    /// Reads a value strictly from its bytes, as [`Eip2718::to_bytes`] returns them. For the bytes
+    /// of a value it fails only if memory is refused.
     ///
-    /// Fails with `Custom("unknown transaction type")` for a first byte below `0xc0` that is no type,
-    /// with `RlpIsTooShort` if there are no bytes, and else with the strict fault of the payload.
+    /// Fails with `Custom("unknown transaction type")` for a first byte below `0xc0` that is the
+    /// number of no type, with `RlpIsTooShort` if there are no bytes, and else with the strict
+    /// fault of the payload.
     final fn from_bytes(alloc: Global, bytes: &[u8]) -> Result<Self, DecoderError>
         ensures whole { IfOk result (λ x. (typed types).Fits x
             × (bytes.now ≡ bytes_alone ((typed types).item x))) }

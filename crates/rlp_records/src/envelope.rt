@@ -22,7 +22,7 @@ pub const BLOB_TYPE: u8 = 0x03;
 /// The type of a transaction that sets code: EIP-7702.
 pub const SET_CODE_TYPE: u8 = 0x04;
 
-/// The byte before the list of an authorization's fields in what is signed, as in EIP-7702. No
+/// The byte that is signed before the list of the fields of an authorization, as in EIP-7702. No
 /// transaction has this type.
 pub const AUTHORIZATION_MAGIC: u8 = 0x05;
 
@@ -30,7 +30,7 @@ pub const AUTHORIZATION_MAGIC: u8 = 0x05;
 pub const DEPOSIT_TYPE: u8 = 0x7e;
 
 /// Returns the envelope of a value: the byte `kind` of its type, and its encoding. In EIP-2718 the
-/// type is below 0x80, so an envelope doesn't begin as a list does.
+/// type is below 0x80, so the first byte of an envelope doesn't begin a list.
 pub fn to_envelope<T: Encodable>(
     alloc: Global,
     kind: u8,
@@ -69,7 +69,7 @@ fn typed_stream(alloc: Global, kind: u8) -> Result<RlpStream, AllocError>
 }
 
 /// Reads a value strictly from its whole envelope. For the envelope of a value it fails only if
-/// memory runs out.
+/// memory is refused.
 ///
 /// Fails with `Custom("another type")` if the bytes are empty or begin with another type, and else
 /// with the strict fault of the value.

@@ -12,8 +12,8 @@ use rlp_reading::walking::walk_whole;
 /// How deep lists may nest in an item, or in the payload of an envelope.
 pub(crate) const GREATEST_DEPTH: usize = 256;
 
-/// Returns how many items are in the envelopes in an item, whose encoding the bytes are. It goes over
-/// the bytes once, and over the payloads of envelopes once more.
+/// Returns how many items are in the envelopes in an item, whose encoding the bytes are. It walks
+/// over the bytes once, and over the payloads of envelopes once more.
 #[tactic(auto, using(crate::proofs::Scanning::scanning))]
 pub(crate) fn items_in_envelopes(bytes: &[u8]) -> usize
     requires { IsCanonical bytes.now }
@@ -56,8 +56,8 @@ fn is_read_type(kind: u8) -> bool
     ACCESS_LIST_TYPE <= kind && kind <= SET_CODE_TYPE
 }
 
-/// Returns how many items are in the payload of an envelope, or how many bytes it has if it is a list
-/// that isn't an encoding.
+/// Returns how many items are in the payload of an envelope, or how many bytes the payload has if
+/// it is a list that isn't an encoding.
 fn items_in_payload(payload: &[u8]) -> usize
     ensures count { result ≡ payload_items payload.now }
     ensures few { result ≤ length payload.now }

@@ -26,8 +26,8 @@ pub trait Enveloped: StrictRead {
         to_envelope(alloc, Self::TYPE, self)
     }
 
-    /// Reads a value strictly from its bytes, as `to_bytes` returns them. For such bytes it fails only
-    /// if memory runs out.
+    /// Reads a value strictly from its bytes, as `to_bytes` returns them. For the bytes of a value
+    /// it fails only if memory is refused.
     ///
     /// Fails with `Custom("another type")` if the bytes are empty or begin with another byte, and
     /// else with the strict fault of the value.

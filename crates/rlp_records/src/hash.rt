@@ -12,7 +12,7 @@ use std::alloc::{AllocError, Global};
 #[derive(Debug, Clone, Copy, PartialEq, Eq)]
 pub struct Hash(pub [u8; 32]);
 
-/// Written as the array of the bytes is.
+/// Written as the array of its bytes.
 impl Encodable for Hash {
     ghost item = { hash.item };
 
@@ -23,7 +23,7 @@ impl Encodable for Hash {
     }
 }
 
-/// Read as the array of the bytes is. Fails with `RlpIsTooShort` if the string is shorter, and with
+/// Read as an array of 32 bytes. Fails with `RlpIsTooShort` if the string is shorter, and with
 /// `RlpIsTooBig` if it is longer. It doesn't allocate.
 impl Decodable for Hash {
     ghost reading = { hash.reading };

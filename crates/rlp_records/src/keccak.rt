@@ -84,8 +84,8 @@ fn digest(state: &[u64; 25]) -> [u8; 32]
     out
 }
 
-/// Returns the Keccak-256 hash of these bytes, as in Ethereum. It isn't SHA3-256, which FIPS 202
-/// defines with another padding. It doesn't allocate and never fails.
+/// Returns the Keccak-256 hash of these bytes, as in Ethereum. This isn't SHA3-256 of FIPS 202,
+/// which pads the bytes in another way. The function doesn't allocate and never fails.
 ///
 /// ```rust
 /// assert_eq!(rt; crate::keccak256(b"")[..4], [0xc5, 0xd2, 0x46, 0x01]);

@@ -13,18 +13,18 @@ use rlp::{
 };
 use std::alloc::{AllocError, Global};
 
-/// A transaction or a receipt of any type: one of a type that isn't known is kept, and is written back
-/// as it was read.
+/// A transaction or a receipt of any type. A value of an unknown type is kept as its bytes, and
+/// written back unchanged.
 #[derive(Debug, Clone, PartialEq, Eq, Drop)]
 pub enum KnownOrOther<T> {
-    /// A value of the type without a number, or of a type that is known.
+    /// A value of the type without a number, or of a known type.
     Known(T),
     /// A value of another type, such as a deposit of the OP stack.
     Other(OtherEnvelope),
 }
 
 impl<T: Eip2718> KnownOrOther<T> {
-    /// Returns the bytes of the value by itself, as [`Eip2718::to_bytes`] does.
+    /// Returns the bytes of the standalone value, as [`Eip2718::to_bytes`] does.
     pub fn to_bytes(&self, alloc: Global) -> Result<BytesMut, AllocError>
         ensures fits { OnOk result ((with_others T.types).Fits self.now) }
         ensures bytes { IfOk result
@@ -36,8 +36,8 @@ impl<T: Eip2718> KnownOrOther<T> {
         }
     }
 
-    /// Reads a value strictly from its bytes, as [`KnownOrOther::to_bytes`] returns them. For such
-    /// bytes it fails only if memory runs out.
+    /// Reads a value strictly from its bytes, as [`KnownOrOther::to_bytes`] returns them. For the
+    /// bytes of a value it fails only if memory is refused.
     ///
     /// Fails as [`Eip2718::from_bytes`] does, but not for the type of an [`OtherEnvelope`].
     pub fn from_bytes(alloc: Global, bytes: &[u8]) -> Result<KnownOrOther<T>, DecoderError>
@@ -72,7 +72,7 @@ impl<T: Eip2718> KnownOrOther<T> {
     }
 
     /// Returns the hash of the bytes that [`KnownOrOther::to_bytes`] returns, which names a
-    /// transaction. Fails as it does.
+    /// transaction. Fails as [`KnownOrOther::to_bytes`] does.
     pub fn hash(&self, alloc: Global) -> Result<Hash, AllocError>
         ensures fits { OnOk result ((with_others T.types).Fits self.now) }
         ensures hash { IfOk result

@@ -1,4 +1,4 @@
-//! Envelopes of types that these crates don't know.
+//! Envelopes of unknown types: types that these crates don't read.
 
 ghost use Rattle.std.specs.{Prelude.{◌≡◌, ◌⊎◌, drop, nat_eq, IfErr, IfOk}, Cmp.partial_equiv_from_equiv, Cmp.Lexicographic.{nat_list_eq_equiv, pointwise}};
 ghost use Rattle.rlp.specs.DecoderError.TheVariants.{OutOfMemory};
@@ -10,12 +10,12 @@ use rlp::DecoderError;
 use std::alloc::Global;
 use std::marker::Model;
 
-/// A transaction or a receipt of a type of EIP-2718 that isn't known, such as a deposit of the OP
-/// stack, kept as its bytes.
+/// A transaction or a receipt of an unknown type of EIP-2718, such as a deposit of the OP stack,
+/// kept as its bytes.
 ///
-/// Contracts see it as these bytes: the byte of the type, and the payload. The type is 6 to 0x7f: 1 to
-/// 4 are known, what is of a legacy transaction has no type, and 5 is [`AUTHORIZATION_MAGIC`] of
-/// EIP-7702, which no transaction begins with.
+/// Contracts see it as these bytes: the byte of the type, and the payload. The type is 6 to 0x7f.
+/// The types 1 to 4 are known, 0 stands for a legacy transaction, whose bytes have no type, and 5
+/// is [`AUTHORIZATION_MAGIC`] of EIP-7702, with which no transaction begins.
 #[derive(Debug, Clone, Drop)]
 pub struct OtherEnvelope {
     bytes: Vec<u8>,
@@ -59,7 +59,8 @@ impl OtherEnvelope {
         }
     }
 
-    /// The bytes: the byte of the type, and the payload. They are what is hashed of a transaction.
+    /// The bytes: the byte of the type, and the payload. The hash of a transaction is the hash of
+    /// these bytes.
     pub fn as_bytes(&self) -> &[u8]
         ensures bytes { result.now ≡ self.now }
         ensures other { IsOther self.now }
@@ -88,7 +89,7 @@ impl OtherEnvelope {
     }
 }
 
-/// Two are equal if their bytes are.
+/// Two envelopes are equal if their bytes are equal.
 impl PartialEq for OtherEnvelope {
     ghost eq = { pointwise nat_eq };
 

@@ -28,7 +28,7 @@ value_text Bytes kind name b v = dump_of b name v
 
 -- ---- faults
 
--- the name of a fault, and of a custom fault also its text
+-- the name of a fault, and for a custom fault also its text
 abbrev pub fault_name : Fault → List ℕ
 fault_name is_too_big = codes "RlpIsTooBig"
 fault_name is_too_short = codes "RlpIsTooShort"
@@ -43,19 +43,20 @@ fault_name invalid_len = codes "RlpInvalidLength"
 fault_name (custom text) = codes "Custom(\"" ++ text ++ codes "\")"
 fault_name out_of_memory = codes "OutOfMemory"
 
--- what is wrong, in JSON: the name of a fault, and of a custom fault its text
+-- what is wrong, in JSON: the name of a fault, or for a custom fault its text
 abbrev pub fault_word : Fault → List ℕ
 fault_word (custom text) = text
 fault_word e = fault_name e
 
--- what is wrong, as a text: `field`, the place, the name in parentheses, and the fault; outside a field the name and the fault; for a whole record only the fault
+-- What is wrong, as a text. In a field this is the word `field`, the place, the name in parentheses, and the fault; outside a field the name and the fault; for a
+-- whole record only the fault.
 abbrev pub fault_text : Option ℕ → List ℕ → List ℕ → List ℕ
 fault_text (Some place) name what = codes "field " ++ decimal place ++ codes " (" ++ name ++ codes "): " ++ what
 fault_text None [] what = what
 fault_text None (c ∷ name) what = (c ∷ name) ++ codes ": " ++ what
 
--- The answer to what is at fault in a field with this name, or outside a field: a line, or in JSON an object with the one member `error`. The fault has a word in JSON
--- and a text in lines.
+-- The answer to what is at fault in a field with this name, or outside a field: a line, or in JSON an object with the one member `error`. The two texts are the
+-- fault in JSON and the fault in lines.
 abbrev pub fault_answer : Form → Option ℕ → List ℕ → List ℕ → List ℕ → List ℕ
 fault_answer Json place name word what = json_of (fault_display.shown (place, (name, word)))
 fault_answer form place name word what = codes "error " ++ fault_text place name what
@@ -64,11 +65,11 @@ fault_answer form place name word what = codes "error " ++ fault_text place name
 abbrev pub error_answer : Form → Option ℕ → List ℕ → Fault → List ℕ
 error_answer form place name e = fault_answer form place name (fault_word e) (fault_name e)
 
--- the answer to what is no record, such as digits that aren't hexadecimal
+-- the answer to a line that isn't a record, such as digits that aren't hexadecimal
 abbrev pub no_record : Form → List ℕ → List ℕ
 no_record form what = fault_answer form None [] what what
 
--- The field that a fault is in, by the places that lead to the fault: a field of the outermost record, which in a list is an item.
+-- The field that a fault is in, by the places that lead to the fault: a field of the outermost record. In a list, this record is an item of the list.
 abbrev pub field_at : Bool → Path → Option ℕ
 field_at is_list [] = None
 field_at false (place ∷ path) = Some place
@@ -86,7 +87,8 @@ shown_text form kind name b (Err e) path =
 abbrev pub kind_text : Form → Kind → List ℕ → List ℕ → Shown → List ℕ
 kind_text form kind name b s = shown_text form kind name b s.result s.path
 
--- The name of a whole record, if its kind isn't guessed. In JSON it is that of the kind, and else a list has the name of its kind and other records have none.
+-- The name of a whole record, if its kind isn't guessed. In JSON it is the name of the kind. In lines a list has the name of its kind, and any other record has no
+-- name.
 abbrev pub own_name : Form → Kind → List ℕ
 own_name Json kind = kind_name kind
 own_name form kind = if is_list (kind_part kind) then kind_name kind else []
@@ -97,14 +99,14 @@ guessed_text form b (Ok (Some kind)) = kind_text form kind (kind_name kind) b (k
 guessed_text form b (Ok None) = error_answer form None [] (custom (codes "unknown kind"))
 guessed_text form b (Err e) = error_answer form None [] (fault_of e)
 
--- the answer to the bytes of a record of this kind, or of one whose kind is guessed
+-- the answer to the bytes of a record of this kind, or of a record whose kind is guessed
 abbrev pub bytes_text : Form → Option Kind → List ℕ → List ℕ
 bytes_text form (Some kind) b = kind_text form kind (own_name form kind) b (kind_shown kind b)
 bytes_text form None b = guessed_text form b (guess (strict_view_of b))
 
 -- ---- lines
 
--- the answer for the bytes of a text, or what is wrong with a text that has none
+-- the answer for the bytes of a text, or what is wrong with a text that has no bytes
 abbrev pub text_answer : Answers → List ℕ → Option (List ℕ) → List ℕ
 text_answer answers text (Some b) = bytes_text answers.form answers.kind b
 text_answer answers text None = no_record answers.form (if is_node_text text then codes "base64" else codes "hex")
@@ -121,7 +123,7 @@ long_line answers = no_record answers.form (codes "long line")
 abbrev pub IsAnswered : Kind → List ℕ → List ℕ → Value → Type 0
 IsAnswered kind line b v = (form : Form) → answer_of (record { kind = Some kind; form = form }) line ≡ value_text form kind (own_name form kind) b v
 
--- A value is shown of what contracts see of some x, and each such x has the property.
+-- The value is what is shown of some m, and each x that contracts see as m has the property.
 abbrev pub IsRead : {A : Type 0} → (A → Type 0) → (r : Reading A) → (r.M → Value) → Value → Type 0
 IsRead {A} P r shown v = (m : r.M) × (v ≡ shown m) × ((x : A) → r.seen x ≡ m → P x)
 

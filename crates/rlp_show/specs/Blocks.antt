@@ -8,7 +8,7 @@ use Rattle.rlp_show.specs.Display.{Display, Fields, a_list, a_number, a_string, 
 use Rattle.rlp_show.specs.{Records.hash_entries, Records.withdrawal_display, Records.written, Transactions.any_transaction_display}
 use Rattle.rlp_show.specs.declared.sink.BytesKind.TheVariants.{Sparse}
 
--- what forks added
+-- what is shown of the fields that a fork added
 abbrev pub amsterdam_display : Fields amsterdam_fields.reading.M
 amsterdam_display =
     field (codes "block_access_list_hash") (codes "blockAccessListHash") a_string (
@@ -54,7 +54,7 @@ hashed_header_display = after_derived (λ h. hash_entries (header_hash h)) heade
 abbrev pub header_display : Display header.reading.M
 header_display = an_object hashed_header_display
 
--- the fields of a body, which also stand in a block
+-- the fields of a body, which a block has too
 abbrev pub body_fields_display : Fields body.reading.M
 body_fields_display =
     same (codes "transactions") (a_list any_transaction_display) (same (codes "ommers") (a_list header_display) (
@@ -64,11 +64,11 @@ body_fields_display =
 unfoldable pub block_size : block.reading.M → ℕ
 block_size b = length (written block.reading b)
 
--- what JSON has besides, as in the execution API: the hashes of the ommers, and the number of bytes of the block
+-- what a block has only in JSON, as in the execution API: the hashes of the ommers, and the number of bytes of the block
 abbrev pub more_of_block : Fields block.reading.M
 more_of_block = derived (λ b. (same (codes "uncles") (a_list a_string) (one (codes "size") (codes "size") a_number)).shown (map header_hash b.1.1.0, block_size b))
 
--- In JSON the fields of the header stand in the block itself.
+-- In JSON the fields of the header are fields of the block.
 abbrev pub block_display : Display block.reading.M
 block_display = an_object (through (λ b. ((b.0, b.0), (b.1, (b, b)))) (
     in_order (in_forms (one (codes "header") (codes "header") header_display) hashed_header_display) (

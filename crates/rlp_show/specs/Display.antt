@@ -1,4 +1,5 @@
--- How values are shown, by what contracts see of them. Each way to show values comes with what is told of a value: values that are shown alike have this in common.
+-- How values are shown, by what contracts see of them. Each way to show values comes with what is told of a value: if two values are shown alike, what is told of
+-- the two is equal.
 use Rattle.std.specs.Prelude.{ℕ, suc, ◌==◌, ◌⊎◌, Bool, codes, true, false, List, [], ◌∷◌, map, Option, Some, None, option_map, ⊤}
 use Rattle.std.proofs.Common.{◌≡◌, ◌≤◌, ◌∙◌, refl, sym, ap, arith, inl, inr}
 use Rattle.rlp.specs.{Sums.sum_map, Values.Value.bit}
@@ -16,7 +17,7 @@ pub record Shows (R M : Type 0) : Type 1 where
 abbrev pub Display : Type 0 → Type 1
 Display M = Shows Value M
 
--- how the fields are shown of values that are objects
+-- how the fields of values that are objects are shown
 abbrev pub Fields : Type 0 → Type 1
 Fields M = Shows Entries M
 
@@ -36,11 +37,11 @@ content_bytes c = []
 pub content_same : {c d : Content} → content c ≡ content d → c ≡ d
 content_same is = cc
 
--- what is read back from contents tells them apart
+-- if `back` reads back what `make` makes, `make` is injective
 pub back_apart : {M : Type 0} (make : M → Content) (back : Content → M) → ((m : M) → back (make m) ≡ m) → (m n : M) → make m ≡ make n → m ≡ n
 back_apart make back is m n same = sym (is m) ∙ ap back same ∙ is n
 
--- values that are shown as contents, which tell them apart
+-- values that are shown as contents: different values have different contents
 abbrev pub a_content : {M : Type 0} (make : M → Content) → ((m n : M) → make m ≡ make n → m ≡ n) → Display M
 a_content {M} make apart = record { shown = λ m. content (make m); Told = M; told = λ m. m; apart = λ m n is. apart m n (content_same is) }
 
@@ -64,7 +65,7 @@ pub bit_back : (b : Bool) → (bit b == 1) ≡ b
 bit_back true = refl
 bit_back false = refl
 
--- truth values, as 0 or 1
+-- bools, as 0 or 1
 abbrev pub a_bit : Display Bool
 a_bit = a_content (λ b. number Decimal (bit b)) (back_apart (λ b. number Decimal (bit b)) (λ c. content_number c == 1) bit_back)
 
@@ -100,7 +101,7 @@ a_list d = record {
   apart = list_apart d;
 }
 
--- values, or their fields, that are shown as what they have of another type
+-- values, or their fields, that are shown as the value of another type in them
 abbrev pub through : {R A M : Type 0} → (A → M) → Shows R M → Shows R A
 through get d = record { shown = λ a. d.shown (get a); Told = d.Told; told = λ a. d.told (get a); apart = λ a b is. d.apart (get a) (get b) is }
 
@@ -147,7 +148,7 @@ abbrev pub one_if : {M : Type 0} → List ℕ → List ℕ → Display M → Fie
 one_if {M} name json d = through (option_map (λ (m : M). (name, (json, m)))) (if_there (named d))
 
 module _ {M N : Type 0} (f : Fields M) (g : Fields N) where
-  -- what is told of both
+  -- what is told of the two parts
   abbrev pub told_both : M × N → f.Told × g.Told
   told_both m = (f.told m.0, g.told m.1)
 
@@ -161,27 +162,27 @@ module _ {M N : Type 0} (f : Fields M) (g : Fields N) where
 abbrev pub in_order : {M N : Type 0} → Fields M → Fields N → Fields (M × N)
 in_order f more = record { shown = λ m. both (f.shown m.0) (more.shown m.1); Told = f.Told × more.Told; told = told_both f more; apart = both_apart f more }
 
--- fields of lines, and the fields that JSON has in their place
+-- fields in lines, and the fields in JSON in the place of these
 abbrev pub in_forms : {M N : Type 0} → Fields M → Fields N → Fields (M × N)
 in_forms f json = record { shown = λ m. by_form (f.shown m.0) (json.shown m.1); Told = f.Told × json.Told; told = told_both f json; apart = forms_apart f json }
 
--- values, or fields, that follow from what is told elsewhere
+-- values, or fields, that other fields determine, so that nothing is told of them
 abbrev pub derived : {R M : Type 0} → (M → R) → Shows R M
 derived shown = record { shown = shown; Told = ⊤; told = λ m. tt; apart = λ m n is. refl }
 
--- fields that follow from a value, and then its fields
+-- fields that the value determines, and then its fields
 abbrev pub after_derived : {M : Type 0} → (M → Entries) → Fields M → Fields M
 after_derived {M} shown f = through (λ (m : M). (m, m)) (in_order (derived shown) f)
 
--- a field before others
+-- a field before other fields
 abbrev pub field : {M N : Type 0} → List ℕ → List ℕ → Display M → Fields N → Fields (M × N)
 field name json d more = in_order (one name json d) more
 
--- a field that has this name in both forms, before others
+-- a field that has this name in lines and in JSON, before other fields
 abbrev pub same : {M N : Type 0} → List ℕ → Display M → Fields N → Fields (M × N)
 same name d more = field name name d more
 
--- a field that may be missing, before others
+-- a field that may be missing, before other fields
 abbrev pub field_if : {M N : Type 0} → List ℕ → List ℕ → Display M → Fields N → Fields (Option M × N)
 field_if name json d more = in_order (one_if name json d) more
 
@@ -190,7 +191,7 @@ field_if name json d more = in_order (one_if name json d) more
 abbrev pub type_entries : ℕ → Entries
 type_entries tag = entry (codes "type") (codes "type") (content (type_byte tag))
 
--- without a type there is nothing in lines, and 0 in JSON
+-- the type without a number has no field in lines, and 0 in JSON
 abbrev pub no_type_entries : Entries
 no_type_entries = by_form nothing (type_entries 0)
 
@@ -205,7 +206,7 @@ shown_type (both first more) = shown_type first
 shown_type es = 0
 
 module _ {M N : Type 0} (f : Fields M) (g : Fields N) where
-  -- the fields of a value that is one of two
+  -- the fields of a value of one of two types
   abbrev pub on_either : M ⊎ N → Entries
   on_either (inl m) = f.shown m
   on_either (inr n) = g.shown n
@@ -221,12 +222,12 @@ module _ {M N : Type 0} (f : Fields M) (g : Fields N) where
 abbrev pub either : {M N : Type 0} (f : Fields M) (g : Fields N) → ((m : M) (n : N) → f.shown m ≡ g.shown n → ⊥) → Fields (M ⊎ N)
 either f g differ = record { shown = on_either f g; Told = f.Told ⊎ g.Told; told = sum_map f.told g.told; apart = either_apart f g differ }
 
--- The fields of the types of a sum from the type with this number on. They begin with the number of the type, which the fields are told apart by.
+-- The fields of the types of a sum from the type with this number on. They begin with the number of the type, in which the fields of two types differ.
 pub record Types (least : ℕ) (M : Type 0) : Type 1 where
   pub fields : Fields M
   pub above : (m : M) → least ≤ shown_type (fields.shown m)
 
--- the last type; that fields begin with its number is proved by `λ m. refl`
+-- the last type; `λ m. refl` proves that the fields begin with its number
 abbrev pub last_type : {M : Type 0} (tag : ℕ) (f : Fields M) → ((m : M) → shown_type (f.shown m) ≡ tag) → Types tag M
 last_type tag f is = record { fields = f; above = λ m. omega (arith, is m) }
 
@@ -244,7 +245,7 @@ module _ {M N : Type 0} (tag : ℕ) (f : Fields M) (is : (m : M) → shown_type 
 
 -- ---- types
 
--- how the values of a type are shown, or their fields: what contracts see of a value, and what is shown of that
+-- how the values of a type, or their fields, are shown: what contracts see of a value, and what is shown of what they see
 pub record Showing (R A : Type 0) : Type 1 where
   pub M : Type 0
   pub seen : A → M

@@ -13,7 +13,7 @@ pub record Dump : Type 0 where
   pub size : ℕ
   pub rest : List ℕ
 
--- bytes as hexadecimal digits, or a dash for none
+-- bytes as hexadecimal digits, or a dash for no bytes
 abbrev pub part_text : List ℕ → List ℕ
 part_text [] = codes "-"
 part_text (b ∷ bs) = encode_lower (b ∷ bs)
@@ -27,7 +27,7 @@ place_text h n s =
 abbrev pub row : ℕ → ℕ → List ℕ → Dump → Dump
 row h n what s = record { rows = s.rows ++ place_text h n s ++ what; size = s.size; rest = drop n (drop h s.rest) }
 
--- a row for what isn't in the encoding, such as a hash of it
+-- a row for a content that isn't in the encoding, such as the hash of the encoding
 abbrev pub row_without_place : List ℕ → Dump → Dump
 row_without_place what s = record { rows = s.rows ++ codes "- - - " ++ what; size = s.size; rest = s.rest }
 
@@ -38,7 +38,7 @@ abbrev pub header_length : Result PayloadInfo DecoderError → ℕ
 header_length (Ok p) = p.header_len
 header_length (Err e) = 0
 
--- the length of a header, if what has the header is of the kind that is asked for, and has more than this number of bytes; else 0
+-- the length of a header, if it is the header of a list or of a string, as asked for, and announces more than this number of bytes; else 0
 abbrev pub header_before : Bool → ℕ → Result PayloadInfo DecoderError → ℕ
 header_before is_of_kind few (Ok p) = if is_of_kind && nat_lt few p.value_len then p.header_len else 0
 header_before is_of_kind few (Err e) = 0
@@ -60,13 +60,13 @@ enter_lists (suc most) s = if list_header s.rest == 0 then s else enter_lists mo
 abbrev pub enter_envelope : Dump → Dump
 enter_envelope s = if string_header s.rest == 0 then s else row (string_header s.rest) 0 (codes "envelope\n") s
 
--- what stands before a content: nothing before the payload of an envelope, and headers of lists before others
+-- the rows before a content: none before the payload of an envelope, and the headers of lists before any other content
 abbrev pub enter : Content → Dump → Dump
 enter (bytes Payload b) s = s
 enter (type_byte n) s = enter_envelope (enter_lists (length s.rest) s)
 enter _ s = enter_lists (length s.rest) s
 
--- the bytes of a content in an encoding; the places and texts that are shown are in none
+-- the bytes of a content in an encoding; a place or a text has no bytes there
 abbrev pub encoded_bytes : Content → List ℕ
 encoded_bytes (number Place n) = []
 encoded_bytes (number kind n) = encoding (number_item n)

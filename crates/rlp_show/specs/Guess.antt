@@ -10,12 +10,12 @@ abbrev pub first_of : List View → ℕ
 first_of [] = 0
 first_of (v ∷ vs) = slice_index_or v.bytes 0 0
 
--- the first byte of the first item in the first of some items; 0 if there is none
+-- the first byte of the first item in the first of some items; 0 if there is no such item
 abbrev pub inner_of : List View → ℕ
 inner_of [] = 0
 inner_of (v ∷ vs) = first_of (item_views v)
 
--- a list of this many items whose first item is a list, by the first byte of the first item in that
+-- a list of this many items whose first item is a list, by the first byte of the first item in that list
 abbrev pub lists_kind : ℕ → ℕ → Option Kind
 lists_kind count inner =
     if inner == ADDRESS then Some AccessList
@@ -24,7 +24,7 @@ lists_kind count inner =
     else if (count == 2) || (count == 3) then Some Body
     else None
 
--- a list whose first item is a string, by the first bytes of the second and the third; a bloom is longer than a key
+-- a list whose first item is a string, by the first bytes of the second and the third item; a bloom is longer than a key
 unfoldable pub strings_kind : ℕ → ℕ → ℕ → Option Kind
 strings_kind count second third =
     if count == 2 then Some Node
@@ -46,7 +46,7 @@ list_kind vs count =
     else if nat_le LIST (first_of vs) then lists_kind count (inner_of vs)
     else strings_kind count (first_of (drop 1 vs)) (first_of (drop 2 vs))
 
--- the kind of an envelope, by the number of items of what follows its type: four for a receipt
+-- the kind of an envelope, by the number of items of its payload: four for a receipt
 abbrev pub envelope_kind : Result ℕ DecoderError → Kind
 envelope_kind (Ok count) = if count == 4 then Receipt else Transaction
 envelope_kind (Err fault) = Transaction

@@ -51,9 +51,9 @@ module _ (inside : Bool → List ℕ → Value) where
   abbrev pub items_shown : Bool → List View → Value
   items_shown is_node vs = array (values_of (λ (v : View). inside is_node v.bytes) vs)
 
-  -- nodes that begin with this hash, if there is one
+  -- nodes that begin with this hash, if a hash is given
   module _ (hash : Option (List ℕ)) where
-    -- two items, by whether the string of the first is the path of a leaf, the path of an extension, or none
+    -- two items, by whether the string of the first is the path of a leaf, the path of an extension, or neither
     abbrev pub pair_shown : Option Bool → View → View → Value
     pair_shown (Some leaf) v w = object (pair_entries hash leaf (string_at v.bytes) (inside (not leaf) w.bytes))
     pair_shown None v w = items_shown false (v ∷ w ∷ [])
@@ -85,12 +85,12 @@ shown_within (suc most) is_node b = item_shown (shown_within most) is_node b (re
 
 -- ---- what is shown of an item says what the item is
 
--- some items, and then others
+-- some items, and then other items
 abbrev joined : Items → Items → Items
 joined no_items ys = ys
 joined (item_and x xs) ys = item_and x (joined xs ys)
 
--- The item that a value shows. A node shows a path and an item, or its children and an item; the empty trie shows its kind alone.
+-- The item that a value shows. A node shows a path and an item, or its children and an item; the empty trie shows only its kind.
 abbrev mutual
   shown_item : Value → Item
   shown_item (content c) = string (content_bytes c)
@@ -171,13 +171,13 @@ raw_apart b c is = sym (within_back 256 false b) ∙ ap shown_item is ∙ within
 abbrev pub raw_item_display : Display (List ℕ)
 raw_item_display = record { shown = shown_within 256 false; Told = Item; told = raw_item_of; apart = raw_apart }
 
--- ---- nodes by themselves
+-- ---- standalone nodes
 
--- the node that these bytes are, which are a list, with its hash
+-- the node whose encoding is these bytes, a list, with its hash
 abbrev pub hashed_node : List ℕ → Value
 hashed_node b = node_shown (shown_within 256) (Some (keccak256 b)) (item_views (view_of b))
 
--- A node is shown by its encoding. The empty trie is a string, which has nothing to show but its hash and its kind.
+-- A node is shown by its encoding. The empty trie is a string, of which only the hash and the kind are shown.
 abbrev pub whole_node : trie_node.reading.M → Value
 whole_node (inl empty) = object (kind_entries (Some (keccak256 (written trie_node.reading (inl empty)))) (codes "empty"))
 whole_node (inr m) = hashed_node (written trie_node.reading (inr m))

@@ -11,7 +11,7 @@ pub record Json : Type 0 where
   pub text : List ℕ
   pub is_fresh : Bool
 
--- what stands before a member or an item
+-- the comma before a member or an item, if one is needed
 abbrev pub comma : Bool → List ℕ
 comma true = []
 comma false = codes ","
@@ -20,7 +20,7 @@ comma false = codes ","
 abbrev pub quoted : List ℕ → List ℕ
 quoted t = codes "\"" ++ t ++ codes "\""
 
--- a number of a kind, which is in hexadecimal, as in the execution API, unless it is a place
+-- a number of a kind: in hexadecimal, as in the execution API, unless it is a place
 abbrev pub number_json : NumberKind → ℕ → List ℕ
 number_json Place n = number_text n
 number_json _ n = quoted (hex_text n)

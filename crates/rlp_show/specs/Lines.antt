@@ -21,7 +21,7 @@ hex_text n = codes "0x" ++ text_in_base 16 n
 abbrev pub bytes_text : List ℕ → List ℕ
 bytes_text b = codes "0x" ++ encode_lower b
 
--- bytes, or in short that all are zero
+-- bytes, or only their number if all bytes are zero
 abbrev pub sparse_text : List ℕ → List ℕ
 sparse_text b = if list_all (λ byte. byte == 0) b then decimal (length b) ++ codes " zero bytes" else bytes_text b
 

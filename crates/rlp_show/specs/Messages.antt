@@ -28,7 +28,7 @@ if_some (x ∷ xs) = Some (x ∷ xs)
 abbrev pub further_item_display : Display further_fields.reading.M
 further_item_display = through (λ m. m.0) raw_item_display
 
--- the items after the fields, if there are some
+-- the items after the fields, if any follow
 abbrev pub further_display : Fields (List further_fields.reading.M)
 further_display = through if_some (one_if (codes "further") (codes "further") (a_list further_item_display))
 
@@ -50,7 +50,7 @@ status68_display = an_object (
     field (codes "total_difficulty") (codes "totalDifficulty") a_number (field (codes "block_hash") (codes "blockHash") a_string (
     field (codes "genesis_hash") (codes "genesisHash") a_string (field (codes "fork_id") (codes "forkId") fork_id_display end))))))
 
--- the blocks that a client has, which also stand in its status
+-- the blocks that a client has, which its status has too
 abbrev pub range_display : Fields block_range_update.reading.M
 range_display =
     field (codes "earliest_block") (codes "earliestBlock") a_number (field (codes "latest_block") (codes "latestBlock") a_number (

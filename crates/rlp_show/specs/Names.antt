@@ -91,7 +91,7 @@ is_list _ = false
 
 -- ---- the name of a part, each step with what it leads to
 
--- a field in a record of this name, if there is one
+-- a field in a record of this name, if the record has the field
 abbrev pub named_by : Option Field → List ℕ → Part × List ℕ
 named_by None name = (part.One named.Other, name)
 named_by (Some field) name = (field.1, inside name field.0)
@@ -107,7 +107,8 @@ in_list (part.List r) i name = (part.One r, item_name name i)
 in_list (part.Lists r) i name = (part.List r, item_name name i)
 in_list part.Pairs i name = in_field named.NodePair (i % 2) (item_name name (i / 2))
 
--- The field that item i of a record is in, and its place in a field of many items: the first 16 items of a branch are one field, and so are the last of others.
+-- The field that item i of a record is in, and its place in a field of many items: the first 16 items of a branch are one field, and so are the last items of some
+-- other records.
 abbrev pub field_of : Record → ℕ → ℕ × Option ℕ
 field_of named.Branch i = if nat_lt i 16 then (0, Some i) else (i - 15, None)
 field_of (named.Kind (kind.Message message.Hello)) i = if nat_lt i 5 then (i, None) else (5, Some (i - 5))
@@ -134,7 +135,7 @@ content v = result_unwrap_or (view_string v) []
 abbrev pub item_in : View → ℕ → View
 item_in v i = result_unwrap_or (item_at v i) v
 
--- the bytes of an envelope, which stands alone or in a string: the byte of a type is below 0x80
+-- the bytes of an envelope, which is standalone or in a string: the byte of a type is below 0x80
 abbrev pub envelope : View → List ℕ
 envelope v = if nat_lt (slice_index_or v.bytes 0 0x80) 0x80 then v.bytes else content v
 
@@ -155,7 +156,7 @@ typed_kind n =
 abbrev pub transaction_kind : View → Record
 transaction_kind v = if begins_as_list v.bytes then named.Legacy else typed_kind (slice_index_or (envelope v) 0 0)
 
--- the same for a transaction as it is sent: one of type 3 has its blobs, in a list of four items or of five
+-- the record of a transaction as it is sent: a transaction of type 3 has its blobs, in a list of four or five items
 abbrev pub with_blobs : Record → View → Record
 with_blobs named.Blob v = if result_unwrap_or (item_count v) 0 == 4 then named.WithProofs else named.WithCellProofs
 with_blobs r v = r
@@ -178,7 +179,7 @@ opened (part.One (named.Kind kind.Transaction)) v = (part.One (transaction_kind 
 opened (part.One named.Pooled) v = (part.One (pooled_kind v), payload v)
 opened p v = (p, v)
 
--- The name of the part that a path leads to, in a part of this name. A path beyond the names ends there.
+-- The name of the part that a path leads to, in a part of this name. Where the parts have no names, the name ends.
 abbrev pub naming : Part → View → List ℕ → List ℕ → List ℕ
 naming p v [] name = name
 naming p v (i ∷ path) name =

@@ -38,7 +38,7 @@ key_value_by key b (Err e) = shown_within 256 false b
 abbrev pub key_value : List ℕ → List ℕ → Value
 key_value key b = key_value_by key b (read_string b)
 
--- What is told of the value of a key: what is shown of a string, or another item.
+-- What is told of the value of a key: what is shown of a string, or the item if it is a list.
 abbrev pub key_told_by : List ℕ → List ℕ → Result (List ℕ) DecoderError → Content ⊎ Item
 key_told_by key b (Ok d) = inl (string_content key d)
 key_told_by key b (Err e) = inr (raw_item_of b)
@@ -54,7 +54,7 @@ by_strings key other b c (Err d) (Ok e) first second is = let items = ap (item_s
 pub key_apart : (p q : List ℕ × List ℕ) → key_value p.0 p.1 ≡ key_value q.0 q.1 → key_told_by p.0 p.1 (read_string p.1) ≡ key_told_by q.0 q.1 (read_string q.1)
 key_apart p q is = by_strings p.0 q.0 p.1 q.1 (read_string p.1) (read_string q.1) refl refl is
 
--- values, each with its key
+-- the value of a key of a node record; how the value is shown depends on the key
 abbrev pub key_value_display : Display (List ℕ × List ℕ)
 key_value_display = record {
   shown = λ p. key_value p.0 p.1;
@@ -63,10 +63,12 @@ key_value_display = record {
   apart = key_apart;
 }
 
+-- a key of a node record, and its value
 abbrev pub node_pair_display : Display pair_fields.reading.M
 node_pair_display = an_object (through (λ p. (p.0, (p.0, p.1.0))) (
     same (codes "key") (bytes_as Word) (one (codes "value") (codes "value") key_value_display)))
 
+-- the fields of a node record
 abbrev pub node_fields_display : Display node_fields.reading.M
 node_fields_display = an_object (
     same (codes "signature") a_string (

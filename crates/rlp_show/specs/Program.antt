@@ -30,13 +30,13 @@ pub record AnswersInput {R W : Type 0} (answers : Answers) (remaining : R → Op
   pub faulty : IfOk outcome (TellsFault (line_answer answers) (remaining in0.inner) (remaining in1.inner))
   pub ended : status ≡ exit_status outcome
 
--- the lines of a word were answered, and the status tells how that ended
+-- the lines of a word were answered, and the status tells how the answering ended
 pub record AnswersWord {W : Type 0} (answers : Answers) (word : List ℕ) (contents : W → Option (List ℕ)) (out0 out1 : Watched W) (status : ℕ) : Type 0 where
   pub outcome : Result Bool RunFault
   pub leaves : TextLeaves (line_answer answers) word contents out0 out1 outcome
   pub ended : status ≡ exit_status outcome
 
--- what is done for a request whose last word is this: the streams that it doesn't name stay as they were
+-- what is done for a request with this last word; the readers and writers that aren't named stay as they were
 abbrev pub Serves : {R W E : Type 0} → Request → List ℕ → (R → Option (List ℕ)) → (W → Option (List ℕ)) → (E → Option (List ℕ))
     → Watched R → Watched R → Watched W → Watched W → Watched E → Watched E → ℕ → Type 0
 Serves Help word remaining contents errors in0 in1 out0 out1 err0 err1 status =

@@ -22,16 +22,19 @@ written r m = encoding (r.item m)
 abbrev pub hash_entries : List ℕ → Entries
 hash_entries hash = entry (codes "hash") (codes "hash") (content (bytes Any hash))
 
+-- what is shown of a withdrawal
 abbrev pub withdrawal_display : Display withdrawal.reading.M
 withdrawal_display = an_object (
     same (codes "index") a_number (field (codes "validator_index") (codes "validatorIndex") a_number (
     same (codes "address") a_string (same (codes "amount") a_number end))))
 
+-- what is shown of an account
 abbrev pub account_display : Display account.reading.M
 account_display = an_object (
     same (codes "nonce") a_number (same (codes "balance") a_number (
     field (codes "storage_root") (codes "storageHash") a_string (field (codes "code_hash") (codes "codeHash") a_string end))))
 
+-- what is shown of a log
 abbrev pub log_display : Display log.reading.M
 log_display = an_object (same (codes "address") a_string (same (codes "topics") (a_list a_string) (same (codes "data") a_string end)))
 
@@ -67,12 +70,12 @@ receipt_by_type_display = (
 abbrev pub typed_receipt_display : Display typed_receipt.reading.M
 typed_receipt_display = an_object receipt_by_type_display
 
--- a transaction or a receipt of a type that isn't known: the number of the type, and the payload
+-- a transaction or a receipt of an unknown type: the number of the type, and the payload
 abbrev pub other_display : Fields (List ℕ)
 other_display = through (λ d. (other_type d, drop 1 d)) (
     same (codes "type") a_type (one (codes "payload") (codes "payload") (bytes_as Payload)))
 
--- a known type isn't shown as another: only of another is the second of two fields the last
+-- whether the second of two fields is the last, as it is for an unknown type alone
 abbrev pub ends_second : Entries → Bool
 ends_second (both first (entry name json v)) = true
 ends_second es = false
@@ -87,6 +90,6 @@ goes_on (inr (inr (inl r))) = refl
 goes_on (inr (inr (inr (inl r)))) = refl
 goes_on (inr (inr (inr (inr r)))) = refl
 
--- receipts of all types: of one that isn't known, the number of the type and the payload
+-- receipts of all types: for an unknown type the number of the type and the payload
 abbrev pub any_receipt_display : Display any_receipt.reading.M
 any_receipt_display = an_object (either receipt_by_type_display other_display (other_apart receipt_by_type_display goes_on))

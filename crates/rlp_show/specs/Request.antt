@@ -8,14 +8,14 @@ use Rattle.rlp_show.specs.{declared.kind.Kind.Kind, declared.request.Request.Req
 abbrev pub answers : Option Kind → Form → Answers
 answers kind form = record { kind = kind; form = form }
 
--- what a word alone asks for that is neither a kind nor a record
+-- what a single word that is neither a kind nor a record asks for
 abbrev pub word_request : List ℕ → Request
 word_request word =
     if bytes_eq word (codes "--help") || bytes_eq word (codes "-h") then Help
     else if bytes_eq word (codes "--version") || bytes_eq word (codes "-V") then Version
     else Unknown
 
--- what the words after those for the answers ask for
+-- what the words after the words for the form and the kind of the answers ask for
 abbrev pub record_request : Answers → List (List ℕ) → Request
 record_request a [] = Lines a
 record_request a (word ∷ []) =
@@ -24,7 +24,7 @@ record_request a (word ∷ []) =
     else Unknown
 record_request a (first ∷ second ∷ words) = Unknown
 
--- what words ask for, of which the first may name a kind
+-- what words ask for; the first word may name a kind
 abbrev pub kind_request : Form → Option Kind → List ℕ → List (List ℕ) → Request
 kind_request form (Some kind) first words = record_request (answers (Some kind) form) words
 kind_request form None first words = record_request (answers None form) (first ∷ words)
@@ -34,7 +34,7 @@ abbrev pub form_request : Form → List (List ℕ) → Request
 form_request form [] = Lines (answers None form)
 form_request form (first ∷ words) = kind_request form (kind_named first) first words
 
--- what the words after the name of the program ask for; after `--json` the answers are in JSON, and after `--bytes` they say where each field stands
+-- what the words after the name of the program ask for; after `--json` the answers are in JSON, and after `--bytes` the answers have the place of each field
 abbrev pub request_of : List (List ℕ) → Request
 request_of [] = form_request Text []
 request_of (first ∷ words) =

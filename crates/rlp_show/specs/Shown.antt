@@ -26,7 +26,7 @@ use Rattle.rlp_show.specs.declared.message_kind.MessageKind.TheVariants as messa
 abbrev pub Shown : Type 0
 Shown = Answer Value Fault
 
--- what the bytes of a whole record give, by what a view gives and what is shown of that
+-- what the bytes of a whole record give, by what a view gives and how the value is shown
 abbrev pub shown_as : {M : Type 0} → (View → Answer M Fault) → (M → Value) → List ℕ → Shown
 shown_as read shown b = map_answer shown (read (strict_view_of b))
 
@@ -45,16 +45,16 @@ numbered_as r shown = shown_as (with_request_id_reading r).read (λ m. after_num
 abbrev pub numbered : {A : Type 0} (c : Codec A) → Display c.reading.M → List ℕ → Shown
 numbered c d = numbered_as c.reading d.shown
 
--- bytes that stand by themselves, as an item: a list is its own encoding, and other bytes are the payload of a string
+-- the bytes of a standalone value, as an item: a list is its own encoding, and other bytes are the payload of a string
 abbrev pub item_alone : List ℕ → List ℕ
 item_alone b = if begins_as_list b then b else encoding (string b)
 
--- the transaction that isn't signed, if bytes give one, or else what others give
+-- the unsigned transaction, if bytes give one, or else the signed transaction or the fault
 abbrev pub unsigned_or : Shown → Result unsigned_transaction.reading.M Fault → Shown
 unsigned_or other (Ok t) = here (Ok (unsigned_display.shown t))
 unsigned_or other (Err e) = other
 
--- what bytes give that are no transaction that isn't signed
+-- what bytes that aren't an unsigned transaction give
 abbrev pub signed_shown : List ℕ → Shown
 signed_shown b = map_answer any_transaction_display.shown (any_alone transaction_types b)
 

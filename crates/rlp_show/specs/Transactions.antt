@@ -17,7 +17,7 @@ use Rattle.rlp_show.specs.{Records.ends_second, Records.hash_entries, Records.ot
 use Rattle.rlp_show.specs.Value.{Content, Entries, both, by_form, bytes, content, entries_if, entry, nothing, number}
 use Rattle.rlp_show.specs.declared.sink.BytesKind.TheVariants.{Any, Null, Sparse}
 
--- the bytes of an account, or none for a transaction that creates a contract
+-- the bytes of an account, or no bytes for a transaction that creates a contract
 abbrev pub recipient_content : recipient.reading.M → Content
 recipient_content (true, d) = bytes Any d
 recipient_content (false, d) = bytes Null d
@@ -101,7 +101,7 @@ typed_fields tag r f = through (λ m. (m.0, (m.1.0, m.1))) (of_type tag (
 abbrev pub typed_seen : {T M N : Type 0} → (T → M) → (T → N) → Signed T Bool → M × (Bool × (ℕ × (ℕ × N)))
 typed_seen seen signed x = (seen x.payload, (x.v, (scalar_value x.r, (scalar_value x.s, signed x.payload))))
 
--- the same of what contracts see of a transaction
+-- a transaction with its signature, by what contracts see of it
 abbrev pub typed_display : {T : Type 0} → ℕ → (r : FieldsReading T) → Fields r.M → Fields (r.M × (Bool × (ℕ × (ℕ × ⊤))))
 typed_display tag r f = through (λ m. (m.0, (m.1.0, (m.1.1.0, (m.1.1.1.0, m.0))))) (typed_fields tag r f)
 
@@ -124,11 +124,11 @@ said_seen x = (option_map (λ n. n) x.chain_id, x.y_parity)
 abbrev pub said_display : Fields (Option ℕ × Bool)
 said_display = field_if (codes "chain_id") (codes "chainId") a_number (one (codes "y_parity") (codes "yParity") a_bit)
 
--- the hash that is signed of a payload, with the number of the chain if that is signed
+-- the hash that is signed of a payload, with the number of the chain if it is signed too
 abbrev pub legacy_hash : legacy_transaction_fields.reading.M → Option ℕ → List ℕ
 legacy_hash t chain = keccak256 (written unsigned_legacy_transaction.reading (t, option_map chain_fields.reading.seen chain))
 
--- the hash that is signed, if `v` says what that is
+-- the hash that is signed, if `v` says what is signed
 abbrev pub legacy_signing_hash : legacy_transaction_fields.reading.M → Option Eip155 → Option (List ℕ)
 legacy_signing_hash t None = None
 legacy_signing_hash t (Some x) = Some (legacy_hash t x.chain_id)
@@ -156,7 +156,7 @@ goes_on (inr (inr (inl t))) = refl
 goes_on (inr (inr (inr (inl t)))) = refl
 goes_on (inr (inr (inr (inr t)))) = refl
 
--- transactions of all types: of one that isn't known, the number of the type and the payload
+-- transactions of all types: for an unknown type the number of the type and the payload
 abbrev pub by_type_display : Fields any_transaction.reading.M
 by_type_display = either transaction_display other_display (other_apart transaction_display goes_on)
 
@@ -228,7 +228,7 @@ name_after es = []
 pub blobs_apart : (m : with_proofs.reading.M) (n : with_cell_proofs.reading.M) → with_proofs_fields.shown m ≡ with_cell_proofs_fields.shown n → ⊥
 blobs_apart m n is = let names : codes "blobs" ≡ codes "wrapper_version" = ap name_after is in let long : 5 ≡ 15 = ap length names in omega (arith, long)
 
--- a transaction with its blobs, in either form
+-- a transaction with its blobs, in the form of EIP-4844 or of EIP-7594
 abbrev pub with_blobs_fields : Fields pooled_blob_transaction.reading.M
 with_blobs_fields = either with_proofs_fields with_cell_proofs_fields blobs_apart
 

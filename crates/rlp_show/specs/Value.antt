@@ -16,7 +16,7 @@ pub data Content : Type 0 where
   text : List ℕ → Content
   empty_list : Content
 
--- what code shows as one text
+-- the content that is shown as one text
 abbrev pub content_of : Shown → Content
 content_of (Number kind n) = number kind (number_from_digits 256 n.bytes)
 content_of (TypeByte n) = type_byte n
@@ -47,7 +47,7 @@ abbrev pub values_of : {A : Type 0} → (A → Value) → List A → Values
 values_of shown [] = no_values
 values_of shown (x ∷ xs) = value_and (shown x) (values_of shown xs)
 
--- the fields of a part, if it is there
+-- the fields of a part, if the part is present
 abbrev pub entries_if : {A : Type 0} → (A → Entries) → Option A → Entries
 entries_if shown None = nothing
 entries_if shown (Some x) = both (shown x) nothing

@@ -23,17 +23,18 @@ const LONGEST_LINE: usize = 33_554_432;
 pub enum Form {
     /// A line for each field.
     Text,
-    /// One JSON object, whose only key is the name of the kind, as `accessList`.
+    /// One JSON object, whose only key is the name of the kind, such as `accessList`.
     Json,
-    /// A line for each field and for each header of a list, with its place in the bytes and the
-    /// bytes themselves.
+    /// A line for each field and for each header of a list, with its place in the bytes, and its
+    /// bytes.
     Bytes,
 }
 
 /// How lines are answered.
 #[derive(Debug, Clone, Copy, PartialEq, Eq)]
 pub struct Answers {
-    /// The kind of the records. If there is none, [`guess`](crate::guess) guesses the kind of each.
+    /// The kind of the records. For `None`, [`guess`](crate::guess) guesses the kind of each
+    /// record.
     pub kind: Option<Kind>,
     /// The form of the answers.
     pub form: Form,

@@ -17,8 +17,9 @@ use std::marker::Model;
 
 /// Returns a row for each content of a value of this name, whose encoding is `bytes`, and for each
 /// header of a list that has items: the place of the first byte, counted from 0, the bytes of the
-/// header and of the payload, and the name and the text of the content. A dash stands for a part
-/// that isn't there. A content that isn't in the encoding, such as a hash of it, has no place.
+/// header and of the payload, and the name and the text of the content. A dash is written for a
+/// part that isn't there. A content that isn't in the encoding, such as the hash of the encoding,
+/// has no place.
 ///
 /// ```text
 /// 0 d7 - list
@@ -27,8 +28,8 @@ use std::marker::Model;
 /// - - - hash: 0x2ca5..
 /// ```
 ///
-/// If `bytes` isn't the encoding of the value, a content has a place only where its own bytes come
-/// next. Fails with `AllocError` if memory is refused.
+/// If `bytes` isn't the encoding of the value, a content has a place only if its bytes come next in
+/// `bytes`. Fails with `AllocError` if memory is refused.
 pub fn dump_of<T: Show>(
     alloc: Global,
     bytes: &[u8],
@@ -69,7 +70,7 @@ impl<'a> Model for Dump<'a> {
     ghost view = { λ d. record { rows = string_bytes d.rows; size = d.size; rest = d.rest.now } };
 }
 
-/// Appends bytes as hexadecimal digits, or a dash for none.
+/// Appends bytes as hexadecimal digits, or a dash for no bytes.
 fn put_part(bytes: &[u8], out: &mut String) -> Result<(), AllocError>
     ensures { OnOk result
         (string_bytes out.new ≡ string_bytes out.old ++ part_text bytes.now) }
@@ -80,8 +81,8 @@ fn put_part(bytes: &[u8], out: &mut String) -> Result<(), AllocError>
     push_bytes(bytes, out)
 }
 
-/// Returns the length of the header that comes next, if it is of the kind that is asked for and the
-/// payload has more than this number of bytes, or else 0.
+/// Returns the length of the header that comes next, if it is the header of a list or of a string,
+/// as asked for, and the payload has more than this number of bytes, or else 0.
 fn header_before(bytes: &[u8], is_of_kind: bool, few: usize) -> usize
     ensures length { result ≡ header_before is_of_kind few (framing bytes.now) }
     ensures within { result ≤ length bytes.now }
@@ -92,7 +93,7 @@ fn header_before(bytes: &[u8], is_of_kind: bool, few: usize) -> usize
     }
 }
 
-/// Returns the bytes of a content in an encoding. A place and a text have none.
+/// Returns the bytes of a content in an encoding. A place and a text have no bytes there.
 fn encoded_bytes(alloc: Global, shown: Shown<'_>) -> Result<BytesMut, AllocError>
     ensures { IfOk result (λ b. b.items ≡ encoded_bytes (content_of shown.entry)) }
 {
@@ -137,7 +138,7 @@ impl<'a> Dump<'a> {
         self.rows.push(' ')
     }
 
-    /// Appends a row for a header that comes next, and what has the header.
+    /// Appends a row for a header that comes next, and the name of what has the header.
     fn put_header(&mut self, header_len: usize, what: &str) -> Result<(), AllocError>
         requires { header_len ≤ length self.old.rest }
         ensures { OnOk result (self.new ≡ row header_len 0 what.now self.old) }

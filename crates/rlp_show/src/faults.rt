@@ -1,4 +1,4 @@
-//! The answers to what is no record.
+//! The answers to bytes and texts that aren't a record.
 
 ghost use Rattle.std.specs.Prelude.{◌≡◌, ◌++◌, None, codes, string_bytes, IfOk, OnOk};
 ghost use Rattle.rlp_reading.specs.Form.{fault_of};
@@ -52,7 +52,7 @@ pub(crate) fn put_fault(
     }
 }
 
-/// Returns what JSON has of an error with this name: of a custom error its text.
+/// Returns the text of an error in JSON: its name, or for a custom error its text.
 fn word_of<'a>(error: &'a DecoderError, name: &'a str) -> &'a str
     requires { name.now ≡ fault_name (fault_of error.now) }
     ensures { result.now ≡ fault_word (fault_of error.now) }

@@ -23,7 +23,7 @@ pub(crate) struct Given<'a> {
     pub(crate) form: Form,
     /// The kind of the record.
     pub(crate) kind: Kind,
-    /// The name of the whole record, or none.
+    /// The name of the whole record, or no name.
     pub(crate) name: &'a str,
     /// The bytes.
     pub(crate) bytes: &'a [u8],

@@ -20,9 +20,9 @@ const LONG: u8 = 0xb8;
 const LIST: u8 = 0xc0;
 
 /// The kind of a record by its first byte, and for a list by the number of its items and the first
-/// bytes of some of them. Returns `None` if no rule applies.
+/// bytes of some items. Returns `None` if no rule applies.
 ///
-/// Fails as [`Rlp::item_count`] does if the first byte is that of a list.
+/// Fails as [`Rlp::item_count`] does if the first byte begins a list.
 #[tactic(auto, unfolding(crate::specs::Guess::guess))]
 pub fn guess(item: &Rlp<'_>) -> Result<Option<Kind>, DecoderError>
     ensures { result ≡ guess item.now }
@@ -65,7 +65,7 @@ fn list_kind(list: &Rlp<'_>, count: usize) -> Option<Kind>
     strings_kind(count, second, third)
 }
 
-/// The first byte of the next item, or 0 if there is none.
+/// The first byte of the next item, or 0 if no item is left.
 fn first_of_next(items: &mut RlpIterator<'_, '_>) -> u8
     ensures byte { result ≡ first_of items.old.left }
     ensures left { items.new.left ≡ drop 1 items.old.left }
@@ -76,7 +76,7 @@ fn first_of_next(items: &mut RlpIterator<'_, '_>) -> u8
     }
 }
 
-/// The first byte of the first item in the first item, or 0 if there is none.
+/// The first byte of the first item in the first item, or 0 if there is no such item.
 fn inner_of(list: &Rlp<'_>) -> u8
     ensures { result ≡ inner_of (item_views list.now) }
 {
@@ -86,8 +86,8 @@ fn inner_of(list: &Rlp<'_>) -> u8
     }
 }
 
-/// The kind of a list of this many items, of which the first is a list. `inner` is the first byte of
-/// the first item in that.
+/// The kind of a list of this many items, of which the first is a list. `inner` is the first byte
+/// of the first item in that list.
 fn lists_kind(count: usize, inner: u8) -> Option<Kind>
     ensures { result ≡ lists_kind count inner }
 {
@@ -100,8 +100,8 @@ fn lists_kind(count: usize, inner: u8) -> Option<Kind>
     }
 }
 
-/// The kind of a list of this many items, of which the first is a string. The other two are the first
-/// bytes of the second and the third item. A bloom is longer than a key.
+/// The kind of a list of this many items, of which the first is a string. The other two arguments
+/// are the first bytes of the second and the third item. A bloom is longer than a key.
 #[tactic(auto, unfolding(crate::specs::Guess::strings_kind))]
 fn strings_kind(count: usize, second: u8, third: u8) -> Option<Kind>
     ensures { result ≡ strings_kind count second third }

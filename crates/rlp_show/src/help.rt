@@ -1,4 +1,4 @@
-//! What the program prints of itself.
+//! What the program prints for `--help`, for `--version`, and for arguments that it doesn't know.
 
 /// What the program prints for `--version`.
 pub const VERSION: &str = "rlp_show 0.6.1\n";
@@ -7,7 +7,7 @@ pub const VERSION: &str = "rlp_show 0.6.1\n";
 pub const USAGE: &str =
     "usage: rlp_show [--json | --bytes] [KIND] [RECORD]\nrlp_show --help says more.\n";
 
-/// The exit status of the program for such arguments.
+/// The exit status of the program for arguments that it doesn't know.
 pub const UNKNOWN_ARGUMENTS: u8 = 4;
 
 /// What the program prints for `--help`.

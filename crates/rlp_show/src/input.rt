@@ -8,7 +8,7 @@ use base64::engine::general_purpose::URL_SAFE_NO_PAD;
 use rlp_lines::read_bytes;
 use std::alloc::{AllocError, Global};
 
-/// Returns the bytes that have this URL-safe base64 without padding, if there are any.
+/// Returns the bytes that have this URL-safe base64 without padding, if it is such base64.
 #[tactic(auto, unfolding(crate::specs::Input::base64_bytes))]
 fn read_base64(alloc: Global, text: &[u8]) -> Result<Option<Vec<u8>>, AllocError>
     ensures { IfOk result (λ read. option_map (λ v. v.items) read ≡ base64_bytes text.now) }
@@ -20,7 +20,7 @@ fn read_base64(alloc: Global, text: &[u8]) -> Result<Option<Vec<u8>>, AllocError
     }
 }
 
-/// Returns whether a text is that of a node record, which begins with `enr:`.
+/// Returns whether a text is the text of a node record: it begins with `enr:`.
 pub(crate) fn is_node_text(text: &[u8]) -> bool
     ensures { result ≡ is_node_text text.now }
 {

@@ -109,8 +109,8 @@ fn show_items<S: Sink>(
     sink.bracket(Bracket::CloseSquare)
 }
 
-/// Gives a list of items to a sink as a node: a leaf, an extension or a branch, which begins with the
-/// hash, if there is one, or else the list.
+/// Gives a list of items to a sink as a node: a leaf, an extension or a branch, which begins with
+/// the hash, if a hash is given; a list of any other form is given as a list.
 #[cycle(items)]
 fn show_node<S: Sink>(
     alloc: Global,

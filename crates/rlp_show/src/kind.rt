@@ -36,7 +36,7 @@ pub enum Kind {
 impl Kind {
     ghost use Rattle.rlp_show.specs.Kinds.{kind_name, kind_named};
 
-    /// The kind of this name, if there is one.
+    /// The kind of this name, or `None` if no kind has it.
     #[tactic(auto, unfolding(crate::specs::Kinds::kind_named))]
     pub fn named(name: &str) -> Option<Kind>
         ensures { result ≡ kind_named name.now }

@@ -76,7 +76,7 @@ fn put_numbered<T: DecodePlaced + Show>(
     put_record::<WithRequestId<T>>(alloc, given, out)
 }
 
-/// Appends the answer to the bytes of a `T` by itself, which are a list or an envelope.
+/// Appends the answer to the bytes of a standalone `T`, which are a list or an envelope.
 fn put_alone<T: DecodePlaced + Show>(
     alloc: Global,
     given: &Given<'_>,

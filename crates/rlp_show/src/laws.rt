@@ -1,5 +1,5 @@
-//! Laws about values that are shown and about the answers to lines, as public functions. Their
-//! contracts are the laws, and they have no effect.
+//! Laws about values that are shown and about the answers to lines, as public functions. The
+//! contract of each function is the law, and the functions do nothing.
 
 ghost use Rattle.std.specs.Prelude.{◌≡◌, ◌<◌, ◌^◌, ◌⊎◌, ℕ, List, [], Some, Ok, Err, false, length};
 ghost use Rattle.std.specs.Str.Lines.{strip_carriage_return};
@@ -20,9 +20,8 @@ ghost use Rattle.rlp_show.specs.declared.kind.Kind.TheVariants as kind;
 use crate::show::Show;
 use rlp::StrictRead;
 
-/// Values that are shown alike have in common what is told of them. Contracts see nothing else of
-/// most values: what is told is what they see, and the items that the values are written as are
-/// equal too.
+/// If two values are shown alike, `told_of` is the same for the two. For most types `told_of` is
+/// all that contracts see of a value, and so the items of the two values are equal too.
 pub fn shown_values_are_told_apart<T: Show>()
     ensures { (x y : T) → shown_of T.display x ≡ shown_of T.display y
         → told_of T.display x ≡ told_of T.display y }
@@ -48,9 +47,9 @@ pub fn encodings_are_shown_in_json<T: StrictRead>(line: &[u8])
         ≡ json_of (object (entry [] (camel false (kind_name kind)) (shown (T.reading.seen x)))) }
 {}
 
-/// If the digits of a line are bytes that a kind shows without a fault, the answer is what is shown
-/// of what contracts see of a value, and each value of which they see this fits, and has these bytes
-/// as its encoding.
+/// If the digits of a line are bytes that a kind shows without a fault, the answer shows what
+/// contracts see of a value. If contracts see this of a value, the value fits, and these bytes are
+/// its encoding.
 pub fn only_encodings_are_shown<T: StrictRead>(line: &[u8])
     ensures { (kind : Kind) (shown : T.reading.M → Value) (bytes : List ℕ) (v : Value)
         → ShowsAs kind T.reading shown
@@ -60,9 +59,9 @@ pub fn only_encodings_are_shown<T: StrictRead>(line: &[u8])
         × IsAnswered kind line.now bytes v }
 {}
 
-/// If the digits of a line are the bytes of a transaction by itself, as `to_bytes` of `AnyTransaction` of
-/// `rlp_transactions` returns them, and no transaction that isn't signed has these bytes, the answer is
-/// what is shown of the transaction.
+/// If the digits of a line are the bytes of a standalone transaction, as `to_bytes` of
+/// `AnyTransaction` of `rlp_transactions` returns them, and no unsigned transaction has these
+/// bytes, the answer is what is shown of the transaction.
 pub fn transactions_are_shown(line: &[u8])
     ensures { (t : KnownOrOther Transaction) (e : Fault) → any_transaction.Fits t
         → length (bytes_alone (any_transaction.item t)) < 2 ^ 64
@@ -83,9 +82,9 @@ pub fn unsigned_transactions_are_shown(line: &[u8])
         (unsigned_display.shown (unsigned_transaction.reading.seen t)) }
 {}
 
-/// If the digits of a line are bytes that are shown as a transaction without a fault, the answer is
-/// what is shown of what contracts see of a transaction, signed or not, and each transaction of which
-/// they see this has these bytes by itself.
+/// If the digits of a line are bytes that are shown as a transaction without a fault, the answer
+/// shows what contracts see of a transaction, signed or not. If contracts see this of a
+/// transaction, these bytes are the standalone transaction.
 pub fn only_transactions_are_shown(line: &[u8])
     ensures { (bytes : List ℕ) (v : Value)
         → bytes_in (strip_carriage_return line.now) ≡ Some bytes
@@ -98,7 +97,7 @@ pub fn only_transactions_are_shown(line: &[u8])
         × IsAnswered kind.Transaction line.now bytes v }
 {}
 
-/// If the digits of a line are the bytes of a receipt by itself, as `to_bytes` of `AnyReceipt` of
+/// If the digits of a line are the bytes of a standalone receipt, as `to_bytes` of `AnyReceipt` of
 /// `rlp_headers` returns them, the answer is what is shown of the receipt.
 pub fn receipts_are_shown(line: &[u8])
     ensures { (r : KnownOrOther TypedReceipt) → any_receipt.Fits r
@@ -108,9 +107,9 @@ pub fn receipts_are_shown(line: &[u8])
         (any_receipt_display.shown (any_receipt.reading.seen r)) }
 {}
 
-/// If the digits of a line are bytes that are shown as a receipt without a fault, the answer is what
-/// is shown of what contracts see of a receipt, and each receipt of which they see this has these
-/// bytes by itself.
+/// If the digits of a line are bytes that are shown as a receipt without a fault, the answer shows
+/// what contracts see of a receipt. If contracts see this of a receipt, these bytes are the
+/// standalone receipt.
 pub fn only_receipts_are_shown(line: &[u8])
     ensures { (bytes : List ℕ) (v : Value)
         → bytes_in (strip_carriage_return line.now) ≡ Some bytes
@@ -120,18 +119,18 @@ pub fn only_receipts_are_shown(line: &[u8])
         × IsAnswered kind.Receipt line.now bytes v }
 {}
 
-/// If the digits of a line are the encoding of a node of the trie, as `TrieNode` of `rlp_trie`
-/// is written, the answer is its hash and what is shown of its parts. What is shown of a node that is
-/// kept in it needn't be that of a node, since such an item needn't be one.
+/// If the digits of a line are the encoding of a node of the trie, as `TrieNode` of `rlp_trie` is
+/// written, the answer is the hash of the node and what is shown of its parts. An item that is kept
+/// in the node needn't be a node, and is then shown as an item of any kind.
 pub fn nodes_are_shown(line: &[u8])
     ensures { (n : TrieNode) → IsTrieNode n → IsSized (node_item n)
         → bytes_in (strip_carriage_return line.now) ≡ Some (encoding (node_item n))
         → IsAnswered kind.Node line.now (encoding (node_item n)) (node_display.shown (seen_node n)) }
 {}
 
-/// If the digits of a line are bytes that are shown as a node of the trie without a fault, the answer
-/// is what is shown of what contracts see of a node, and these bytes are the encoding of each node of
-/// which they see this.
+/// If the digits of a line are bytes that are shown as a node of the trie without a fault, the
+/// answer shows what contracts see of a node. If contracts see this of a node, these bytes are its
+/// encoding.
 pub fn only_nodes_are_shown(line: &[u8])
     ensures { (bytes : List ℕ) (v : Value)
         → bytes_in (strip_carriage_return line.now) ≡ Some bytes

@@ -1,10 +1,10 @@
 //! Shows Ethereum's records by the names of their fields: as lines, as JSON, or with the place of each
 //! field in the bytes.
 //!
-//! A value whose type has [`Show`] is given to a [`Sink`], part by part. A type that is a list alone,
-//! such as the headers of an answer, is shown by [`Items`] of its vector, and a node record by its
-//! fields. [`serve_request`] is the program: it reads the bytes of a line as a record of a [`Kind`],
-//! and shows the record.
+//! A value whose type has [`Show`] is given to a [`Sink`], part by part. A type that is only a
+//! list, such as the headers of an answer, is shown by [`Items`] of its vector, and a node record
+//! by its fields. [`serve_request`] is the program: it reads the bytes of a line as a record of a
+//! [`Kind`], and shows the record.
 #![tactic(auto)]
 
 mod answers;

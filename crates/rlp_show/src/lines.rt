@@ -11,7 +11,7 @@ use std::alloc::{AllocError, Global};
 use std::fmt::Write;
 
 /// Returns the lines of a value of this name. A whole record has no name, and the lines of its
-/// fields have the names of the fields alone.
+/// fields have just the names of the fields.
 pub fn lines_of<T: Show>(alloc: Global, name: &str, value: &T) -> Result<String, AllocError>
     ensures { IfOk result (λ text. string_bytes text ≡ lines name.now (shown_of T.display value.now)) }
 {

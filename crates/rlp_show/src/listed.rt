@@ -1,4 +1,4 @@
-//! Records that are lists of values alone.
+//! Records that are only a list of values.
 
 ghost use Rattle.std.specs.{Prelude.map, Vec.vec_items};
 ghost use Rattle.rlp_reading.specs.Form.{list_reading};

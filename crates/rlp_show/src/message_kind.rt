@@ -12,11 +12,11 @@ pub enum MessageKind {
     Disconnect,
     /// The question whether the other client is there.
     Ping,
-    /// The answer to it.
+    /// The answer to that question.
     Pong,
     /// What a client knows of the chain, in `eth/68`.
     Status68,
-    /// The same in `eth/69`.
+    /// What a client knows of the chain, in `eth/69`.
     Status69,
     /// Hashes of new blocks.
     NewBlockHashes,
@@ -49,7 +49,7 @@ pub enum MessageKind {
 }
 
 impl MessageKind {
-    /// The kind of this name, if there is one.
+    /// The kind of this name, or `None` if no kind has it.
     #[tactic(auto, unfolding(crate::specs::MessageKinds::message_named))]
     pub fn named(name: &str) -> Option<MessageKind>
         ensures { result ≡ message_named name.now }

@@ -171,7 +171,7 @@ impl Show for Pong {
     }
 }
 
-/// The reason, in either form.
+/// The reason, whichever form the message has.
 impl Show for Disconnect {
     ghost display = { seen_as disconnect.reading.seen shown.disconnect_display };
 
@@ -204,7 +204,7 @@ impl Show for FurtherItem {
     }
 }
 
-/// The items after the fields of a greeting, if there are some.
+/// The items after the fields of a greeting, if any follow.
 #[derive(Clone, Copy)]
 struct Further<'a>(&'a Vec<FurtherItem>);
 

@@ -10,7 +10,7 @@ use rlp::Rlp;
 use rlp_trie::ends_in_leaf;
 use std::alloc::AllocError;
 
-/// Records whose parts have names. The parts of any other item have none.
+/// Records whose parts have names. The parts of any other item have no names.
 #[derive(Clone, Copy)]
 pub enum Record {
     Other,
@@ -28,7 +28,7 @@ pub enum Record {
     Pooled,
     Receipt69,
     ReceiptPayload,
-    // Transactions without a type, and the payloads of the others: type 3 is sent with proofs.
+    // Transactions without a type, and the payloads of the types: type 3 is sent with proofs.
     Legacy,
     AccessList,
     FeeMarket,
@@ -51,7 +51,7 @@ pub enum Part {
 /// The fields of a record, in order: their names, and what they are.
 type Fields = &'static [(&'static str, Part)];
 
-/// What a field is: a record or a list, or without more an item whose parts have no names.
+/// What a field is: a record, a list, or else an item whose parts have no names.
 macro_rules! part {
     () => {
         Part::One(Record::Other)
@@ -334,7 +334,7 @@ fn item_in<'a>(list: &Rlp<'a>, index: usize) -> Rlp<'a>
     list.at(index).unwrap_or(list.clone())
 }
 
-/// Returns the bytes of an envelope, which stands alone or in a string.
+/// Returns the bytes of an envelope, which is standalone or in a string.
 fn envelope<'a>(item: &Rlp<'a>) -> &'a [u8]
     ensures { result.now ≡ envelope item.now }
 {
@@ -373,7 +373,7 @@ fn transaction_kind(item: &Rlp<'_>) -> Record
     }
 }
 
-/// Returns which transaction an item is that is sent: one of type 3 has its blobs.
+/// Returns which record an item is that is a transaction as it is sent: type 3 has its blobs.
 fn pooled_kind(item: &Rlp<'_>) -> Record
     ensures { result ≡ pooled_kind item.now }
 {
@@ -397,8 +397,8 @@ fn node_kind(item: &Rlp<'_>) -> Record
     }
 }
 
-/// Appends the name of the part that the path leads to from an item, as `.header.gas_limit`. A path
-/// beyond the names ends there.
+/// Appends the name of the part that the path leads to from an item, such as `.header.gas_limit`.
+/// Where the parts have no names, the name ends.
 pub(crate) fn put_part_name(
     part: Part,
     item: &Rlp<'_>,
@@ -433,8 +433,8 @@ impl Kind {
         }
     }
 
-    /// Returns the fields of records of this kind, in order. The bytes tell those of a node, a
-    /// receipt and a transaction.
+    /// Returns the fields of records of this kind, in order. The fields of a node, a receipt and a
+    /// transaction depend on the bytes.
     fn fields(self) -> Fields
         ensures { map (λ f. (f.0.now, f.1)) result.now ≡ kind_fields self }
     {

@@ -19,7 +19,7 @@ fn is_port_key(key: &[u8]) -> bool
         || (key == "tcp6".as_bytes() || key == "udp6".as_bytes())
 }
 
-/// Returns a port, or the bytes if they are none.
+/// Returns a port, or the bytes if they aren't a port.
 fn port_in(port: &[u8]) -> Shown<'_>
     ensures { content_of result ≡ port_content port.now }
 {

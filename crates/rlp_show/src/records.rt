@@ -183,7 +183,7 @@ impl Show for AnyReceipt {
     }
 }
 
-/// What is wrong with a record. Its JSON is an object as
+/// What is wrong with a record. Its JSON is an object such as
 /// `{"error":{"field":9,"name":"gasLimit","fault":"RlpIsTooBig"}}`.
 #[derive(Clone, Copy)]
 pub struct Fault<'a> {
@@ -192,7 +192,7 @@ pub struct Fault<'a> {
     pub field: Option<u64>,
     /// The name of the item at fault.
     pub name: &'a str,
-    /// The name of the fault, such as `RlpIsTooBig`, or its text. It has no quotes, backslashes and
+    /// The name of the fault, such as `RlpIsTooBig`, or its text. It has no quotes, backslashes or
     /// control characters.
     pub fault: &'a str,
 }

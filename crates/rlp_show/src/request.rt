@@ -15,19 +15,19 @@ pub enum Request {
     Version,
     /// These answers to the lines of standard input.
     Lines(Answers),
-    /// These answers to the lines of the last argument, which begins as a record does.
+    /// These answers to the lines of the last argument, which is a record.
     Record(Answers),
-    /// Nothing that the program knows.
+    /// Arguments that the program doesn't know.
     Unknown,
 }
 
 impl Request {
     ghost use Rattle.rlp_show.specs.Request.{form_request, record_request, request_of, word_request};
 
-    /// What these arguments ask for, without the name of the program. They are a kind, a record, or
-    /// a kind and then a record, all after `--json` if the answers are to be in JSON, or after
-    /// `--bytes` if they are to say where each field stands; or one of `--help`, `-h`, `--version`
-    /// and `-V`. A record is what begins with `0x` or `enr:`.
+    /// What these arguments ask for, without the name of the program. They are nothing, a kind, a
+    /// record, a kind and then a record, or one of `--help`, `-h`, `--version` and `-V`. Before all
+    /// these may come `--json`, for answers in JSON, or `--bytes`, for answers with the place of
+    /// each field. A record is an argument that begins with `0x` or `enr:`.
     pub fn of(words: &[String]) -> Request
         ensures { result ≡ request_of (map string_bytes words.now) }
     {
@@ -40,7 +40,7 @@ impl Request {
         }
     }
 
-    /// What arguments ask for, with answers in this form. The first may name a kind.
+    /// What arguments ask for, with answers in this form. The first argument may name a kind.
     fn in_form(form: Form, words: &[String]) -> Request
         ensures { result ≡ form_request form (map string_bytes words.now) }
     {
@@ -53,7 +53,7 @@ impl Request {
         }
     }
 
-    /// What the arguments after those for the answers ask for.
+    /// What the arguments after the arguments for the form and the kind of the answers ask for.
     fn of_rest(answers: Answers, words: &[String]) -> Request
         ensures { result ≡ record_request answers (map string_bytes words.now) }
     {
@@ -65,7 +65,7 @@ impl Request {
         }
     }
 
-    /// What a word alone asks for that is neither a kind nor a record.
+    /// What a single argument that is neither a kind nor a record asks for.
     fn of_word(word: &str) -> Request
         ensures { result ≡ word_request word.now }
     {

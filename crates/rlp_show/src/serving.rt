@@ -12,9 +12,9 @@ use std::alloc::Global;
 use std::io;
 use std::io::{ErrorKind, Read, Write};
 
-/// Answers each line of the input, until its end, with the record that it is, or with what is wrong
-/// with it, such as `long line` for a line of more than 32 MiB. Returns whether a line was at fault,
-/// and fails with the [`RunFault`] that stopped it.
+/// Answers each line of the input, until its end, with the record of the line, or with what is
+/// wrong with the line, such as `long line` for a line of more than 32 MiB. Returns whether a line
+/// was at fault, and fails with the [`RunFault`] that stopped the run.
 pub fn run<R: Read, W: Write>(
     alloc: Global,
     answers: &Answers,
@@ -31,8 +31,8 @@ pub fn run<R: Read, W: Write>(
     answer_lines(alloc, answers, input, output)
 }
 
-/// The exit status of the program after a run: 0 if no line was at fault, 5 if one was, or else the
-/// status of the fault that stopped it.
+/// The exit status of the program after a run: 0 if no line was at fault, 5 if a line was, or the
+/// status of the fault that stopped the run.
 pub fn exit_status(outcome: &Result<bool, RunFault>) -> u8
     ensures { result ≡ exit_status outcome.now }
 {
@@ -86,7 +86,7 @@ fn refuse<E: Write>(errors: &mut Noted<E>) -> u8
     UNKNOWN_ARGUMENTS
 }
 
-/// The last word, or the empty text if there is none.
+/// The last word, or the empty text if there are no words.
 fn last_word(words: &[String]) -> &str
     ensures { result.now ≡ last_of (map string_bytes words.now) }
 {
@@ -100,10 +100,10 @@ fn last_word(words: &[String]) -> &str
 /// arguments after its name, `input` and `output` its standard input and output, and `errors` its
 /// standard error.
 ///
-/// `--help` prints [`HELP`], and `--version` prints [`VERSION`]. A record among the arguments is
-/// answered as if it were the whole input, which then isn't read; without a record the lines of the
-/// input are answered. Arguments that ask for nothing that the program knows are answered by
-/// [`USAGE`] on standard error.
+/// `--help` prints [`HELP`], and `--version` prints [`VERSION`]. If a record is among the
+/// arguments, it is answered as if it were the whole input, and the input isn't read. Without a
+/// record the lines of the input are answered. Arguments that the program doesn't know are answered
+/// by [`USAGE`] on standard error.
 pub fn serve_request<R: Read, W: Write, E: Write>(
     alloc: Global,
     words: &[String],
@@ -128,8 +128,9 @@ pub fn serve_request<R: Read, W: Write, E: Write>(
     }
 }
 
-/// Says why the arguments can't be read, and returns the exit status of the program: that of a lack
-/// of memory, or else that of unknown arguments, after [`USAGE`] on standard error.
+/// Returns the exit status of the program if the arguments can't be read. If memory was refused, it
+/// prints nothing, and returns the status of refused memory. Else it prints [`USAGE`] on standard
+/// error, and returns the status of unknown arguments.
 pub fn refuse_arguments<E: Write>(fault: &io::Error, errors: &mut Noted<E>) -> u8
     requires { errors.old.failed ≡ false }
     ensures memory { error_kind fault.now ≡ ErrorKind.OutOfMemory

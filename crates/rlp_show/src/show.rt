@@ -10,7 +10,7 @@ use std::fmt::Write;
 
 /// A type whose values are shown.
 pub trait Show {
-    /// What contracts see of a value, and what is shown of that.
+    /// What contracts see of a value, and what is shown of what they see.
     ghost display: { Showing Value Self };
 
     /// Gives the value of this name to a sink. A whole record has no name. Fails with `AllocError`
@@ -37,9 +37,10 @@ impl Show for Shown<'_> {
 }
 
 /// Fields that are shown one after another, such as the fields of a struct. A pair is the fields of
-/// its first part, and then those of its second part. A part that may be missing is an `Option`.
+/// its first part, and then the fields of its second part. A part that may be missing is an
+/// `Option`.
 pub trait ShowFields {
-    /// What contracts see of a value, and the fields of that, in order.
+    /// What contracts see of a value, and the fields that are shown of it, in order.
     ghost fields: { Showing Entries Self };
 
     /// Gives the fields of the value of this name to a sink. Fails with `AllocError` if memory is
@@ -192,7 +193,7 @@ pub(crate) fn place_in(alloc: Global, name: &str, index: usize) -> Result<String
     Ok(text)
 }
 
-/// Appends the name of a field to the name of what it is in.
+/// Appends the name of a field to the name of the value that has the field.
 pub(crate) fn put_inside(own: &str, name: &mut String) -> Result<(), AllocError>
     ensures { OnOk result (string_bytes name.new ≡ inside (string_bytes name.old) own.now) }
 {
@@ -210,10 +211,10 @@ pub(crate) fn put_place(index: usize, name: &mut String) -> Result<(), AllocErro
     write!(name, "[{index}]").map_err(|_| AllocError)
 }
 
-/// Fields as nested pairs: for each the name in lines, the name in JSON and the value, or the fields
-/// of a part. After a `?` the value may be missing. A field of a struct that has its own name in lines
-/// is `self.gas_price "gasPrice"`, with the name in JSON. The last pair ends with the last field, or
-/// with no fields after a `;`.
+/// Fields as nested pairs. Each field is its name in lines, its name in JSON and its value, or is
+/// the fields of a part. After a `?` the value may be missing. A field of a struct that has its own
+/// name in lines is `self.gas_price "gasPrice"`, with the name in JSON. The last pair ends with the
+/// last field, or with no fields after a `;`.
 macro_rules! fields {
     () => {
         ()

@@ -1,4 +1,4 @@
-//! Where values are shown.
+//! Sinks, which take the parts of values that are shown.
 
 ghost use Rattle.std.specs.Prelude.{◌≡◌, OnOk};
 ghost use Rattle.rlp_show.specs.Value.{Steps, bytes as shown_bytes, content_of, number as shown_number};
@@ -44,7 +44,7 @@ pub enum BytesKind {
 pub enum Shown<'a> {
     /// A number.
     Number(NumberKind, Uint<32>),
-    /// The number of a type of EIP-2718, which stands in front of a payload.
+    /// The number of a type of EIP-2718, which is the byte before a payload.
     TypeByte(u8),
     /// Bytes.
     Bytes(BytesKind, &'a [u8]),
@@ -101,7 +101,7 @@ pub trait Sink {
     fn key(&mut self, json: &str) -> Result<(), AllocError>
         ensures { OnOk result (seen self.new ≡ steps.key json.now (seen self.old)) };
 
-    /// Takes a content and its whole name, as `access_list[0].address`.
+    /// Takes a content and its whole name, such as `access_list[0].address`.
     fn put(&mut self, name: &str, shown: Shown<'_>) -> Result<(), AllocError>
         ensures { OnOk result
             (seen self.new ≡ steps.put name.now (content_of shown.entry) (seen self.old)) };

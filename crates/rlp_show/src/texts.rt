@@ -64,7 +64,7 @@ pub(crate) fn are_zero(bytes: &[u8]) -> bool
     bytes.iter().all(|byte| *byte == 0)
 }
 
-/// Appends bytes, or in short that all are zero.
+/// Appends bytes, or only their number if all bytes are zero.
 pub(crate) fn put_sparse(bytes: &[u8], out: &mut String) -> Result<(), AllocError>
     ensures { OnOk result
         (string_bytes out.new ≡ string_bytes out.old ++ sparse_text bytes.now) }

@@ -178,7 +178,7 @@ impl ShowFields for Eip155 {
     }
 }
 
-/// Returns the hash that is signed of a transaction without a type, if `v` says what that is.
+/// Returns the hash that is signed of a transaction without a type, if `v` says what is signed.
 fn legacy_signing_hash(
     alloc: Global,
     payload: &LegacyTransaction,

@@ -1,5 +1,5 @@
-//! Shows records of Ethereum by the names of their fields: that of an argument, or each line of
-//! standard input.
+//! Shows records of Ethereum by the names of their fields: the record of an argument, or the record
+//! of each line of standard input.
 #![tactic(auto)]
 
 use rlp_show::{Noted, refuse_arguments, serve_request};

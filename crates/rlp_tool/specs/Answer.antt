@@ -17,7 +17,7 @@ deepest_nesting = 256
 abbrev pub view_answer : List ℕ → List ℕ
 view_answer bytes = if nat_lt deepest_nesting (depth bytes) then codes "error deep" else text bytes
 
--- the same for the bytes of these digits, or `error hex` if they aren't digits, two for each byte
+-- the answer for the bytes that the digits of a line decode to, as in `view_answer`, or `error hex` if the line isn't digits, two for each byte
 abbrev pub digits_answer : Option (List ℕ) → List ℕ
 digits_answer (Some bytes) = view_answer bytes
 digits_answer None = codes "error hex"
@@ -47,7 +47,7 @@ brings_items _ = true
 abbrev pub refusal_name : Call → List ℕ
 refusal_name call = if is_raw call then codes "error too many items at " else codes "error nothing to finish at "
 
--- the answer to the calls from a state on, with the place of the next call: the first that fails decides
+-- the answer to the calls from a state on, with the place of the next call: the first call that fails decides
 abbrev pub outcome_answer : ℕ → State → List Call → List ℕ
 outcome_answer place s [] = state_answer s.stack.lists s
 outcome_answer place s (call ∷ calls) =

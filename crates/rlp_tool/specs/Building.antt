@@ -28,7 +28,7 @@ abbrev pub is_finish : Call → Bool
 is_finish finalize_unbounded_list = true
 is_finish _ = false
 
--- a call's raw bytes are the announced number of items, none too deep; this always holds for a call without raw bytes
+-- the raw bytes of a call are the announced number of items, none deeper than 256; this always holds for a call without raw bytes
 abbrev pub BringsItems : Call → Type 0
 BringsItems (append_raw bytes count) = AreRawItems bytes count
 BringsItems _ = Unit
@@ -37,7 +37,7 @@ BringsItems _ = Unit
 abbrev pub IsSomeStep : Call → State → Type 0
 IsSomeStep call s = (m : Step) × DescribesWhere IsShallow s call m
 
--- no call over the front fails: each is admitted, and raw bytes are the announced number of items, none too deep
+-- no call over the front fails: each is admitted, and raw bytes are the announced number of items, none deeper than 256
 pub record AreTaken (front : List ℕ) (calls : List Call) : Type 0 where
   pub steps : List Step
   pub described : AreDescribedWhere IsShallow (initial_state front) calls steps
@@ -62,7 +62,7 @@ BringsTooMany call s = (is_admitted call s ≡ false) × IsTrue (is_raw call)
 abbrev pub HasNothingToFinish : Call → State → Type 0
 HasNothingToFinish call s = (is_admitted call s ≡ false) × IsTrue (is_finish call)
 
--- raw bytes may count that number of items, but they aren't that number of items
+-- raw bytes may be counted as this number of items, but aren't this number of items
 abbrev pub BringsNoItems : Call → State → Type 0
 BringsNoItems call s = IsTrue (is_admitted call s) × (¬ BringsItems call)
 
@@ -71,7 +71,7 @@ abbrev pub IsBuilt : List ℕ → List Call → Built → Type 0
 IsBuilt front calls (Finished bytes) = FinishAs front calls bytes.items
 IsBuilt front calls (Open size raw) = StayOpen front calls size raw.items
 
--- why they fail: one of them does, or memory was refused
+-- why calls fail: one call fails its test, or memory was refused
 abbrev pub IsRefusal : List ℕ → List Call → BuildFault → Type 0
 IsRefusal front calls (TooManyItems place) = AreRefused BringsTooMany front calls place
 IsRefusal front calls (NothingToFinish place) = AreRefused HasNothingToFinish front calls place
@@ -82,18 +82,18 @@ IsRefusal front calls OutOfMemory = Unit
 abbrev pub LeaveOpen : List ℕ → List Call → Type 0
 LeaveOpen front calls = (size : ℕ) × (raw : List ℕ) × StayOpen front calls size raw
 
--- the calls describe items, of which none of raw bytes is too deep; so none fails, and no list is open at the end
+-- the calls describe items, and no item of raw bytes is too deep; so no call fails, and no list is open at the end
 abbrev pub DescribeItems : List ℕ → List Call → Type 0
 DescribeItems front calls = (items : List Item) × IsDescribedWhere IsShallow front calls items
 
--- the calls describe items, of which none of raw bytes is too deep, and the finished buffer is the front and the joined encodings of the items
+-- the calls describe items, no item of raw bytes is too deep, and the finished buffer is the front and the joined encodings of the items
 pub record AreJoined (front : List ℕ) (calls : List Call) (bytes : List ℕ) : Type 0 where
   pub items : List Item
   pub shallow : IsDescribedWhere IsShallow front calls items
   pub described : IsDescribed front calls items
   pub joined : bytes ≡ front ++ join items
 
--- the same for the result of calls; nothing is said if a list is open
+-- a finished buffer of the calls is as `AreJoined` says; nothing is said if a list is open
 abbrev pub IsJoined : List ℕ → List Call → Built → Type 0
 IsJoined front calls (Finished bytes) = AreJoined front calls bytes.items
 IsJoined front calls (Open size raw) = Unit

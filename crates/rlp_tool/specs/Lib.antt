@@ -1,6 +1,6 @@
 -- the answer to one line
 pub mod Answer
--- what calls make of a front
+-- the result of calls over a front
 pub mod Building
 -- numbers and bytes as hexadecimal digits
 pub use Rattle.rlp_lines.specs.Digits

@@ -18,18 +18,18 @@ Fails call s place OutOfMemory = Unit
 abbrev pub IsTaken : Call → State → State → Type 0
 IsTaken call s t = IsTrue (is_admitted call s) × IsSomeStep call s × (t ≡ effect call s)
 
--- no call over the front failed, and they have led to this state
+-- no call over the front failed, and the calls have led to this state
 pub record AreMade (front : List ℕ) (calls : List Call) (s : State) : Type 0 where
   pub taken : AreTaken front calls
   pub admitted : after front calls ≡ Ok s
   pub same_front : s.front ≡ front
 
--- no call over the front failed, or one of them did, whatever follows them
+-- no call over the front failed, or one of the calls did, whatever calls follow
 abbrev pub Goes : {T : Type 0} → List ℕ → List Call → State → Result T BuildFault → Type 0
 Goes front calls s (Ok end) = AreMade front calls s
 Goes front calls s (Err fault) = (later : List Call) → IsRefusal front (calls ++ later) fault
 
--- behind some calls over the front, the first of those that were left are made, up to the first that fails. `place` is that of the next call.
+-- after some calls over the front, further calls are made, up to the first call that fails. `place` is the place of the next call.
 pub record MakesSome {T : Type 0} (front : List ℕ) (before : List Call) (old new : Result (List Call) ℕ) (place : ℕ) (s : State) (result : Result T BuildFault)
     : Type 0 where
   pub made : List Call
@@ -37,7 +37,7 @@ pub record MakesSome {T : Type 0} (front : List ℕ) (before : List Call) (old n
   pub counted : place ≡ length (before ++ made) + 1
   pub goes : Goes front (before ++ made) s result
 
--- no call is next: none is left, or the next piece isn't a call
+-- no call comes next: no call is left, or the next piece isn't a call
 abbrev pub NoneIsNext : Result (List Call) ℕ → Type 0
 NoneIsNext left = (calls : List Call) → left ≡ Ok calls → calls ≡ []
 
@@ -46,7 +46,7 @@ abbrev pub IsHeld : State → Built → Type 0
 IsHeld s (Finished bytes) = IsFinished s × (bytes.items ≡ s.front ++ s.stack.inner)
 IsHeld s (Open size raw) = ¬ IsFinished s × (size ≡ closed_size s) × (raw.items ≡ raw_text s)
 
--- no call of the script fails, and over an empty front they lead to this state
+-- no call of the script fails, and with an empty front the calls lead to this state
 pub record MakesScript (text : List ℕ) (last : State) : Type 0 where
   pub calls : List Call
   pub says : script text ≡ Ok calls
@@ -63,7 +63,7 @@ abbrev pub IsLineFault : List ℕ → LineFault → Type 0
 IsLineFault text (Syntax place) = script text ≡ Err place
 IsLineFault text (Failed fault) = StopsScript text fault
 
--- the name and the place of a fault were printed; this can't be if memory was refused
+-- the name and the place of a fault were printed; memory wasn't refused
 abbrev pub AppendsFault : List ℕ → List ℕ → LineFault → Type 0
 AppendsFault old new (Syntax place) = new ≡ old ++ (codes "error syntax at " ++ decimal place)
 AppendsFault old new (Failed (TooManyItems place)) = new ≡ old ++ (codes "error too many items at " ++ decimal place)

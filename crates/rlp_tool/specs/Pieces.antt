@@ -43,7 +43,7 @@ spaces text = slice_split (λ c. c == byte " ") text
 abbrev pub front_piece : List ℕ → List ℕ
 front_piece text = get_or (spaces text) 0 []
 
--- the pieces that are left, and a number that is smaller for fewer of them
+-- the pieces that are left, and a number that is smaller if fewer pieces are left
 abbrev pub pieces_left : Option (Bor (List ℕ)) → List (List ℕ)
 pieces_left (Some text) = spaces text.now
 pieces_left None = []

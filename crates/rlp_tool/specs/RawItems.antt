@@ -7,14 +7,14 @@ pub use Rattle.rlp.specs.Values.RawItem.{deepest_raw_item, item_within}
 abbrev pub IsShallow : Item → Type 0
 IsShallow x = item_depth x ≤ deepest_raw_item
 
--- the bytes are the joined canonical encodings of `count` items, none too deep
+-- the bytes are the joined canonical encodings of `count` items, none deeper than 256
 pub record AreRawItems (bytes : List ℕ) (count : ℕ) : Type 0 where
   pub brought : List Item
   pub joined : bytes ≡ join brought
   pub counted : length brought ≡ count
   pub shallow : All IsShallow brought
 
--- ---- the same, computed: the bytes are read as items, and these are written again
+-- ---- the same, computed: the bytes are read as items, and these items are written again
 
 -- the items that the first framed items of bytes are read as
 abbrev pub raw_items : List ℕ → List Item

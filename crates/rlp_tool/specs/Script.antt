@@ -15,13 +15,13 @@ letter_call letter =
     else if letter == byte "c" then Some clear
     else None
 
--- raw bytes and their announced number of items, if both are there
+-- raw bytes and their announced number of items, if the text has the two
 abbrev pub raw_call : Option ℕ → Option (List ℕ) → Option Call
 raw_call (Some count) (Some bytes) = Some (append_raw bytes count)
 raw_call (Some count) None = None
 raw_call None bytes = None
 
--- the same, by the place of the colon between the number and the digits
+-- raw bytes and their announced number of items, by the place of the colon between the number and the digits
 abbrev pub raw_parts : List ℕ → Option ℕ → Option Call
 raw_parts text (Some at) = raw_call (number_in (take at text)) (bytes_in (drop (at + 1) text))
 raw_parts text None = None
@@ -35,7 +35,7 @@ labelled_call letter text =
     else if letter == byte "l" then option_map begin_list (number_in text)
     else None
 
--- the call of a piece, if it is one: a single letter, or a letter, a colon and its arguments
+-- the call of a piece, if the piece is a call: a single letter, or a letter, a colon and arguments
 abbrev pub call_in : List ℕ → Option Call
 call_in [] = None
 call_in (letter ∷ []) = letter_call letter
@@ -45,7 +45,7 @@ call_in (letter ∷ colon ∷ text) = if colon == byte ":" then labelled_call le
 abbrev pub is_call : List ℕ → Bool
 is_call piece = is_some (call_in piece)
 
--- the calls of all pieces, or the place, counted from 1, of the first that isn't a call
+-- the calls of all pieces, or the place, counted from 1, of the first piece that isn't a call
 abbrev pub calls_in : List (List ℕ) → Result (List Call) ℕ
 calls_in pieces = if list_all is_call pieces then Ok (filter_map call_in pieces) else Err (1 + prefix_len is_call pieces)
 
@@ -61,12 +61,12 @@ IsScriptFault text OutOfMemory = Unit
 
 -- ---- parts that only clauses of private functions cite
 
--- some calls, and behind them the calls of the pieces that are left, or the place of the first that isn't a call, counted from the first call
+-- some calls, and behind them the calls of the pieces that are left, or the place of the first piece that isn't a call, counted from the first call
 abbrev pub prepend : List Call → Result (List Call) ℕ → Result (List Call) ℕ
 prepend calls (Ok others) = Ok (calls ++ others)
 prepend calls (Err place) = Err (length calls + place)
 
--- the place of the first piece that isn't a call, if there is one; `first` is the place of the first piece
+-- the place of the first piece that isn't a call, or `None` if all pieces are calls; `first` is the place of the first piece
 abbrev pub IsUnread : ℕ → Result (List Call) ℕ → Option ℕ → Type 0
 IsUnread first left (Some place) = (calls : List Call) × (left ≡ Err (length calls + 1)) × (place ≡ first + length calls)
 IsUnread first left None = (calls : List Call) × (left ≡ Ok calls)

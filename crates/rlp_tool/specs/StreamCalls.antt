@@ -19,7 +19,7 @@ call_of item Clear = clear
 abbrev pub calls_of : {E : Type 0} → (E → Item) → List (StreamCall E) → List Call
 calls_of item calls = map (call_of item) calls
 
--- the same for byte strings, each as the string of its bytes
+-- the calls of a stream for values that are byte strings, each written as the string of its bytes
 abbrev pub call_of_bytes : StreamCall (Vec ℕ Global) → Call
 call_of_bytes call = call_of (λ v. string v.items) call
 

@@ -1,4 +1,4 @@
-//! Whether calls finish as the same bytes.
+//! Whether two lists of calls finish as the same bytes.
 
 ghost use Rattle.std.specs.Prelude.{◌≡◌, ◌↔◌, ◌⊎◌, List, IfOk, IfErr, IfSome, IsNone, IsSome, IsSomeAnd, IsTrue, OnOk};
 ghost use Rattle.rlp.specs.{Format.Encoding.Item, Streams.Described.{IsDescribed, FinishAs}};
@@ -20,7 +20,7 @@ fn buffer_of(alloc: Global, bytes: &[u8]) -> Result<BytesMut, AllocError>
     Ok(buffer)
 }
 
-/// Returns the finished buffer of calls over a front, or `None` if they leave a list open.
+/// Returns the finished buffer of calls over a front, or `None` if the calls leave a list open.
 fn finished_over<E: Encodable>(
     alloc: Global,
     front: BytesMut,
@@ -45,9 +45,9 @@ fn finished_over<E: Encodable>(
     }
 }
 
-/// Returns the finished buffer of calls over a front, or `None` if and only if they leave a list
-/// open. The buffer is the front and the encodings of the items that the calls describe, whatever
-/// raw bytes they put.
+/// Returns the finished buffer of calls over a front, or `None` if and only if the calls leave a
+/// list open. The buffer is the front and the encodings of the items that the calls describe, also
+/// if the calls put raw bytes.
 ///
 /// Fails as [`build`] does, and with `OutOfMemory` if memory is refused for a copy of the front.
 pub fn finished_buffer<E: Encodable>(
@@ -63,7 +63,7 @@ pub fn finished_buffer<E: Encodable>(
         → IsDescribed front.now (calls_of E.item calls.now) items
         → IfOk result (λ buffer. IsSome buffer) }
 
-    // If it returns `Ok`, each call passed its test.
+    // If the function returns `Ok`, each call passed its test.
     ensures taken { OnOk result (AreTaken front.now (calls_of E.item calls.now)) }
     ensures left_open { IfOk result
         (λ buffer. IsNone buffer ↔ LeaveOpen front.now (calls_of E.item calls.now)) }
@@ -83,11 +83,11 @@ fn same_bytes(one: &[u8], other: &[u8]) -> bool
 }
 
 /// Returns whether two lists of calls over one front finish as the same bytes: `Some(true)` if and
-/// only if both describe the same items, whatever raw bytes they put, and `None` if and only if one
-/// of them leaves a list open.
+/// only if the two describe the same items, also if they put raw bytes, and `None` if and only if
+/// one of the two leaves a list open.
 ///
-/// The calls of `one` are made first. Those of `other` are made only if `one` leaves no list open.
-/// Fails as [`finished_buffer`] does, for the first list of calls that fails.
+/// The calls of `one` are made first. The calls of `other` are made only if `one` leaves no list
+/// open. Fails as [`finished_buffer`] does, for the first list of calls that fails.
 pub fn finish_alike<A: Encodable, B: Encodable>(
     alloc: Global,
     front: &[u8],
@@ -110,7 +110,7 @@ pub fn finish_alike<A: Encodable, B: Encodable>(
         ↔ (LeaveOpen front.now (calls_of A.item one.now)
         ⊎ LeaveOpen front.now (calls_of B.item other.now))) }
 
-    // The calls of `other` fail only after those of `one` have finished.
+    // The calls of `other` fail only after the calls of `one` have finished.
     ensures refused { IfErr result
         (λ fault. IsRefusal front.now (calls_of A.item one.now) fault
         ⊎ (DescribeItems front.now (calls_of A.item one.now)

@@ -92,7 +92,8 @@ fn put_fault(name: &str, place: usize, out: &mut String) -> Result<(), AllocErro
     push_number(place, out)
 }
 
-/// Appends the fault of a script. Fails with `AllocError` also if memory was refused for a call.
+/// Appends the fault of a script. Fails with `AllocError` too if the fault is that memory was
+/// refused for a call.
 fn put_script_fault(fault: &LineFault, out: &mut String) -> Result<(), AllocError>
     ensures { OnOk result
         (AppendsFault (string_bytes out.old) (string_bytes out.new) fault.now) }

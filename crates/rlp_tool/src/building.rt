@@ -22,7 +22,7 @@ const DEEPEST_RAW_ITEM: usize = 256;
 /// The result of calls.
 #[derive(Drop)]
 pub enum Built {
-    /// No list is open: the front and the encodings after it.
+    /// No list is open. The bytes are the front and the encodings of the items.
     Finished(BytesMut),
     /// A list is open.
     Open {
@@ -33,7 +33,8 @@ pub enum Built {
     },
 }
 
-/// Why not all calls are made. A place is that of the first call that fails, counted from 1.
+/// Why not all calls are made. The number is the place, counted from 1, of the first call that
+/// fails.
 #[derive(Debug, PartialEq, Eq, Drop)]
 pub enum BuildFault {
     /// Raw bytes announce more items than the innermost list awaits.
@@ -70,7 +71,8 @@ fn first_item<'a>(bytes: &'a [u8]) -> Option<(&'a [u8], &'a [u8])>
     }
 }
 
-/// Whether raw bytes are the joined canonical encodings of `item_count` items, none too deep.
+/// Whether raw bytes are the joined canonical encodings of `item_count` items, none deeper than
+/// 256.
 fn raw_items_are_canonical(bytes: &[u8], item_count: usize) -> bool
     ensures { IsTrue result ↔ AreRawItems bytes.now item_count }
 {
@@ -107,7 +109,7 @@ fn admit_raw(stream: &RlpStream, bytes: &[u8], count: usize, place: usize) -> Re
     Ok(())
 }
 
-/// Tests a call before it is made. `place` is its place.
+/// Tests a call before it is made. `place` is the place of the call.
 #[inline(always)]
 fn admit<E: Encodable>(
     stream: &RlpStream,
@@ -161,7 +163,7 @@ fn make_call<E: Encodable>(stream: &mut RlpStream, call: &StreamCall<E>) -> Resu
     Ok(())
 }
 
-/// Tests a call and makes it. `place` is its place.
+/// Tests a call and makes it. `place` is the place of the call.
 #[inline(always)]
 pub(crate) fn take_call<E: Encodable>(
     stream: &mut RlpStream,
@@ -201,8 +203,8 @@ pub(crate) fn take_raw(
     }
 }
 
-/// Makes that many calls `Finish`. Lists in a row that are unbounded are closed at once, so that each
-/// byte moves only once. `place` is the place of the first call.
+/// Makes `Finish` this number of times. Consecutive unbounded lists are closed by one call, so that
+/// each byte moves only once. `place` is the place of the first call.
 pub(crate) fn take_finishes(
     stream: &mut RlpStream,
     count: usize,
@@ -227,7 +229,7 @@ pub(crate) fn take_finishes(
     Ok(())
 }
 
-/// The number of calls `Finish` that calls begin with, and the calls after them.
+/// The number of `Finish` at the beginning of the calls, and the calls after these.
 #[inline(always)]
 fn leading_finishes<E: Encodable>(calls: &[StreamCall<E>]) -> (usize, &[StreamCall<E>])
     ensures split { calls_of E.item calls.now
@@ -304,8 +306,8 @@ fn held(alloc: Global, stream: RlpStream) -> Result<Built, BuildFault>
 /// number of items, each of depth at most 256. So the finished bytes are the front and the
 /// canonical encodings of the items that the calls describe.
 ///
-/// Fails at the first call that doesn't pass its test, with its place counted from 1. A `Raw` fails
-/// with `TooManyItems` or else `RawNotItems`, a `Finish` with `NothingToFinish`.
+/// Fails at the first call that doesn't pass its test, with the place of the call, counted from 1.
+/// A `Raw` fails with `TooManyItems` or else `RawNotItems`, a `Finish` with `NothingToFinish`.
 ///
 /// Fails with `OutOfMemory` if memory is refused, or if a value's own `rlp_append` returns an
 /// error.
@@ -320,17 +322,18 @@ pub fn build<E: Encodable>(
     front: BytesMut,
     calls: &[StreamCall<E>],
 ) -> Result<Built, BuildFault>
-    // What it returns, and why it fails.
+    // What the function returns, and why it fails.
     ensures ok { IfOk result (IsBuilt front.items (calls_of E.item calls.now)) }
     ensures refused { IfErr result (IsRefusal front.items (calls_of E.item calls.now)) }
 
-    // If it returns `Ok`, each call passed its test. Finished bytes are the front and the joined
-    // encodings of the items that the calls describe.
+    // If the function returns `Ok`, each call passed its test. Finished bytes are the front and the
+    // joined encodings of the items that the calls describe.
     ensures taken { OnOk result (AreTaken front.items (calls_of E.item calls.now)) }
     ensures joined { IfOk result (IsJoined front.items (calls_of E.item calls.now)) }
 
-    // If the calls describe items and it returns `Ok`, the result is the front and their joined
-    // encodings. If also no item of raw bytes is too deep, it fails only with `OutOfMemory`.
+    // If the calls describe items and the function returns `Ok`, the result is the front and the
+    // joined encodings of the items. If also no item of raw bytes is too deep, the function fails
+    // only with `OutOfMemory`.
     ensures described { (items : List Item)
         → IsDescribed front.items (calls_of E.item calls.now) items
         → IfOk result (IsFinishedAs (front.items ++ join items)) }

@@ -27,18 +27,18 @@ pub enum StreamCall<E> {
 
 /// Calls that are made one after another, from values or from text.
 pub(crate) trait Calls {
-    /// The calls that are left. In text that isn't all calls, the place among the pieces that are
-    /// left, counted from 1, of the first that isn't a call.
+    /// The calls that are left. For a text with a piece that isn't a call, the place of the first
+    /// such piece among the pieces that are left, counted from 1.
     ghost left: { Self → Result (List Call) ℕ };
 
     /// The place of the next call.
     ghost place: { Self → ℕ };
 
-    /// At least the number of calls that are left.
+    /// A number that is at least the number of calls that are left.
     ghost size: { Self → ℕ };
 
-    /// Makes the next call if it passes its test, or the next calls `Finish` in a row. Returns
-    /// whether there was one. It may use the room for the bytes of a value.
+    /// Makes the next call if it passes its test, or all `Finish` that come next. Returns whether
+    /// there was a next call. It may use the room for the bytes of a value.
     fn make_next(&mut self, stream: &mut RlpStream, room: &mut Vec<u8>) -> Result<bool, BuildFault>
         requires { place self.old + size self.old < 2 ^ 64 }
         ensures made { (front : List ℕ) (before : List Call)
@@ -50,7 +50,7 @@ pub(crate) trait Calls {
         ensures shorter { IfOk result (λ more. more ≡ true → size self.new < size self.old) };
 }
 
-/// Makes all calls on a stream over a front, up to the first that fails.
+/// Makes all calls on a stream over a front, up to the first call that fails.
 #[inline(always)]
 pub(crate) fn make_calls<C: Calls>(
     calls: &mut C,

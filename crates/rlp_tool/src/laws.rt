@@ -1,4 +1,5 @@
-//! Laws about the answers to lines. These functions have no effect: each contract is the law.
+//! Laws about the answers to lines. The functions do nothing: the contract of each function is the
+//! law.
 
 ghost use Rattle.std.specs.Prelude.{◌≡◌, ◌++◌, ◌↔◌, ℕ, List, [], IsTrue, codes, decimal};
 ghost use Rattle.rlp.specs.{Format.Encoding.{Item, join, BeginsWith}, Streams.Stream.Call, Streams.Described.{FinishAs, IsDescribedWhere}};
@@ -9,14 +10,14 @@ ghost use Rattle.rlp_tool.specs.RawItems.{AreRawItems, IsShallow, are_raw_items}
 use rlp::laws::{parts_of_sized_are_sized, stream_joins_what_is_described};
 
 /// Raw bytes pass the test of the answers if and only if they are the joined encodings of the
-/// announced number of items, and none is too deep.
+/// announced number of items, and no item is too deep.
 pub fn raw_items_are_tested(bytes: &[u8])
     ensures { (count : ℕ) → IsTrue (are_raw_items bytes.now count) ↔ AreRawItems bytes.now count }
 {}
 
 /// If the calls of a line describe items, the answer is `out` and the digits of the joined
-/// encodings of these items. If no call fails and no list stays open, the calls do describe items,
-/// and the digits are those of the finished buffer. No other line of calls has an answer that
+/// encodings of these items. If no call fails and no list stays open, the calls describe items, and
+/// the digits are the digits of the finished buffer. No other line of calls has an answer that
 /// begins with `out`.
 pub fn finished_lines_are_answered(line: &[u8])
     ensures described { (calls : List Call) (items : List Item) → SaysCalls line.now calls

@@ -11,7 +11,7 @@ use bytes::BytesMut;
 use rlp::RlpStream;
 use std::alloc::Global;
 
-/// The number of bytes that a script can write without another request for memory.
+/// The number of bytes that a script can write without another allocation.
 const STARTING_CAPACITY: usize = 1024;
 
 /// Why a script has no result.
@@ -45,7 +45,8 @@ fn take_value(
     }
 }
 
-/// Puts the raw bytes of some digits, if they are items for which there is room.
+/// Puts the raw bytes of some digits, if the bytes are items, and no more items than the innermost
+/// open list awaits.
 fn take_digits(
     stream: &mut RlpStream,
     digits: &[u8],
@@ -68,7 +69,7 @@ fn take_digits(
     }
 }
 
-/// Makes the call of a piece, if it passes its test. `place` is its place.
+/// Makes the call of a piece, if the call passes its test. `place` is the place of the call.
 fn take_piece(
     stream: &mut RlpStream,
     piece: &Piece<'_>,
@@ -91,8 +92,8 @@ fn take_piece(
     }
 }
 
-/// The pieces of a script that are left. The room to decode one isn't a field: the compiler would
-/// then keep all fields in memory.
+/// The pieces of a script that are left. The room to decode a piece isn't a field: with it the
+/// compiler would keep all fields in memory.
 #[derive(Drop)]
 struct Script<'a> {
     left: Option<&'a [u8]>,
@@ -134,7 +135,7 @@ impl Calls for Script<'_> {
     }
 }
 
-/// An empty stream, with room if memory is granted for it.
+/// An empty stream, with room for bytes if that memory isn't refused.
 fn empty_stream(alloc: Global) -> RlpStream
     ensures { result.state ≡ initial_state [] }
 {
@@ -146,8 +147,8 @@ fn empty_stream(alloc: Global) -> RlpStream
 
 /// Makes the calls of a script on an empty stream, each as its piece is read, and returns the stream.
 ///
-/// After a call that fails it only reads. The first piece that isn't a call comes before any call
-/// that fails, also if that lacks memory.
+/// After a call that fails it only reads the pieces. A piece that isn't a call is the fault even if
+/// a call before it fails, also if memory was refused for that call.
 pub(crate) fn make_script(alloc: Global, text: &[u8]) -> Result<RlpStream, LineFault>
     ensures ok { IfOk result (λ stream. MakesScript text.now stream.state) }
     ensures refused { IfErr result (IsLineFault text.now) }

@@ -20,7 +20,7 @@ pub enum ScriptFault {
     OutOfMemory,
 }
 
-/// The number of bytes that are looked at one by one. A call of `memchr` takes longer.
+/// The number of bytes that are looked at one by one, which is faster than `memchr` for so few.
 const NEAR: usize = 16;
 
 /// The place of the first such byte.
@@ -36,7 +36,8 @@ pub(crate) fn place_of(byte: u8, text: &[u8]) -> Option<usize>
     memchr(byte, text)
 }
 
-/// A piece of a script that is a call. Longer bytes are still digits, which were tested.
+/// A piece of a script that is a call. Its bytes are kept as digits, which were tested, except the
+/// one byte of `Byte`.
 #[derive(Drop)]
 pub(crate) enum Piece<'a> {
     /// `d:HEX`, by its digits.
@@ -67,7 +68,8 @@ fn read_letter<'a>(letter: u8) -> Option<Piece<'a>>
     }
 }
 
-/// The digits of a text, without `0x` before them. Returns `None` if they aren't two for each byte.
+/// The digits of a text, without `0x` before them. Returns `None` if the text isn't two digits for
+/// each byte.
 #[tactic(auto, using(crate::proofs::CutLemmas::bytes_of_pairs))]
 fn digits_in(text: &[u8]) -> Option<&[u8]>
     ensures { MatchOption result (bytes_in text.now ≡ None)
@@ -143,7 +145,7 @@ fn read_piece(piece: &[u8]) -> Option<Piece<'_>>
     }
 }
 
-/// The pieces of a script, as a text that is to be cut. There are none if the script is empty.
+/// The pieces of a script, as a text that is still to be cut. An empty script has no pieces.
 pub(crate) fn pieces_of(text: &[u8]) -> Option<&[u8]>
     ensures all { script text.now ≡ calls_in (pieces_left result) }
     ensures within { left_len result ≤ length text.now + 1 }
@@ -151,7 +153,7 @@ pub(crate) fn pieces_of(text: &[u8]) -> Option<&[u8]>
     if text.is_empty() { None } else { Some(text) }
 }
 
-/// Cuts a text at its first space: the first piece, and the text with those after it.
+/// Cuts a text at its first space. Returns the first piece, and the text with the pieces after it.
 fn first_piece<'a>(text: &'a [u8]) -> (&'a [u8], Option<&'a [u8]>)
     ensures cut { spaces text.now ≡ result.0.now ∷ pieces_left result.1 }
     ensures shorter { left_len result.1 ≤ length text.now }
@@ -177,8 +179,8 @@ fn byte_of(digits: &[u8]) -> u8
     bytes[0]
 }
 
-/// Reads the first piece of a text, and returns it with the text of those after it, if it is
-/// `d:HEX` of one byte or `l:N` of one digit. These are read without a loop.
+/// Reads the first piece of a text without a loop, if it is `d:HEX` of one byte or `l:N` of one
+/// digit. Returns the piece, and the text with the pieces after it.
 #[inline(always)]
 fn short_piece<'a>(text: &'a [u8]) -> Option<(Piece<'a>, &'a [u8])>
     ensures cut { IfSome result (λ r. spaces text.now ≡ front_piece text.now ∷ spaces r.1.now) }
@@ -196,8 +198,8 @@ fn short_piece<'a>(text: &'a [u8]) -> Option<(Piece<'a>, &'a [u8])>
     }
 }
 
-/// Cuts a text at its first space: the first piece, if it is a call, and the text with those after
-/// it.
+/// Cuts a text at its first space. Returns the first piece, if it is a call, and the text with the
+/// pieces after it.
 #[inline(always)]
 pub(crate) fn next_piece<'a>(text: &'a [u8]) -> (Option<Piece<'a>>, Option<&'a [u8]>)
     ensures cut { spaces text.now ≡ front_piece text.now ∷ pieces_left result.1 }
@@ -216,7 +218,7 @@ pub(crate) fn next_piece<'a>(text: &'a [u8]) -> (Option<Piece<'a>>, Option<&'a [
     (read_piece(piece), others)
 }
 
-/// The number of pieces `e` that a text begins with, and the text of those after them.
+/// The number of pieces `e` at the beginning of a text, and the text with the pieces after these.
 #[inline(always)]
 pub(crate) fn leading_finishes<'a>(pieces: Option<&'a [u8]>) -> (usize, Option<&'a [u8]>)
     ensures split { calls_in (pieces_left pieces.entry)
@@ -236,7 +238,8 @@ pub(crate) fn leading_finishes<'a>(pieces: Option<&'a [u8]>) -> (usize, Option<&
     (count, left)
 }
 
-/// The place of the first piece that isn't a call, if there is one. `first` is the place of the first piece.
+/// The place of the first piece that isn't a call, or `None` if all pieces are calls. `first` is
+/// the place of the first piece.
 #[inline(never)]
 pub(crate) fn first_unread(pieces: Option<&[u8]>, first: usize) -> Option<usize>
     requires { first + left_len pieces < 2 ^ 64 }
@@ -255,7 +258,7 @@ pub(crate) fn first_unread(pieces: Option<&[u8]>, first: usize) -> Option<usize>
     None
 }
 
-/// Decodes digits to the front of the room, which grows if it must.
+/// Decodes digits to the front of the room, which grows if it is too small.
 pub(crate) fn decode(digits: &[u8], room: &mut Vec<u8>) -> Result<(), AllocError>
     requires { ArePairs digits.now }
     ensures gives { OnOk result

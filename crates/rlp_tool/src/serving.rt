@@ -33,8 +33,9 @@ impl LineAnswers for ToolAnswers {
     }
 }
 
-/// Answers each line of the input, a line of digits or of calls, until its end. The answer to a line
-/// of more than 131,072 bytes is `error long line`. Fails with the [`RunFault`] that stopped it.
+/// Answers each line of the input, a line of digits or of calls, until its end. The answer to a
+/// line of more than 131,072 bytes is `error long line`. Fails with the [`RunFault`] that stopped
+/// the run.
 pub fn run<R: Read, W: Write>(
     alloc: Global,
     input: &mut Noted<R>,

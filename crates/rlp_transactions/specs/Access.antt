@@ -14,6 +14,6 @@ access_list_item_fields =
 abbrev pub access_list_item : Codec AccessListItem
 access_list_item = struct_of access_list_item_fields
 
--- the list of its items
+-- the list of the accounts
 abbrev pub access_list : Codec AccessList
 access_list = list_type (λ (a : AccessList). vec_items a.0) access_list_item

@@ -23,7 +23,7 @@ hash_check k (h ∷ hashes) (commitment ∷ commitments) =
 hash_check k [] commitments = Ok tt
 hash_check k (h ∷ hashes) [] = Ok tt
 
--- Of a transaction with these versioned hashes: first the number of blobs is tested, then the number of commitments, then the number of proofs, then each hash.
+-- For a transaction with these versioned hashes, first the number of blobs is tested, then the number of commitments, then the number of proofs, then each hash.
 abbrev pub blob_check : List Hash → ℕ → List (List ℕ) → Bool → Result ⊤ BlobFault
 blob_check hashes blobs commitments are_proofs =
     if not (blobs == length hashes) then Err BlobCount
@@ -46,12 +46,12 @@ cell_proofs_check t =
     blob_check (hashes_of t.transaction) (length (vec_items t.blobs)) (vec_items t.commitments)
     (length (vec_items t.cell_proofs) == 128 * length (vec_items t.blobs))
 
--- the same for a transaction in one of the two forms
+-- the first fault of a transaction in one of the two forms
 abbrev pub pooled_check : PooledBlobTransaction → Result ⊤ BlobFault
 pooled_check (Proofs t) = proofs_check t
 pooled_check (CellProofs t) = cell_proofs_check t
 
--- what prints of a fault
+-- the printed text of a fault
 abbrev pub blob_fault_text : BlobFault → List ℕ
 blob_fault_text BlobCount = codes "BlobCount"
 blob_fault_text CommitmentCount = codes "CommitmentCount"

@@ -16,13 +16,13 @@ v_of x = bit x.y_parity + even_v x.chain_id
 abbrev pub FitsChain : Option ℕ → Type 0
 FitsChain chain = IfSome chain (λ c. c < 2 ^ 64)
 
--- what a number says: 27 and 28 the parity, and the numbers from 35 on the chain and the parity, if the number of the chain has at most 64 bits
+-- what a number says: 27 and 28 say the parity, and a number from 35 on says the chain and the parity, if the number of the chain has at most 64 bits
 abbrev pub said_by : ℕ → Option Eip155
 said_by v =
     if (v == 27) || (v == 28) then Some (record { chain_id = None; y_parity = v == 28 })
     else if nat_lt v 35 || nat_lt (2 ^ 65 + 34) v then None
     else Some (record { chain_id = Some ((v - 35) / 2); y_parity = (v - 35) % 2 == 1 })
 
--- v is that of this chain, with one of the parities
+-- v is the `v` of this chain, with one of the two parities
 abbrev pub IsSignedFor : ℕ → Option ℕ → Type 0
 IsSignedFor v chain = (v ≡ even_v chain) ⊎ (v ≡ 1 + even_v chain)

@@ -1,4 +1,4 @@
--- Values of two structs, told apart by the number of items in their lists, are read back, and from nothing else.
+-- Values of two structs that differ in the number of items of their lists are read back, and are read only from their encodings.
 use Rattle.std.proofs.Common.{◌≡◌, ℕ, ◌^◌, ◌<◌, ◌==◌, ◌⊎◌, inl, inr, Bool, true, false, List, length, refl, sym, ap, ◌∙◌}
 use Rattle.std.proofs.{Common.{Result, Ok, eq-eqb}, lemmas.Bool.{cond-true, cond-false}}
 use Rattle.rlp.specs.{Codec.{Codec, Fields, lawful, plain_fields}, Format.Encoding.{AreBytes, Item, encoding, list_of}}
@@ -68,7 +68,7 @@ module _ {A B : Type 0} (f : FieldsForm A) (g : FieldsForm B) (fixed : f.reading
     exact = record { only = λ b s bytes fits is. count_only b s (is_count f.reading.width (item_count (strict_view_of b))) bytes fits refl is };
   }
 
--- A value of a first struct or of a second. That each always has the same number of fields, and the second another number than the first, is proved by `refl`.
+-- A value of a first struct or of a second. `refl` proves that each struct always has the same number of fields, and that the two numbers differ.
 abbrev pub struct_by_count : {A B : Type 0} (f : Fields A) (g : Fields B) → f.reading.is_fixed ≡ true → g.reading.is_fixed ≡ true
     → (g.reading.width == f.reading.width) ≡ false → Codec (A ⊎ B)
 struct_by_count f g fixed also differ =

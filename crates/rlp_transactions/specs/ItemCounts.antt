@@ -1,4 +1,4 @@
--- Values of two structs, told apart by the number of items in their lists.
+-- Values of two structs that differ in the number of items of their lists.
 use Rattle.std.proofs.{Common.{ℕ, ◌==◌, ◌||◌, ◌⊎◌, inl, inr, Bool, false, if◌then◌else◌}, Common.{Result, Ok, Err}}
 use Rattle.rlp.specs.{DecoderError.DecoderError, Values.Sums.{OnSum, sum_item}, Views.View.{View, item_count}}
 use Rattle.rlp_reading.specs.{Form.{Answer, Fault, FieldsForm, Form, map_answer, struct_of}, Sums.sum_map}
@@ -12,7 +12,8 @@ is_count n (Err e) = false
 abbrev pub read_by_count : {M N : Type 0} → ℕ → (View → Answer M Fault) → (View → Answer N Fault) → View → Answer (M ⊎ N) Fault
 read_by_count n counted other v = if is_count n (item_count v) then map_answer inl (counted v) else map_answer inr (other v)
 
--- A value of a first struct or of a second, each written as the list of its fields. A list of as many items as the first struct has fields is read as the first.
+-- A value of a first struct or of a second, each written as the list of its fields. A list of as many items as the first struct has fields is read as the first
+-- struct.
 abbrev pub by_count : {A B : Type 0} → FieldsForm A → FieldsForm B → Form (A ⊎ B)
 by_count f g = record {
   Fits = OnSum f.Fits g.Fits;

@@ -14,10 +14,10 @@ legacy_transaction_fields =
     field (λ (l : LegacyTransaction). l.value) (uint 32) (
     field (λ (l : LegacyTransaction). l.data) (byte_string vec_items) end)))))
 
--- these fields, and then those of the signature
+-- these fields, and then the fields of the signature
 abbrev pub signed_legacy_transaction_fields : Fields (Signed LegacyTransaction (Uint 32))
 signed_legacy_transaction_fields = signed_fields legacy_transaction_fields refl (uint 32)
 
--- the list of all of them
+-- the list of all fields
 abbrev pub signed_legacy_transaction : Codec (Signed LegacyTransaction (Uint 32))
 signed_legacy_transaction = struct_of signed_legacy_transaction_fields

@@ -1,4 +1,4 @@
--- How transactions of type 3 are written and read with their blobs, in both forms.
+-- How transactions of type 3 are written and read with their blobs, in the form of EIP-4844 or of EIP-7594.
 use Rattle.std.specs.Prelude.{Bool, ◌⊎◌, refl}
 use Rattle.std.proofs.Common.{inl, inr}
 use Rattle.rlp.specs.Codec.{Codec, newtype}

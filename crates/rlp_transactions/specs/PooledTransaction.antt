@@ -25,7 +25,7 @@ pooled_sum (FeeMarket t) = inr (inr (inl t))
 pooled_sum (Blob t) = inr (inr (inr (inl t)))
 pooled_sum (SetCode t) = inr (inr (inr (inr t)))
 
--- a legacy transaction is a list, and a typed one an envelope; the payload of type 3 has the blobs
+-- a legacy transaction is a list, and a typed transaction is an envelope; the payload of type 3 has the blobs
 abbrev pub pooled_types : TypedSum PooledTransaction
 pooled_types =
     typed_by pooled_sum signed_legacy_transaction (λ t. refl)
@@ -35,7 +35,7 @@ pooled_types =
 abbrev pub pooled_transaction : Codec PooledTransaction
 pooled_transaction = typed pooled_types
 
--- the transaction as it stands in a block: without blobs
+-- the transaction as it is in a block: without blobs
 abbrev pub consensus_form : PooledTransaction → Transaction
 consensus_form (Legacy t) = block.Legacy t
 consensus_form (AccessList t) = block.AccessList t
@@ -48,7 +48,7 @@ abbrev pub seen_without_blobs : pooled_blob_transaction.reading.M → signed_blo
 seen_without_blobs (inl m) = m.0
 seen_without_blobs (inr m) = m.0
 
--- what contracts see of a transaction as it stands in a block
+-- what contracts see of a transaction as it is in a block
 abbrev pub seen_consensus : pooled_transaction.reading.M → transaction.reading.M
 seen_consensus (inl m) = inl m
 seen_consensus (inr (inl m)) = inr (inl m)

@@ -21,7 +21,7 @@ abbrev pub is_account : Recipient → Bool
 is_account Creation = false
 is_account (Account address) = true
 
--- whether a string is an account: no bytes are none, and 20 bytes are one
+-- whether a string is an account: the empty string isn't, and 20 bytes are
 abbrev pub account_of : List ℕ → Result Bool Fault
 account_of [] = Ok false
 account_of (byte ∷ rest) = map_value (λ d. true) (fixed_of 20 (byte ∷ rest))
@@ -41,7 +41,7 @@ account_whole : (d : List ℕ) → account_of d ≡ Ok true → length d ≡ 20
 account_whole [] is = absurd (let no : ⊥ = cc in no)
 account_whole (byte ∷ rest) is = fixed_by (byte ∷ rest) (ltb (length (byte ∷ rest)) 20) (ltb 20 (length (byte ∷ rest))) refl refl is
 
--- a recipient fits exactly if its bytes tell what it is
+-- a recipient fits if and only if its bytes tell whether it is an account
 pub recipient_told : (r : Recipient) → IsRecipient r ↔ (account_of (recipient_bytes r) ≡ Ok (is_account r))
 recipient_told Creation = (λ fit. refl, λ is. tt)
 recipient_told (Account address) =

@@ -7,11 +7,11 @@ use Rattle.rlp_transactions.specs.declared.transaction.Transaction.TheVariants.{
 use Rattle.rlp_transactions.specs.{declared.unsigned_transaction.UnsignedTransaction.UnsignedTransaction, Eip155.{FitsChain, IsSignedFor, v_of}}
 use Rattle.rlp_transactions.specs.declared.unsigned_transaction.UnsignedTransaction.TheVariants as unsigned
 
--- the number of 32 bytes
+-- the number that a `Uint<32>` is
 abbrev pub number_of : Uint 32 → ℕ
 number_of n = number_from_digits 256 n.bytes
 
--- v is that of this chain, or of no chain whose number has 64 bits
+-- v is the `v` of this chain, or of no chain whose number has 64 bits
 abbrev pub SaysChain : ℕ → Option ℕ → Type 0
 SaysChain v chain = IfSome chain (λ c. IsSignedFor v (Some c)) × IfNone chain ((c : ℕ) → c < 2 ^ 64 → ¬ IsSignedFor v (Some c))
 
@@ -43,7 +43,8 @@ s_of (FeeMarket t) = t.s
 s_of (Blob t) = t.s
 s_of (SetCode t) = t.s
 
--- The transaction is this one with a signature of this parity. Without a type, `v` says both the chain that is signed and the parity, as in EIP-155.
+-- The transaction is this one with a signature of this parity. For a transaction without a type, `v` says both the chain that is signed and the parity, as in
+-- EIP-155.
 abbrev pub Signs : Transaction → UnsignedTransaction → Bool → Type 0
 Signs (Legacy t) u parity = (chain : Option ℕ) × ((u ≡ unsigned.Legacy (record { payload = t.payload; chain_id = chain }))
     × (number_of t.v ≡ v_of (record { chain_id = chain; y_parity = parity })))

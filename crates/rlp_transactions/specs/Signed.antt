@@ -12,7 +12,7 @@ listed {T} f = newtype (λ (u : Listed T). u.0) (struct_of f)
 abbrev pub both_numbers : {T V : Type 0} → Fields (Signed T V)
 both_numbers {T} {V} = field (λ (x : Signed T V). x.r) scalar (field (λ (x : Signed T V). x.s) scalar end)
 
--- the fields of the payload, and then those of the signature
+-- the fields of the payload, and then the fields of the signature
 abbrev pub signed_fields : {T V : Type 0} (f : Fields T) → f.reading.is_fixed ≡ true → Codec V → Fields (Signed T V)
 signed_fields {T} {V} f fixed c = group (λ (x : Signed T V). x.payload) f fixed (field (λ (x : Signed T V). x.v) c both_numbers)
 
@@ -20,7 +20,7 @@ signed_fields {T} {V} f fixed c = group (λ (x : Signed T V). x.payload) f fixed
 abbrev pub signed : {T V : Type 0} (f : Fields T) → f.reading.is_fixed ≡ true → Codec V → Codec (Signed T V)
 signed f fixed c = struct_of (signed_fields f fixed c)
 
--- ---- the members of that codec, for types without known laws
+-- ---- the members of this codec, for types without known laws
 
 abbrev pub signed_item : {T V : Type 0} → (T → List Item) → (V → Item) → Signed T V → Item
 signed_item items v_item x = list_of (items x.payload ++ (v_item x.v ∷ both_numbers.items x))

@@ -23,7 +23,7 @@ as_sum (FeeMarket t) = inr (inr (inl t))
 as_sum (Blob t) = inr (inr (inr (inl t)))
 as_sum (SetCode t) = inr (inr (inr (inr t)))
 
--- a legacy transaction is a list, and a typed one an envelope
+-- a legacy transaction is a list, and a typed transaction is an envelope
 abbrev pub transaction_types : TypedSum Transaction
 transaction_types =
     typed_by as_sum signed_legacy_transaction (λ t. refl)

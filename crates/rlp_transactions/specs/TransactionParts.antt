@@ -7,7 +7,7 @@ use Rattle.rlp_transactions.specs.{declared.recipient.Recipient.Recipient, decla
 use Rattle.rlp_transactions.specs.declared.transaction.Transaction.{Transaction}
 use Rattle.rlp_transactions.specs.declared.transaction.Transaction.TheVariants.{AccessList, Blob, FeeMarket, Legacy, SetCode}
 
--- the nonce
+-- the nonce of a transaction
 abbrev pub nonce_of : Transaction → ℕ
 nonce_of (Legacy t) = t.payload.nonce
 nonce_of (AccessList t) = t.payload.nonce
@@ -15,7 +15,7 @@ nonce_of (FeeMarket t) = t.payload.nonce
 nonce_of (Blob t) = t.payload.nonce
 nonce_of (SetCode t) = t.payload.nonce
 
--- the limit of gas
+-- the limit of gas of a transaction
 abbrev pub gas_limit_of : Transaction → ℕ
 gas_limit_of (Legacy t) = t.payload.gas_limit
 gas_limit_of (AccessList t) = t.payload.gas_limit
@@ -23,7 +23,7 @@ gas_limit_of (FeeMarket t) = t.payload.gas_limit
 gas_limit_of (Blob t) = t.payload.gas_limit
 gas_limit_of (SetCode t) = t.payload.gas_limit
 
--- the value that is sent
+-- the value that a transaction sends
 abbrev pub value_of : Transaction → Uint 32
 value_of (Legacy t) = t.payload.value
 value_of (AccessList t) = t.payload.value
@@ -31,7 +31,7 @@ value_of (FeeMarket t) = t.payload.value
 value_of (Blob t) = t.payload.value
 value_of (SetCode t) = t.payload.value
 
--- the bytes of the input
+-- the bytes of the input of a transaction
 abbrev pub input_of : Transaction → List ℕ
 input_of (Legacy t) = vec_items t.payload.data
 input_of (AccessList t) = vec_items t.payload.data

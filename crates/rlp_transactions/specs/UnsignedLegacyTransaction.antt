@@ -8,7 +8,7 @@ use Rattle.rlp_transactions.specs.LegacyTransaction.{legacy_transaction_fields}
 abbrev pub chain_fields : Fields ℕ
 chain_fields = field (λ (chain : ℕ). chain) (number 8) (field (λ (chain : ℕ). []) (byte_array 0) (field (λ (chain : ℕ). []) (byte_array 0) end))
 
--- EIP-155: (nonce, gasprice, startgas, to, value, data), or these six and (chainid, 0, 0) if there is a number of the chain
+-- EIP-155: (nonce, gasprice, startgas, to, value, data), or these six and (chainid, 0, 0) if the number of a chain is signed
 abbrev pub unsigned_legacy_transaction : Codec UnsignedLegacyTransaction
 unsigned_legacy_transaction = struct_of (
     group (λ (u : UnsignedLegacyTransaction). u.payload) legacy_transaction_fields refl (

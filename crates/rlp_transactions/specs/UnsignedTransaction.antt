@@ -23,7 +23,7 @@ unsigned_sum (FeeMarket t) = inr (inr (inl t))
 unsigned_sum (Blob t) = inr (inr (inr (inl t)))
 unsigned_sum (SetCode t) = inr (inr (inr (inr t)))
 
--- a legacy transaction is a list, and a typed one the number of the type and a list
+-- a legacy transaction is a list, and a typed transaction is the number of the type and a list
 abbrev pub unsigned_types : TypedSum UnsignedTransaction
 unsigned_types =
     typed_by unsigned_sum unsigned_legacy_transaction (λ t. refl)

@@ -10,12 +10,12 @@ use rlp_records::{Address, Hash};
 use std::alloc::{AllocError, Global};
 
 /// An account and the keys of its storage that a transaction declares. It is written as the list of
-/// both, as in EIP-2930.
+/// the two fields, as in EIP-2930.
 #[derive(Debug, Clone, PartialEq, Eq, Drop)]
 pub struct AccessListItem {
     /// The account.
     pub address: Address,
-    /// The keys of its storage, of 32 bytes each.
+    /// The keys of the account's storage, of 32 bytes each.
     pub storage_keys: Vec<Hash>,
 }
 

@@ -12,11 +12,11 @@ use rlp_records::{AUTHORIZATION_MAGIC, Address};
 use std::alloc::{AllocError, Global};
 
 /// An authorization with its signature: the list of six fields. The parity of the signature's point
-/// is any number below 256, as in the EIP.
+/// is any number below 256, as in EIP-7702.
 pub type SignedAuthorization = Signed<Authorization, u8>;
 
-/// The leave of an account to run the code of an address as its own, without its signature: the list
-/// of its three fields is signed after the byte 5, as in EIP-7702.
+/// An authorization without its signature: an account allows the code of an address to run as its
+/// own. The list of the three fields is signed after the byte 5, as in EIP-7702.
 #[derive(Debug, Clone, Copy, PartialEq, Eq)]
 pub struct Authorization {
     /// The number of the chain, or 0 for any chain.

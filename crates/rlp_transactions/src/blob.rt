@@ -24,8 +24,8 @@ pub struct Blob {
 impl Blob {
     /// Returns the blob of these bytes, which it copies.
     ///
-    /// Fails with `RlpIsTooShort` if there are fewer than 131,072, with `RlpIsTooBig` if there are
-    /// more, and with `OutOfMemory` if memory is refused.
+    /// Fails with `RlpIsTooShort` if there are fewer than 131,072 bytes, with `RlpIsTooBig` if
+    /// there are more, and with `OutOfMemory` if memory is refused.
     pub fn new(alloc: Global, bytes: &[u8]) -> Result<Blob, DecoderError>
         ensures value { IfOk result (λ b. b.bytes.items ≡ bytes.now) }
         ensures fault { IfErr result (λ e. (fixed_of 131072 bytes.now ≡ Err (fault_of e))

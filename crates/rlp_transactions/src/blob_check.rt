@@ -1,5 +1,5 @@
-//! The numbers of blobs that are sent with a transaction of type 3, and its versioned hashes. KZG
-//! isn't here: the blobs themselves and their proofs aren't tested.
+//! The numbers of blobs that are sent with a transaction of type 3, and its versioned hashes. This
+//! crate has no KZG: whether the commitments and the proofs belong to the blobs isn't tested.
 
 ghost use Rattle.std.specs.{Prelude.{◌≡◌, Some, length}, Vec.vec_items};
 ghost use Rattle.rlp_transactions.specs.BlobCheck.{blob_check, cell_proofs_check, hash_check, hashes_of, pooled_check, proofs_check, versioned_hash};
@@ -16,18 +16,18 @@ use std::fmt;
 /// The number of cells of a blob, as in EIP-7594, each with a proof.
 const CELL_COUNT: usize = 128;
 
-/// Why a transaction of type 3 doesn't fit what is sent with it.
+/// Why a transaction of type 3 and the blobs, commitments and proofs that are sent with it don't
+/// fit together.
 #[derive(Debug, Clone, Copy, PartialEq, Eq)]
 pub enum BlobFault {
     /// There are more or fewer blobs than versioned hashes in the transaction.
     BlobCount,
     /// There are more or fewer commitments than versioned hashes in the transaction.
     CommitmentCount,
-    /// There are more or fewer proofs than one for each blob, or 128 for each if they are proofs of
-    /// cells.
+    /// The number of proofs isn't one for each blob, or, for proofs of cells, 128 for each blob.
     ProofCount,
-    /// The versioned hash at this place, counted from 0, isn't [`versioned_hash`] of the commitment
-    /// at the place.
+    /// The versioned hash at this place, counted from 0, isn't the [`versioned_hash`] of the
+    /// commitment at the same place.
     VersionedHash(usize),
 }
 
@@ -44,7 +44,7 @@ pub fn versioned_hash(commitment: &[u8; 48]) -> Hash
 impl BlobTransactionWithProofs {
     /// Tests that there is a blob, a commitment and a proof for each versioned hash of the
     /// transaction, and that each versioned hash is [`versioned_hash`] of the commitment at its
-    /// place. Neither the commitments nor the proofs are compared with the blobs, which takes KZG.
+    /// place. Neither the commitments nor the proofs are compared with the blobs: that needs KZG.
     ///
     /// Fails with the first fault, in the order of [`BlobFault`].
     pub fn check_blobs(&self) -> Result<(), BlobFault>
@@ -62,7 +62,7 @@ impl BlobTransactionWithProofs {
 
 impl BlobTransactionWithCellProofs {
     /// Tests what [`BlobTransactionWithProofs::check_blobs`] tests, with 128 proofs for each blob.
-    /// Fails as it does.
+    /// Fails as [`BlobTransactionWithProofs::check_blobs`] does.
     pub fn check_blobs(&self) -> Result<(), BlobFault>
         ensures { result ≡ cell_proofs_check self.now }
     {
@@ -79,8 +79,8 @@ impl BlobTransactionWithCellProofs {
 
 impl PooledBlobTransaction {
     /// Tests what [`BlobTransactionWithProofs::check_blobs`] tests, or
-    /// [`BlobTransactionWithCellProofs::check_blobs`] for the form with proofs of cells. Fails as
-    /// they do.
+    /// [`BlobTransactionWithCellProofs::check_blobs`] for the form with proofs of cells, and fails
+    /// in the same way.
     pub fn check_blobs(&self) -> Result<(), BlobFault>
         ensures { result ≡ pooled_check self.now }
     {
@@ -91,8 +91,8 @@ impl PooledBlobTransaction {
     }
 }
 
-// Tests the numbers of blobs and commitments, and then each versioned hash; `are_proofs` says
-// whether the number of proofs is right.
+// Tests the numbers of blobs, commitments and proofs, and then each versioned hash; `are_proofs`
+// says whether the number of proofs is right.
 fn check(
     transaction: &Signed<BlobTransaction>,
     blobs: usize,

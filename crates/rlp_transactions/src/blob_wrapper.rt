@@ -12,9 +12,9 @@ use rlp::{
 use rlp_records::{BLOB_TYPE, Enveloped};
 use std::alloc::{AllocError, Global};
 
-/// A transaction of type 3 with its blobs and a proof for each: the list of its four fields, as in
-/// EIP-4844. It is sent to other nodes and by `eth_sendRawTransaction`; the transaction alone is
-/// hashed, and stands in blocks.
+/// A transaction of type 3 with its blobs and a proof for each blob: the list of the four fields,
+/// as in EIP-4844. This list is sent to other nodes and by `eth_sendRawTransaction`; only the
+/// transaction is hashed, and only the transaction is in a block.
 ///
 /// Reading doesn't test that the numbers of blobs, commitments and proofs agree:
 /// [`BlobTransactionWithProofs::check_blobs`] does. The proofs aren't tested.
@@ -180,8 +180,8 @@ impl Encodable for WrapperVersion {
     }
 }
 
-/// Reading fails with `Custom("unknown wrapper version")` if the string isn't the byte 1. It takes
-/// no memory.
+/// Reading fails with `Custom("unknown wrapper version")` if the string isn't the byte 1. It
+/// doesn't allocate.
 impl Decodable for WrapperVersion {
     ghost reading = { wrapper_version.reading };
 
@@ -205,7 +205,7 @@ impl StrictRead for WrapperVersion {
     ghost strict = { wrapper_version.reads_strictly };
 }
 
-/// Makes the version from a string. Fails as reading it does.
+/// Makes the version from a string. Fails as reading a version does.
 fn version_of(string: &[u8]) -> Result<WrapperVersion, DecoderError>
     ensures value { IfOk result (λ _. version_of string.now ≡ Ok tt) }
     ensures fault { IfErr result (λ e. version_of string.now ≡ Err (fault_of e)) }

@@ -9,23 +9,23 @@ use rlp::{
 use rlp_records::{Address, DEPOSIT_TYPE, Enveloped, Hash};
 use std::alloc::{AllocError, Global};
 
-/// A deposit of the OP stack, a transaction that comes from the chain below: the list of its eight
-/// fields, after the byte `0x7e`. It has no signature.
+/// A deposit of the OP stack, a transaction that comes from the base chain (layer 1): the list of
+/// its eight fields, after the byte `0x7e`. It has no signature.
 #[derive(Debug, Clone, PartialEq, Eq, Drop)]
 pub struct DepositTransaction {
-    /// The hash that tells deposits apart.
+    /// The hash that identifies the deposit.
     pub source_hash: Hash,
     /// The account that sends the value.
     pub from: Address,
     /// The recipient of the value.
     pub to: Recipient,
-    /// The value that is made for the sender, in Wei.
+    /// The value that the deposit creates for the sender, in Wei.
     pub mint: Uint<32>,
     /// The value that is sent, in Wei.
     pub value: Uint<32>,
     /// The gas that the transaction may use at most.
     pub gas_limit: u64,
-    /// Whether the gas doesn't count against that of the block. It is `false` since Regolith.
+    /// Whether the gas doesn't count towards the gas of the block. It is `false` since Regolith.
     pub is_system_transaction: bool,
     /// The input of the call, or the code that creates the contract.
     pub data: Vec<u8>,

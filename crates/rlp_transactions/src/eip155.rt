@@ -16,9 +16,9 @@ pub struct Eip155 {
 }
 
 impl Eip155 {
-    /// Returns what `v` says: nothing about a chain for 27 and 28, and the number of the chain for twice
-    /// this number plus 35 or 36. Returns `None` for other numbers, which are 0 to 26 and 29 to 34, and
-    /// for chains of more than 64 bits.
+    /// Returns what `v` says. The numbers 27 and 28 say no chain. A number from 35 on is twice the
+    /// number of the chain, plus 35 or 36. Returns `None` for 0 to 26 and 29 to 34, and if the
+    /// number of the chain has more than 64 bits.
     #[tactic(auto, using(crate::proofs::Parities::v_says))]
     pub fn from_v(v: &Uint<32>) -> Option<Eip155>
         ensures says { result ≡ said_by (number_from_digits 256 v.now.bytes) }
@@ -49,8 +49,8 @@ impl Eip155 {
         }
     }
 
-    /// Returns the `v` of a signature: 27 or 28 without a chain, and with one twice its number plus 35 or
-    /// 36.
+    /// Returns the `v` of a signature: 27 or 28 without a chain, or else twice the number of the
+    /// chain, plus 35 or 36.
     pub fn to_v(&self) -> Uint<32>
         ensures { number_from_digits 256 result.bytes ≡ v_of self.now }
     {
@@ -62,7 +62,8 @@ impl Eip155 {
     }
 }
 
-// Returns the number of these digits to the base 256, or `None` if it has more than 128 bits.
+// Returns the number of these big-endian digits to the base 256, or `None` if it has more than 128
+// bits.
 fn small_number(digits: &[u8]) -> Option<u128>
     ensures some { IfSome result (λ n. n ≡ number_from_digits 256 digits.now) }
     ensures none { IfNone result (2 ^ 128 ≤ number_from_digits 256 digits.now) }

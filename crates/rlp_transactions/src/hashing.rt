@@ -9,7 +9,8 @@ use crate::{Tagged, Transaction, UnsignedTransaction};
 use rlp_records::{Eip2718, Hash, keccak256};
 use std::alloc::{AllocError, Global};
 
-/// Returns the hash that is signed: that of [`Tagged::signing_payload`]. Fails as it does.
+/// Returns the hash that is signed: the hash of [`Tagged::signing_payload`]. Fails as
+/// [`Tagged::signing_payload`] does.
 pub fn signing_hash<T: Tagged>(alloc: Global, payload: &T) -> Result<Hash, AllocError>
     ensures fits { OnOk result (T.fit payload.now) }
     ensures hash { IfOk result
@@ -20,8 +21,8 @@ pub fn signing_hash<T: Tagged>(alloc: Global, payload: &T) -> Result<Hash, Alloc
 }
 
 impl Transaction {
-    /// Returns the hash that names the transaction: that of [`Eip2718::to_bytes`]. Fails as it
-    /// does.
+    /// Returns the hash that names the transaction: the hash of [`Eip2718::to_bytes`]. Fails as
+    /// [`Eip2718::to_bytes`] does.
     pub fn hash(&self, alloc: Global) -> Result<Hash, AllocError>
         ensures fits { OnOk result (transaction.Fits self.now) }
         ensures hash { IfOk result (λ h. IsHashOf h (bytes_alone (transaction.item self.now))) }
@@ -32,7 +33,8 @@ impl Transaction {
 }
 
 impl UnsignedTransaction {
-    /// Returns the hash that is signed: that of [`Eip2718::to_bytes`]. Fails as it does.
+    /// Returns the hash that is signed: the hash of [`Eip2718::to_bytes`]. Fails as
+    /// [`Eip2718::to_bytes`] does.
     pub fn signing_hash(&self, alloc: Global) -> Result<Hash, AllocError>
         ensures fits { OnOk result (unsigned_transaction.Fits self.now) }
         ensures hash { IfOk result

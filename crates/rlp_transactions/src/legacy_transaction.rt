@@ -12,16 +12,16 @@ use rlp::{
 };
 use std::alloc::{AllocError, Global};
 
-/// A transaction without a type, with its signature: the list of nine fields. `v` is any number of at
-/// most 256 bits, also one that says no parity, as 0 or 29: [`Eip155::from_v`] tells which numbers do.
+/// A transaction without a type, with its signature: the list of nine fields. `v` is any number of
+/// at most 256 bits, also a number that says no parity, such as 0 or 29: see [`Eip155::from_v`].
 pub type SignedLegacyTransaction = Signed<LegacyTransaction, Uint<32>>;
 
 /// A transaction without a type and without its signature: six fields, as in section 4.2 of the yellow
 /// paper. What is signed is a [`UnsignedLegacyTransaction`](crate::UnsignedLegacyTransaction).
 #[derive(Debug, Clone, PartialEq, Eq, Drop)]
 pub struct LegacyTransaction {
-    /// The number of transactions that the sender has sent before. As in EIP-2681 it is below 2^64,
-    /// and a transaction with 2^64 - 1 is invalid; this type reads it.
+    /// The number of transactions that the sender has sent before. EIP-2681 makes a transaction
+    /// with the nonce 2^64 - 1 invalid; this type reads it.
     pub nonce: u64,
     /// The price of a unit of gas, in Wei.
     pub gas_price: Uint<32>,
@@ -36,8 +36,8 @@ pub struct LegacyTransaction {
 }
 
 impl Signed<LegacyTransaction, Uint<32>> {
-    /// Returns what `v` says: the chain that is signed, if there is one, and the parity. Returns `None`
-    /// where [`Eip155::from_v`] does.
+    /// Returns what `v` says: the chain that is signed, if a chain is signed, and the parity.
+    /// Returns `None` if [`Eip155::from_v`] does.
     pub fn eip155(&self) -> Option<Eip155>
         ensures some { IfSome result (λ x. number_of self.now.v ≡ v_of x) }
         ensures none { IfNone result (IsNoV (number_of self.now.v)) }
@@ -45,8 +45,9 @@ impl Signed<LegacyTransaction, Uint<32>> {
         Eip155::from_v(&self.v)
     }
 
-    /// Returns the number of the chain that is signed, as `v` says it in EIP-155. Returns `None` if `v`
-    /// is 27 or 28, or is none of EIP-155, or if the number has more than 64 bits.
+    /// Returns the number of the chain that is signed, as `v` says it in EIP-155. Returns `None` if
+    /// `v` is 27 or 28, if it isn't a `v` of EIP-155, or if the number of the chain has more than
+    /// 64 bits.
     #[tactic(auto, using(crate::proofs::Parities::chains))]
     pub fn chain_id(&self) -> Option<u64>
         ensures { SaysChain (number_of self.now.v) result }
@@ -57,8 +58,8 @@ impl Signed<LegacyTransaction, Uint<32>> {
         }
     }
 
-    /// Returns the parity of the y value of the signature's point, as `v` says it in EIP-155. Returns
-    /// `None` where [`Eip155::from_v`] does.
+    /// Returns the parity of the y value of the signature's point, as `v` says it in EIP-155.
+    /// Returns `None` if [`Eip155::from_v`] does.
     pub fn y_parity(&self) -> Option<bool>
         ensures some { IfSome result (λ p. (chain : Option ℕ)
             × (FitsChain chain × (number_of self.now.v ≡ bit p + even_v chain))) }

@@ -1,4 +1,4 @@
-//! Transactions of type 3 with their blobs, in both forms.
+//! Transactions of type 3 with their blobs, in the form of EIP-4844 or of EIP-7594.
 
 ghost use Rattle.std.specs.Prelude.{◌≡◌};
 ghost use Rattle.rlp.specs.Views.View.{item_count};
@@ -15,7 +15,7 @@ use std::alloc::{AllocError, Global};
 const PROOFS_FIELDS: usize = 4;
 
 /// A transaction of type 3 as it is sent: with its blobs. A list of four items is read as the form
-/// of EIP-4844, and any other item as the form of EIP-7594, which has five.
+/// of EIP-4844, and any other item as the form of EIP-7594, which has five items.
 #[derive(Debug, Clone, PartialEq, Eq, Drop)]
 pub enum PooledBlobTransaction {
     /// The form of EIP-4844: with a proof for each blob.
@@ -35,7 +35,7 @@ impl PooledBlobTransaction {
         }
     }
 
-    /// Returns the transaction as it stands in a block: without its blobs, which it drops.
+    /// Returns the transaction as it is in a block, and drops its blobs.
     pub fn into_consensus(self) -> Signed<BlobTransaction>
         ensures { result ≡ without_blobs self }
     {

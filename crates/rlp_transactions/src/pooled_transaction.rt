@@ -19,10 +19,12 @@ use rlp_records::{
 use std::alloc::{AllocError, Global};
 
 /// A signed transaction as it is sent: in message 0x0a of `eth`, and by `eth_sendRawTransaction`.
-/// It is a [`Transaction`], but a transaction of type 3 has its blobs, as in EIP-4844 or EIP-7594.
+/// It differs from a [`Transaction`] in that a transaction of type 3 has its blobs, as in EIP-4844
+/// or EIP-7594.
 ///
 /// Reading doesn't compare the blobs with the transaction: [`PooledBlobTransaction::check_blobs`]
-/// tests their number and the versioned hashes. Nothing here tests the proofs, which takes KZG.
+/// tests the number of the blobs and the versioned hashes. This crate has no KZG, so it doesn't
+/// test the proofs.
 #[derive(Debug, Clone, PartialEq, Eq, Drop)]
 pub enum PooledTransaction {
     /// A transaction without a type.
@@ -38,7 +40,7 @@ pub enum PooledTransaction {
 }
 
 impl PooledTransaction {
-    /// Returns the transaction as it stands in a block: without its blobs, which it drops.
+    /// Returns the transaction as it is in a block, and drops its blobs.
     pub fn into_consensus(self) -> Transaction
         ensures { result ≡ consensus_form self }
     {

@@ -50,8 +50,8 @@ impl NonZeroScalar {
     }
 
     /// Whether the number is at most half of the order, as EIP-2 demands of the second number of a
-    /// transaction's signature. Of each signature and its negative, which is as good, one has a low
-    /// second number.
+    /// transaction's signature. ECDSA also accepts each signature with the negative of its second
+    /// number: one of these two numbers is low.
     pub fn is_low(&self) -> bool
         ensures { IsTrue result ↔ IsLow self.now.number }
     {

@@ -19,8 +19,8 @@ use std::alloc::{AllocError, Global};
 pub struct SetCodeTransaction {
     /// The number of the chain, as in EIP-155. This type reads numbers of at most 64 bits.
     pub chain_id: u64,
-    /// The number of transactions that the sender has sent before. As in EIP-2681 it is below 2^64,
-    /// and a transaction with 2^64 - 1 is invalid; this type reads it.
+    /// The number of transactions that the sender has sent before. EIP-2681 makes a transaction
+    /// with the nonce 2^64 - 1 invalid; this type reads it.
     pub nonce: u64,
     /// The highest price of a unit of gas that the sender pays to the block's beneficiary, in Wei.
     pub max_priority_fee_per_gas: Uint<32>,
@@ -36,8 +36,8 @@ pub struct SetCodeTransaction {
     pub data: Vec<u8>,
     /// The accounts and the keys of storage that the transaction declares.
     pub access_list: AccessList,
-    /// The accounts whose code the transaction sets. This type also reads an empty list, which the EIP
-    /// calls invalid.
+    /// The accounts whose code the transaction sets. This type also reads an empty list, which
+    /// EIP-7702 calls invalid.
     pub authorization_list: Vec<SignedAuthorization>,
 }
 

@@ -18,7 +18,7 @@ use std::alloc::{AllocError, Global};
 /// The fields of a record before its signature. A type with this trait is the record before it is
 /// signed, and [`Signed`] is the record with its signature.
 pub trait Payload: AppendFields + FixedFields + Drop {
-    /// What is known of the fields, so that the list that they stand in is read back.
+    /// What is known of the fields, so that a list that begins with them is read back.
     ghost laws: { AreLawful (fields_of Self.fit Self.items Self.reading) };
 
     /// The fields are always the same number of items.
@@ -41,12 +41,13 @@ pub trait Payload: AppendFields + FixedFields + Drop {
     }
 }
 
-/// A payload that is signed as the list of its fields after a byte, which says what it is.
+/// A payload that is signed as a byte, which says what the payload is, and then the list of its
+/// fields.
 pub trait Tagged: Payload {
     /// The byte.
     ghost TAG: { ℕ };
 
-    /// The byte: the type of a transaction, or that of EIP-7702 before an authorization.
+    /// The byte: the type of a transaction, or the MAGIC of EIP-7702 before an authorization.
     const TAG: u8;
 
     /// Returns the bytes that are signed: the byte of the payload, and the encoding of the list of
@@ -60,7 +61,7 @@ pub trait Tagged: Payload {
     }
 
     /// Reads a payload strictly from the bytes that are signed. For the bytes of a payload it fails
-    /// only if memory runs out.
+    /// only if memory is refused.
     ///
     /// Fails with `Custom("another type")` if the bytes are empty or begin with another byte, and
     /// else with the strict fault of the list.
@@ -83,10 +84,12 @@ pub trait Tagged: Payload {
     }
 }
 
-/// A payload whose byte is a type of EIP-2718, which also stands before the signed transaction.
+/// A payload whose byte is a type of EIP-2718, which is also the first byte of the signed
+/// transaction.
 pub trait TypedTransaction: Tagged {}
 
-/// A payload with its signature: the list of its fields, and of the three numbers after them.
+/// A payload with its signature: the list of its fields and then of the three numbers of the
+/// signature.
 ///
 /// The signature isn't checked.
 #[derive(Debug, Clone, PartialEq, Eq, Drop)]
@@ -122,8 +125,8 @@ impl<T, V> Signed<T, V> {
 }
 
 impl<T: TypedTransaction> Signed<T, bool> {
-    /// Returns the bytes of the transaction by itself: the byte of its type, and the encoding of the
-    /// list, as in EIP-2718.
+    /// Returns the bytes of the standalone transaction: the byte of its type, and the encoding of
+    /// the list, as in EIP-2718.
     pub fn to_bytes(&self, alloc: Global) -> Result<BytesMut, AllocError>
         ensures fits { OnOk result (⟦<Signed<T, bool> as Encodable>⟧.fits self.now) }
         ensures bytes { IfOk result
@@ -133,7 +136,7 @@ impl<T: TypedTransaction> Signed<T, bool> {
     }
 
     /// Reads a transaction of this type strictly from its bytes, as `to_bytes` returns them. For
-    /// such bytes it fails only if memory runs out.
+    /// the bytes of a transaction it fails only if memory is refused.
     ///
     /// Fails with `Custom("another type")` if the bytes are empty or begin with another byte, and
     /// else with the strict fault of the list.

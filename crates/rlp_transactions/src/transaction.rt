@@ -18,7 +18,7 @@ use rlp_records::{
 use std::alloc::{AllocError, Global};
 
 /// A signed transaction, as in the list of a block's transactions: a legacy transaction is a list,
-/// and a typed one is the string of its envelope, as in EIP-2718.
+/// and a typed transaction is the string of its envelope, as in EIP-2718.
 #[derive(Debug, Clone, PartialEq, Eq, Drop)]
 pub enum Transaction {
     /// A transaction without a type.
@@ -33,8 +33,9 @@ pub enum Transaction {
     SetCode(Signed<SetCodeTransaction>),
 }
 
-/// A transaction in the list of a block's transactions, of any type: one of a type that isn't known, such
-/// as a [`DepositTransaction`](crate::DepositTransaction), is kept, and is written back as it was read.
+/// A transaction in the list of a block's transactions, of any type. A transaction of an unknown
+/// type, such as a [`DepositTransaction`](crate::DepositTransaction), is kept as its bytes, and
+/// written back unchanged.
 pub type AnyTransaction = KnownOrOther<Transaction>;
 
 impl Eip2718 for Transaction {

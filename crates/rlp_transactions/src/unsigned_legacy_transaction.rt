@@ -12,8 +12,9 @@ use rlp::{
 };
 use std::alloc::{AllocError, Global};
 
-/// A transaction without a type before it is signed: the list of its six fields, as in section 4.2 of
-/// the yellow paper. With EIP-155 it is the list of nine: these six, the number of the chain, 0 and 0.
+/// A transaction without a type before it is signed: the list of its six fields, as in section 4.2
+/// of the yellow paper. With EIP-155 it is a list of nine items: the six fields, the number of the
+/// chain, 0 and 0.
 ///
 /// This list is what is signed.
 #[derive(Debug, Clone, PartialEq, Eq, Drop)]
@@ -93,11 +94,12 @@ impl Encodable for UnsignedLegacyTransaction {
     }
 }
 
-// The fields of the transaction, and then those that EIP-155 adds: the number of the chain, 0 and 0.
+// The fields of the transaction, and then the fields that EIP-155 adds: the number of the chain, 0
+// and 0.
 type UnsignedFields = Joined<LegacyTransaction, OptionalGroup<(u64, ([u8; 0], ([u8; 0], ())))>>;
 
 /// Fails with `RlpIncorrectListLen` for a list that has neither 6 nor 9 items, and with
-/// `RlpIsTooBig` if one of the last two of nine is a string that isn't empty.
+/// `RlpIsTooBig` if one of the last two of nine items is a string that isn't empty.
 impl Decodable for UnsignedLegacyTransaction {
     ghost reading = { unsigned_legacy_transaction.reading };
 

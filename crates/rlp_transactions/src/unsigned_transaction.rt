@@ -31,8 +31,8 @@ pub enum UnsignedTransaction {
 }
 
 impl UnsignedTransaction {
-    /// Returns the transaction with this signature, which isn't checked. The parity is that of the y
-    /// value of the signature's point.
+    /// Returns the transaction with this signature, which isn't checked. The parity is the parity
+    /// of the y value of the signature's point.
     pub fn with_signature(self, y_parity: bool, r: NonZeroScalar, s: NonZeroScalar) -> Transaction
         ensures signs { Signs result self y_parity }
         ensures r { r_of result ≡ r }

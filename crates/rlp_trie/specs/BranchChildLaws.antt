@@ -1,4 +1,4 @@
--- The places of branches are read back, and from nothing else.
+-- The places of branches are read back, and are read only from their encodings.
 use Rattle.std.specs.Prelude.{ℕ, ◌≡◌, Bool, true, false, Option, Some, None, List, [], Ok}
 use Rattle.std.proofs.{Common.{◌<◌, ◌^◌, refl, sym, ap, ◌∙◌, length}, lemmas.Bool.{cond-true, cond-false}}
 use Rattle.rlp.specs.{Format.Encoding.{string, IsSized, encoding, AreBytes}, Form.{here, map_value}, Codec.{Codec, lawful, newtype}}

@@ -1,4 +1,4 @@
--- The encoding of the empty string is told from those of other items.
+-- The encoding of the empty string differs from the encodings of other items.
 use Rattle.std.specs.Prelude.{ℕ, ◌≡◌, ◌≢◌, Bool, true, false, List, [], ◌∷◌}
 use Rattle.std.proofs.{Common.{refl, ap, ◌∙◌, sym, arith, length}, lemmas.Bool.eqb-true}
 use Rattle.rlp.specs.Format.Encoding.{IsSized, encoding, Item, string, big_endian, written_header}

@@ -5,7 +5,7 @@ use Rattle.rlp.specs.{DecoderError.DecoderError, Form.{Fault, custom, fault_of}}
 
 -- ---- the encoding
 
--- the numbers are nibbles: digits to the base 16
+-- the numbers are nibbles: below 16
 abbrev pub AreNibbles : List ℕ → Type 0
 AreNibbles x = All (λ n. n < 16) x
 
@@ -29,13 +29,13 @@ odd_prefix leaf (first ∷ more) = (16 * (flag_of leaf + 1) + first) ∷ bytes_o
 abbrev pub hex_prefix : Bool → List ℕ → List ℕ
 hex_prefix leaf x = if length x % 2 == 0 then (16 * flag_of leaf) ∷ bytes_of x else odd_prefix leaf x
 
--- the bytes are the encoding of nibbles, for a path that ends in a leaf or for another
+-- the bytes are the encoding of nibbles, for a path that ends in a leaf or for a path that doesn't
 pub record IsHexPrefix (leaf : Bool) (d : List ℕ) : Type 0 where
   pub nibbles : List ℕ
   pub are : AreNibbles nibbles
   pub is : d ≡ hex_prefix leaf nibbles
 
--- whether the flag is that of a path that ends in a leaf
+-- whether the flag is the flag of a path that ends in a leaf
 abbrev pub is_leaf_flag : ℕ → Bool
 is_leaf_flag flag = flag == 2
 
@@ -73,23 +73,23 @@ is_empty_extension [] = false
 is_empty_extension (first ∷ []) = first == 0x00
 is_empty_extension (first ∷ next ∷ more) = false
 
--- bytes are the path of a leaf, or of an extension: hex-prefix encoded, of this kind, and with a nibble if it is an extension's
+-- bytes are the path of a leaf, or of an extension: hex-prefix encoded, of this kind, and for an extension with at least one nibble
 abbrev pub IsPath : Bool → List ℕ → Type 0
 IsPath leaf d = (ends_in_leaf d ≡ Some leaf) × (is_empty_extension d ≡ false)
 
--- what bytes that are a path of this kind, or of none, give as the path of a leaf, or of an extension
+-- what bytes give as the path of a leaf, or of an extension, by the kind of the path that they are, or `None` if they are no path
 abbrev pub path_of_kind : Bool → List ℕ → Option Bool → Result (List ℕ) Fault
 path_of_kind leaf d None = Err (custom (codes "path is not hex-prefix encoded"))
 path_of_kind leaf d (Some other) =
     if beq other leaf then (if is_empty_extension d then Err (custom (codes "path of an extension is empty")) else Ok d)
     else Err (custom (codes "path is that of another node"))
 
--- What bytes give as the path of a leaf, or of an extension. They fail if they aren't hex-prefix encoded, or are a path of the other kind, or if the path of an
--- extension has no nibbles.
+-- What bytes give as the path of a leaf, or of an extension. Reading fails if the bytes aren't hex-prefix encoded, or are a path of the other kind, or are the path
+-- of an extension with no nibbles.
 abbrev pub path_of : Bool → List ℕ → Result (List ℕ) Fault
 path_of leaf d = path_of_kind leaf d (ends_in_leaf d)
 
--- Why numbers aren't those of a path of a leaf, or of an extension: one isn't a nibble, or there are none for an extension.
+-- Why numbers aren't the nibbles of the path of a leaf, or of an extension: a number isn't a nibble, or an extension has no nibbles.
 pub data IsNibbleFault (leaf : Bool) (x : List ℕ) (e : DecoderError) : Type 0 where
   above_nibbles : ¬ AreNibbles x → fault_of e ≡ custom (codes "nibble is above 15") → IsNibbleFault leaf x e
   no_nibbles : leaf ≡ false → x ≡ [] → fault_of e ≡ custom (codes "path of an extension is empty") → IsNibbleFault leaf x e

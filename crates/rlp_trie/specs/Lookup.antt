@@ -8,7 +8,7 @@ use Rattle.rlp_trie.specs.{declared.trie_node.TrieNode.TrieNode, declared.trie_n
 
 -- ---- one node
 
--- What a node says of a path: the value of the path, or none, or the reference to the node below and the rest of the path.
+-- What a node says of a path: the value of the path, or that it has no value, or the reference to the node below and the rest of the path.
 pub data Step : Type 0 where
   ends : Option (List ℕ) → Step
   goes : Item → List ℕ → Step
@@ -22,7 +22,7 @@ abbrev pub place_step : Option Child → List ℕ → Step
 place_step None rest = ends None
 place_step (Some child) rest = goes (child_item child) rest
 
--- the value of a branch, which is none if it has no bytes
+-- the value of a branch, which is `None` if it has no bytes
 abbrev pub branch_value : List ℕ → Option (List ℕ)
 branch_value [] = None
 branch_value (byte ∷ more) = Some (byte ∷ more)
@@ -48,7 +48,7 @@ pub data StandsFor (Known : List ℕ → Type 0) : Item → List ℕ → Type 0 
   by_hash : (h b : List ℕ) → Known b → h ≡ keccak256 b → StandsFor Known (string h) b
   in_parent : (xs : Items) → StandsFor Known (list xs) (encoding (list xs))
 
--- The trie below a reference, of which these encodings of nodes are known, has this value for a path, or none.
+-- The trie below a reference, of which these encodings of nodes are known, has this value for a path, or no value if `None`.
 pub data HasValue (Known : List ℕ → Type 0) : Item → List ℕ → Option (List ℕ) → Type 0 where
   ends_here : (reference : Item) (b path : List ℕ) (n : TrieNode) (value : Option (List ℕ)) → StandsFor Known reference b → Encodes b n
       → step n path ≡ ends value → HasValue Known reference path value

@@ -11,17 +11,17 @@ abbrev pub next_step : Next → Step
 next_step (Value value) = ends (option_map vec_items value)
 next_step (Below child rest) = goes (child_item child) rest.now
 
--- what a fault of reading a node is for its proof
+-- the fault of a proof with a node that has this fault
 abbrev pub read_fault : DecoderError → ProofFault
 read_fault decoder.OutOfMemory = OutOfMemory
 read_fault fault = FaultyNode fault
 
--- the walk ends with this result, unless memory ran out
+-- the walk ends with this result, unless memory was refused
 abbrev pub IsEnd : List (List ℕ) → Item → List ℕ → Result (Option (Vec ℕ)) ProofFault → Type 0
 IsEnd nodes reference path (Ok value) = Walk nodes reference path (Ok (option_map vec_items value))
 IsEnd nodes reference path (Err e) = Walk nodes reference path (Err e) ⊎ (e ≡ OutOfMemory)
 
--- a result agrees with how the walk ends, unless memory ran out
+-- a result agrees with how the walk ends, unless memory was refused
 abbrev pub Agrees : Result (Option (Vec ℕ)) ProofFault → Result (Option (List ℕ)) ProofFault → Type 0
 Agrees (Ok value) (Ok wanted) = option_map vec_items value ≡ wanted
 Agrees (Ok value) (Err f) = ⊥

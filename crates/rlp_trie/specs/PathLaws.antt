@@ -1,4 +1,4 @@
--- Paths of leaves and of extensions are read back, and from nothing else.
+-- Paths of leaves and of extensions are read back, and are read only from their encodings.
 use Rattle.std.specs.{Prelude.{ℕ, ◌≡◌, ⊤, Bool, true, false, List, Option, Some, None, Ok}, Vec.vec_items}
 use Rattle.std.proofs.{Common.{refl, ap, ◌∙◌}, lemmas.Bool.cond-false}
 use Rattle.rlp_reading.proofs.StringLaws.{ReadsStrings}
@@ -22,7 +22,7 @@ kind_only true d x (Some true) false none is = cc
 kind_only false d x (Some false) true none is = absurd (let no : ⊥ = cc in no)
 kind_only false d x (Some false) false none is = cc
 
--- the bytes of a path are read back, and no others
+-- the bytes of a path are read back, and no other bytes are read
 pub path_strings : (flag : ℕ) → ReadsStrings (λ (p : Path flag). ⊤) (λ p. vec_items p.bytes) (λ p. vec_items p.bytes) (λ d. d) (path_of (is_leaf_flag flag))
 path_strings flag = record {
   back = λ p fit short. path_again (is_leaf_flag flag) (vec_items p.bytes) p.encoded p.some_nibble;

@@ -20,7 +20,7 @@ abbrev pub value_count : List ℕ → ℕ
 value_count [] = 0
 value_count (byte ∷ more) = 1
 
--- the branch has at least two of its children and its value
+-- the branch has at least two children, or a child and a value
 abbrev pub is_possible_branch : Branch → Bool
 is_possible_branch b = nat_le 2 (child_count b.children + value_count (vec_items b.value))
 
@@ -29,12 +29,12 @@ abbrev pub is_branch_count : Result ℕ DecoderError → Bool
 is_branch_count (Ok n) = n == 17
 is_branch_count (Err e) = false
 
--- a node that is named by its hash may be a branch, and a node that is kept in its parent is one if it has as many items
+-- a node that is named by its hash may be a branch, and a node that is kept in its parent may be a branch if it has as many items
 abbrev pub may_be_branch : Child → Bool
 may_be_branch (Node hash) = true
 may_be_branch (Inline n) = is_branch_count (item_count (strict_view_of n.item))
 
--- a trie can have the node: the empty trie, a leaf with a value, an extension whose child may be a branch, or a branch with at least two of its children and its value
+-- a trie can have the node: the empty trie, a leaf with a value, an extension whose child may be a branch, or a branch with at least two children, or with a child and a value
 abbrev pub is_possible : TrieNode → Bool
 is_possible node.Empty = true
 is_possible (node.Leaf l) = nat_le 1 (value_count (vec_items l.value))

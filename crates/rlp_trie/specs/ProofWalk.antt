@@ -1,4 +1,4 @@
--- Proofs of what the trie has for a key: lists of the encodings of its nodes, from the root down.
+-- Proofs of what the trie has for a key: lists of the encodings of nodes of the trie, from the root down.
 use Rattle.std.specs.{Prelude.{ℕ, ◌≡◌, ◌⊎◌, ⊤, if◌then◌else◌, Contains, List, [], ◌∷◌, ◌++◌, codes, Option, Result, Ok, Err}, Str.bytes_eq}
 use Rattle.rlp_records.specs.Keccak.{keccak256}
 use Rattle.rlp.specs.{DecoderError.DecoderError, Format.Encoding.{encoding, Item, list, string}, Views.Text.error_name, Views.View.strict_view_of}
@@ -8,7 +8,7 @@ use Rattle.rlp_trie.specs.declared.proof_fault.ProofFault.{ProofFault}
 use Rattle.rlp_trie.specs.declared.proof_fault.ProofFault.TheVariants.{FaultyNode, MissingNode, NodesLeft, OtherHash, OutOfMemory}
 use Rattle.rlp_trie.specs.declared.trie_node.TrieNode.{TrieNode}
 
--- what prints of a fault
+-- the printed text of a fault
 abbrev pub proof_fault_text : ProofFault → List ℕ
 proof_fault_text MissingNode = codes "MissingNode"
 proof_fault_text OtherHash = codes "OtherHash"
@@ -16,16 +16,16 @@ proof_fault_text (FaultyNode e) = codes "FaultyNode(" ++ error_name e ++ codes "
 proof_fault_text NodesLeft = codes "NodesLeft"
 proof_fault_text OutOfMemory = codes "OutOfMemory"
 
--- the encodings that are known from the nodes of a proof: these, and that of the empty trie
+-- the encodings that are known from a proof: the encodings of its nodes, and the encoding of the empty trie
 abbrev pub IsKnown : List (List ℕ) → List ℕ → Type 0
 IsKnown nodes b = Contains nodes b ⊎ (b ≡ encoding (string []))
 
--- an encoding of the first set and one of the second with equal hashes are equal
+-- an encoding of the first set and an encoding of the second set with equal hashes are equal
 abbrev pub TellApart : (List ℕ → Type 0) → (List ℕ → Type 0) → Type 0
 TellApart Known Other = (b c : List ℕ) → Known b → Other c → keccak256 b ≡ keccak256 c → b ≡ c
 
--- The encoding of the node that a reference stands for, and the nodes of a proof that are left, or why there is none. A list is the node itself. A string is the
--- hash of the next node; only the empty trie needs none.
+-- The encoding of the node that a reference stands for, and the nodes of a proof that are left, or why the proof has no such encoding. A list is the node itself. A
+-- string is the hash of the next node of the proof, except for the hash of the empty trie, which needs no node.
 abbrev pub next_node : Item → List (List ℕ) → Result (List ℕ × List (List ℕ)) ProofFault
 next_node (list xs) nodes = Ok (encoding (list xs), nodes)
 next_node (string h) [] = if bytes_eq h (keccak256 (encoding (string []))) then Ok (encoding (string []), []) else Err MissingNode
@@ -41,7 +41,7 @@ pub record TakesNode (reference : Item) (nodes : List (List ℕ)) (n : TrieNode)
 pub data IsUnread (b : List ℕ) : ProofFault → Type 0 where
   unread : (e : DecoderError) → Faults trie_node.reading (strict_view_of b) e → IsUnread b (FaultyNode e)
 
--- Why a proof gives no node for a reference: it has no encoding for it, or that isn't the encoding of a node.
+-- Why a proof gives no node for a reference: it has no encoding for the reference, or these bytes aren't the encoding of a node.
 pub data IsNoNode (reference : Item) (nodes : List (List ℕ)) (e : ProofFault) : Type 0 where
   no_next : next_node reference nodes ≡ Err e → IsNoNode reference nodes e
   next_unread : (b : List ℕ) (left : List (List ℕ)) → next_node reference nodes ≡ Ok (b, left) → IsUnread b e → IsNoNode reference nodes e
@@ -60,7 +60,7 @@ pub data Walk : List (List ℕ) → Item → List ℕ → Result (Option (List �
 abbrev pub ProofGives : List ℕ → List ℕ → List (List ℕ) → Result (Option (List ℕ)) ProofFault → Type 0
 ProofGives root key nodes outcome = Walk nodes (string root) (nibbles_of key) outcome
 
--- faults of one kind: equal ones, or two of a node that can't be read
+-- faults of one kind: equal faults, or two faults of nodes that can't be read
 abbrev pub IsSameKind : ProofFault → ProofFault → Type 0
 IsSameKind (FaultyNode d) (FaultyNode e) = ⊤
 IsSameKind d e = d ≡ e

@@ -23,7 +23,7 @@ IsTrieNode (Leaf l) = leaf.Fits l
 IsTrieNode (Extension e) = extension.Fits e
 IsTrieNode (Branch b) = branch.Fits b
 
--- What contracts see of a node: of the empty trie that it is empty, and else what they see of the leaf, the extension or the branch.
+-- What contracts see of a node: that it is the empty trie, or what they see of the leaf, the extension or the branch.
 abbrev pub SeenNode : Type 0
 SeenNode = ⊤ ⊎ (leaf.reading.M ⊎ (extension.reading.M ⊎ branch.reading.M))
 
@@ -59,7 +59,7 @@ pair_of b =
     if begins_as_leaf b then map_answer (λ l. inr (inl l)) (leaf.reading.read (strict_view_of b))
     else map_answer (λ e. inr (inr (inl e))) (extension.reading.read (strict_view_of b))
 
--- What a list gives that has this number of items: a leaf or an extension for 2, a branch for 17, and a fault for any other number.
+-- What a list with this number of items gives: a leaf or an extension for 2, a branch for 17, and a fault for any other number.
 abbrev pub list_of_len : List ℕ → ℕ → Answer SeenNode Fault
 list_of_len b n =
     if n == 2 then pair_of b

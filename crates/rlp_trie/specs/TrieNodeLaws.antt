@@ -1,4 +1,4 @@
--- Nodes of the trie are read back, and from nothing else.
+-- Nodes of the trie are read back, and are read only from their encodings.
 use Rattle.std.proofs.Common.{◌≡◌, ◌≢◌, ◌<◌, ◌^◌, ◌==◌, inl, inr, ℕ, Bool, true, false, List, [], ◌∷◌, length, refl, sym, ap, ◌∙◌, Ok, Err, Result, unwrap_or}
 use Rattle.std.proofs.lemmas.Bool.{cond-true, cond-false}
 use Rattle.std.specs.Vec.{vec_items}
@@ -130,7 +130,7 @@ module _ (b : List ℕ) (bytes : AreBytes b) (fits : length b < 2 ^ 64) where
 pub node_only : (b : List ℕ) (n : TrieNode) → AreBytes b → length b < 2 ^ 64 → (node_of b).result ≡ Ok (seen_node n) → IsTrieNode n × (b ≡ encoding (node_item n))
 node_only b n bytes fits is = node_by b bytes fits n (is_empty_string b) refl is
 
--- if two nodes are seen alike and one of the two fits, both fit
+-- if contracts see two nodes alike and one of the two fits, both fit
 node_fits : (n m : TrieNode) → seen_node n ≡ seen_node m → IsTrieNode n → IsTrieNode m
 node_fits n node.Empty same fit = tt
 node_fits node.Empty (node.Leaf m) same fit = absurd (let no : ⊥ = cc in no)
@@ -156,6 +156,6 @@ node_same (node.Branch b) = branch.reads_strictly.told.written b
 pub node_items : ReadsItems IsTrieNode node_item seen_node written_node node_of
 node_items = record { back = node_back; only = node_only; fits = node_fits; same = node_same }
 
--- the first item
+-- nodes of the trie of every kind, read from the first item of a view
 abbrev pub trie_node : Codec TrieNode
 trie_node = lawful (item_type IsTrieNode node_item seen_node written_node node_of true) (items_lawful _ _ _ _ _ true node_items)

@@ -8,15 +8,15 @@ use rlp::{
 };
 use std::alloc::{AllocError, Global};
 
-/// A node of the trie with a child for each next digit of the path to the base 16: the list of the
+/// A node of the trie with a child for each value of the next nibble of the path: the list of the
 /// children and a value.
 ///
 /// See appendix D of the yellow paper.
 #[derive(Debug, Clone, PartialEq, Eq, Drop)]
 pub struct Branch {
-    /// The child for each next digit of the path.
+    /// The child for each value of the next nibble.
     pub children: [BranchChild; 16],
-    /// The value of the path that ends here, or no bytes if there is none.
+    /// The value of the path that ends here, or no bytes if the path has no value.
     pub value: Vec<u8>,
 }
 
@@ -28,7 +28,7 @@ impl Encodable for Branch {
     #[tactic(auto, using(rlp::proofs::Writing::writing))]
     fn rlp_append(&self, s: &mut RlpStream) -> Result<(), AllocError> {
         let children = self.children.as_slice();
-        // This is always so. The test tells the proof the length of the array.
+        // There are always 16 children. The test tells the proof so.
         if children.len() != 16 {
             return Err(AllocError);
         }

@@ -1,4 +1,4 @@
-//! The places of branches of the trie: a child or none.
+//! The places of branches of the trie: a child or no child.
 
 ghost use Rattle.rlp_trie.specs.BranchChildLaws.{branch_child};
 
@@ -10,7 +10,8 @@ use rlp::{
 };
 use std::alloc::{AllocError, Global};
 
-/// The child of a branch for one digit of the path, or `None`, which is written as the empty string.
+/// The child of a branch for one nibble of the path, or `None`, which is written as the empty
+/// string.
 ///
 /// See appendix D of the yellow paper.
 #[derive(Debug, Clone, PartialEq, Eq, Drop)]
@@ -30,8 +31,8 @@ impl Encodable for BranchChild {
     }
 }
 
-/// Reads the first item as a [`Child`] is read, or the empty string as none. Fails as reading a
-/// child does.
+/// Reads the first item as a [`Child`], or the empty string as `None`. Fails as reading a child
+/// does.
 impl Decodable for BranchChild {
     ghost reading = { branch_child.reading };
 

@@ -38,9 +38,9 @@ impl Encodable for Child {
     }
 }
 
-/// Reads the first item, also from a lenient view, with its whole encoding. It takes memory only
-/// for a node that is kept in its parent. Such a node is a canonical item of a depth of at most 256,
-/// and what else is in it isn't tested.
+/// Reads the first item with its whole encoding, also from a lenient view. It allocates only for a
+/// node that is kept in its parent. Such a node must be a list of fewer than 32 bytes with its
+/// header, canonical and of a depth of at most 256. What is in the list isn't tested further.
 ///
 /// Fails as [`Rlp::payload_info`] does, with `RlpIsTooShort` for a string of fewer than 32 bytes,
 /// with `RlpIsTooBig` for a string of more than 32 bytes or a list of 32 bytes or more, and as

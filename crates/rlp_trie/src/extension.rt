@@ -15,7 +15,7 @@ use std::alloc::{AllocError, Global};
 pub struct Extension {
     /// A part of the path.
     pub path: ExtensionPath,
-    /// The node at the end of this part. In a trie it is a branch, but that isn't tested.
+    /// The node at the end of this part. In a trie this node is a branch, which isn't tested.
     pub child: Child,
 }
 

@@ -9,9 +9,9 @@ use std::alloc::{AllocError, Global};
 /// Returns whether a path ends in a leaf, or `None` if the bytes aren't hex-prefix encoded.
 ///
 /// See appendix C of the yellow paper. The first digit of the first byte is the flag of the path: 0
-/// or 1 for an extension, and 2 or 3 for a leaf. If the flag is 0 or 2, the number of nibbles is even,
-/// and the second digit is 0. If it is 1 or 3, the number is odd, and the second digit is the first
-/// nibble. The other bytes have two nibbles each.
+/// or 1 for an extension, and 2 or 3 for a leaf. If the flag is 0 or 2, the number of nibbles is
+/// even, and the second digit is 0. If the flag is 1 or 3, the number of nibbles is odd, and the
+/// second digit is the first nibble. Each byte after the first has two nibbles.
 #[tactic(auto, using(crate::proofs::PathLemmas::told_by_flag))]
 pub fn ends_in_leaf(path: &[u8]) -> Option<bool>
     ensures value { result ≡ ends_in_leaf path.now }
@@ -31,7 +31,7 @@ pub(crate) fn is_empty_extension(path: &[u8]) -> bool
     matches!(path, [0x00])
 }
 
-/// Returns whether each number is a nibble: a digit to the base 16.
+/// Returns whether each number is a nibble: a number below 16.
 pub(crate) fn are_nibbles(numbers: &[u8]) -> bool
     ensures { IsTrue result ↔ AreNibbles numbers.now }
 {

@@ -7,8 +7,8 @@ ghost use Rattle.rlp_trie.specs.Inline.{IsInlineFault};
 use rlp::{DecoderError, RawItem};
 use std::alloc::AllocError;
 
-/// A node of the trie that is kept in its parent: a list of fewer than 32 bytes with its header, which
-/// is canonical as each [`RawItem`] is. What else is in the list isn't tested.
+/// A node of the trie that is kept in its parent: a list that has fewer than 32 bytes with its
+/// header. It is canonical, since each [`RawItem`] is. What is in the list isn't tested further.
 #[derive(Debug, PartialEq, Eq, Drop)]
 pub struct InlineNode {
     /// The list.

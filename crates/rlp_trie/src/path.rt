@@ -30,10 +30,10 @@ pub struct Path<const FLAG: u8> {
 impl<const FLAG: u8> Path<FLAG> {
     /// The path of these bytes, which it copies.
     ///
-    /// Fails with `Custom("path is not hex-prefix encoded")` if the bytes aren't an encoding, and with
-    /// `Custom("path is that of another node")` if they are one of the other kind. Fails with
-    /// `Custom("path of an extension is empty")` if they are the path of an extension with no nibbles,
-    /// and with `OutOfMemory` if memory is refused.
+    /// Fails with `Custom("path is not hex-prefix encoded")` if the bytes aren't hex-prefix
+    /// encoded, and with `Custom("path is that of another node")` if the flag is of the other kind
+    /// of node. Fails with `Custom("path of an extension is empty")` if the bytes are the path of
+    /// an extension with no nibbles, and with `OutOfMemory` if memory is refused.
     pub fn new(alloc: Global, bytes: &[u8]) -> Result<Path<FLAG>, DecoderError>
         ensures value { IfOk result (λ p. path_of (is_leaf_flag FLAG) bytes.now ≡ Ok p.bytes.items) }
         ensures bytes { IfOk result (λ p. p.bytes.items ≡ bytes.now) }
@@ -53,10 +53,10 @@ impl<const FLAG: u8> Path<FLAG> {
         Ok(Path { bytes })
     }
 
-    /// The path of these nibbles, each a digit to the base 16.
+    /// The path of these nibbles, each a number below 16.
     ///
-    /// Fails with `Custom("nibble is above 15")` if a number is no digit, with
-    /// `Custom("path of an extension is empty")` if there are none for an extension, and with
+    /// Fails with `Custom("nibble is above 15")` if a number is above 15, with
+    /// `Custom("path of an extension is empty")` if there are no nibbles for an extension, and with
     /// `OutOfMemory` if memory is refused.
     #[tactic(auto, using(crate::proofs::PathLemmas::made_of_nibbles))]
     pub fn from_nibbles(alloc: Global, nibbles: &[u8]) -> Result<Path<FLAG>, DecoderError>

@@ -9,11 +9,12 @@ use crate::{Branch, BranchChild, Child, TrieNode};
 const BRANCH_ITEMS: usize = 17;
 
 impl TrieNode {
-    /// Whether a trie can have the node, as far as the node shows: a leaf has a value, a branch has at
-    /// least two of its children and its value, and a child that is kept in an extension is a list of
-    /// as many items as a branch. A value of no bytes is no value. The empty trie is possible.
+    /// Whether a trie can have the node, as far as the node itself shows. A leaf must have a value.
+    /// A branch must have at least two children, or a child and a value. A child that is kept in an
+    /// extension must be a list of 17 items, as a branch is. An empty value counts as no value. The
+    /// empty trie is possible.
     ///
-    /// Nodes that a branch keeps, and nodes that are named by their hash, aren't looked at.
+    /// Nodes that are kept in a branch, and nodes that are named by their hash, aren't looked at.
     pub fn is_possible(&self) -> bool
         ensures { result ≡ is_possible self.now }
     {
@@ -26,7 +27,7 @@ impl TrieNode {
     }
 }
 
-/// Returns whether a child may be a branch. A node that is named by its hash may be one.
+/// Returns whether a child may be a branch. A node that is named by its hash may be a branch.
 fn may_be_branch(child: &Child) -> bool
     ensures { result ≡ may_be_branch child.now }
 {

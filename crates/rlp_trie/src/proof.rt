@@ -11,15 +11,16 @@ use crate::{Child, ProofFault};
 use rlp_records::Hash;
 use std::alloc::Global;
 
-/// Returns the value that the trie with this root has for a key, or `None` if it has none, as these
-/// encodings of nodes prove: those on the way from the root down, in order. A node that is kept in
-/// its parent isn't one of them. The empty trie needs no node.
+/// Returns the value that the trie with this root has for a key, or `None` if it has no value.
+/// `nodes` are the encodings of the nodes on the way from the root down, in order, which prove
+/// this. A node that is kept in its parent isn't listed itself. The empty trie needs no node.
 ///
 /// The keys of the tries of Ethereum's state are hashes: of an address, or of a place in storage.
 ///
-/// Fails with `MissingNode` if the nodes end early, with `OtherHash` if the hash of a node isn't the
-/// one that the root or the node above names, with `FaultyNode` if a node can't be read, with
-/// `NodesLeft` if nodes follow the last one, and with `OutOfMemory` if memory is refused.
+/// Fails with `MissingNode` if the nodes end early, with `OtherHash` if the hash of a node isn't
+/// the root or the hash in the node above, with `FaultyNode` if a node can't be read, with
+/// `NodesLeft` if nodes follow the node where the walk ends, and with `OutOfMemory` if memory is
+/// refused.
 pub fn verify_proof(
     alloc: Global,
     root: &Hash,

@@ -12,11 +12,11 @@ use std::fmt;
 pub enum ProofFault {
     /// The nodes end before the walk does.
     MissingNode,
-    /// The hash of a node isn't the one that the root or the node above names.
+    /// The hash of a node isn't the root or the hash in the node above.
     OtherHash,
-    /// A node, or one that is kept in its parent, can't be read.
+    /// A node, or a node that is kept in it, can't be read.
     FaultyNode(DecoderError),
-    /// Nodes follow the one where the walk ends.
+    /// Nodes follow the node where the walk ends.
     NodesLeft,
     /// Memory was refused.
     OutOfMemory,

@@ -10,7 +10,7 @@ use std::alloc::{AllocError, Global};
 /// What a node says of a path.
 #[derive(Drop)]
 pub(crate) enum Next<'a> {
-    /// The value of the path, or `None` if it has none.
+    /// The value of the path, or `None` if the path has no value.
     Value(Option<Vec<u8>>),
     /// The node below, and the rest of the path.
     Below(Child, &'a [u8]),

@@ -16,12 +16,13 @@ use std::alloc::{AllocError, Global};
 
 /// A node of the Merkle Patricia trie of any kind, or the empty trie.
 ///
-/// See appendix D of the yellow paper. A branch is a list of 17 items, and leaves and extensions are
-/// lists of two, which the path tells apart, as [`ends_in_leaf`](crate::ends_in_leaf) explains.
+/// See appendix D of the yellow paper. A branch is a list of 17 items, and leaves and extensions
+/// are lists of two items: the flag of the path says which of the two a node is, as
+/// [`ends_in_leaf`](crate::ends_in_leaf) explains.
 ///
-/// Reading also takes nodes that no trie has: a leaf with an empty value, a branch with fewer than two
-/// of its children and its value, and an extension to a node that isn't a branch.
-/// [`TrieNode::is_possible`] finds most of them.
+/// Reading also takes nodes that no trie has: a leaf with an empty value, a branch that has neither
+/// two children nor a child and a value, and an extension to a node that isn't a branch.
+/// [`TrieNode::is_possible`] finds most of these nodes.
 #[derive(Debug, Clone, PartialEq, Eq, Drop)]
 pub enum TrieNode {
     /// The empty trie, which has no node: the empty string.
@@ -30,7 +31,7 @@ pub enum TrieNode {
     Leaf(Leaf),
     /// A node with one child.
     Extension(Extension),
-    /// A node with a child for each next digit of the path.
+    /// A node with a child for each value of the next nibble.
     Branch(Branch),
 }
 
@@ -50,8 +51,8 @@ impl Encodable for TrieNode {
     }
 }
 
-/// Reads the whole encoding of a node, also from a lenient view, since its hash is of these bytes.
-/// Only bytes that follow the node are ignored.
+/// Reads the whole encoding of a node, also from a lenient view, since these bytes are hashed. From
+/// a lenient view too, only the bytes that follow the node are ignored.
 ///
 /// The empty string is read as the empty trie. Other bytes fail as [`Rlp::payload_info`] and a strict
 /// [`Rlp::item_count`] do, with `RlpIncorrectListLen` for a list that has neither 2 nor 17 items, and
@@ -130,8 +131,8 @@ fn is_leaf(bytes: &[u8]) -> bool
 }
 
 impl TrieNode {
-    /// Returns the hash of the node's encoding. It names the root, and each node of 32 bytes or more.
-    /// A shorter node stands in its parent.
+    /// Returns the hash of the node's encoding. This hash names the root, and each node whose
+    /// encoding has 32 bytes or more. A shorter node is kept in its parent.
     pub fn hash(&self, alloc: Global) -> Result<Hash, AllocError>
         ensures fits { OnOk result (trie_node.Fits self.now) }
         ensures hash { IfOk result (λ h. IsHashOf h (encoding (trie_node.item self.now))) }

@@ -13,7 +13,7 @@ use rlp_records::{Hash, keccak256};
 use std::alloc::Global;
 
 /// Walks from a child along a path, over the nodes of a proof. Returns the value that the trie has
-/// for the path, or `None` if it has none.
+/// for the path, or `None` if it has no value.
 pub(crate) fn walk(
     alloc: Global,
     first: Child,
@@ -47,7 +47,7 @@ pub(crate) fn walk(
     }
 }
 
-/// Reads the node of a child. Returns it, and the nodes of the proof that are left.
+/// Reads the node of a child. Returns the node, and the nodes of the proof that are left.
 fn take_node<'a>(
     alloc: Global,
     child: &Child,
@@ -93,7 +93,7 @@ fn next_named<'a>(
     }
 }
 
-/// Returns whether a hash is that of bytes.
+/// Returns whether a hash is the hash of these bytes.
 fn is_hash_of(hash: &Hash, bytes: &[u8]) -> bool
     ensures { result ≡ bytes_eq hash.now.0 (keccak256 bytes.now) }
 {
@@ -111,7 +111,7 @@ fn read_node(alloc: Global, bytes: &[u8]) -> Result<TrieNode, ProofFault>
     }
 }
 
-/// Returns what a fault of reading a node is for its proof.
+/// Returns the fault of a proof with a node that has this fault.
 fn read_fault(fault: DecoderError) -> ProofFault
     ensures { result ≡ read_fault fault }
 {

@@ -12,7 +12,7 @@ pub mod Layout
 pub mod Closing
 -- how a state grows
 pub mod Growth
--- what a refusal leaves of a stream in a chain
+-- what a call that fails in a chain leaves of a stream
 pub mod Chain
 -- the place that a call notes, to go back to it later
 pub mod Places

@@ -10,9 +10,9 @@ use crate::open_lists::{OpenLists, is_last};
 /// What the count of some items will do.
 #[derive(Clone, Copy)]
 pub(crate) struct Plan {
-    /// The number of lists that it closes.
+    /// The number of lists that the count closes.
     pub(crate) closing: usize,
-    /// The number of bytes that their headers add to the buffer.
+    /// The number of bytes that the headers of these lists add to the buffer.
     pub(crate) growth: usize,
 }
 
@@ -71,9 +71,9 @@ pub(crate) fn closed_len(lists: &OpenLists, start: usize, end: usize, more: usiz
     (left - start).checked_add(tail)
 }
 
-/// Closes the given number of innermost lists. The buffer has `end` bytes, and behind them the room
-/// for the growth. It works from the inside out. It moves each stretch of payload between two
-/// placeholders once, to its last place, and writes each header in front of its payload.
+/// Closes the given number of innermost lists. The buffer has `end` bytes, and room for the growth
+/// behind them. It closes the lists from the inside out. It moves each stretch of payload between
+/// two placeholders once, to its last place, and writes each header in front of its payload.
 pub(crate) fn close_lists(buffer: &mut Buffer, lists: &mut OpenLists, closing: usize, end: usize)
     requires order { Descends end lists.old }
     requires enough { closing ≤ length lists.old }

@@ -23,7 +23,8 @@ pub fn write_envelope<T: Encodable>(
     ensures ok { OnOk result
         (s.new.state ≡ put_item (string (tag ∷ encoding (T.item payload.now))) s.old.state) }
     ensures refused { OnErr result (IsAsBefore s.old s.new) }
-    // This follows. An `rlp_append` that returns the result needs no lemma for it.
+    // This clause follows from the clauses above: with it, an `rlp_append` that returns the result
+    // needs no lemma.
     ensures grows { OnErr result (GrowsTo s.old.state s.new.state) }
     ensures moved { s.old.moved ≤ s.new.moved }
 {

@@ -1,5 +1,5 @@
 //! A stream as one flat buffer, and the moves on it. Only the functions of this module touch the
-//! fields of a stream: all others see its state.
+//! fields of a stream: all other functions see its state.
 
 ghost use Rattle.std.specs.Prelude.{◌≡◌, ◌≤◌, ◌<◌, ◌+◌, ◌*◌, ◌^◌, ◌++◌, ◌↔◌, ℕ, List, IsTrue, IsOk, OnOk, OnErr, false, length, min};
 ghost use Rattle.std.specs.{Iterator.IsFiniteIterable, Option.SomeIff};
@@ -21,11 +21,12 @@ use std::marker::Model;
 /// unbounded list has no such number, and [`RlpStream::finalize_unbounded_list`] closes it. Lists
 /// may nest. A closed list is one item of the list around it.
 ///
-/// Contracts see its state: the front, which is the bytes handed in, what was written after it, the
-/// open lists, and `is_counted`, which tells [`RlpStream::append`] whether the value that was just
-/// written is counted already. They also see how many more bytes the buffer takes without an
-/// allocation, and how many bytes of payload were moved to make place for headers. A refused call
-/// leaves the state as it was, including `is_counted`.
+/// Contracts see the state of a stream: the front, which is the bytes that the stream was given
+/// when it was made, what was written after the front, the open lists, and `is_counted`, which
+/// tells [`RlpStream::append`] whether the value that was just written is counted already. They
+/// also see how many more bytes the buffer takes without an allocation, and how many bytes of
+/// payload were moved to make place for headers. A call that fails leaves the state as it was,
+/// including `is_counted`.
 ///
 /// ```rust
 /// let mut s = rlp::RlpStream::new_list(alloc, 2)?;
@@ -110,7 +111,8 @@ impl RlpStream {
             (self.new.state ≡ put (encoding (string value.now)) self.old.state) }
         ensures room { length (encoding (string value.now)) ≤ self.old.spare → IsOk result }
         ensures refused { OnErr result (IsAsBefore self.old self.new) }
-        // This follows. An `rlp_append` that returns the result needs no lemma for it.
+        // This clause follows from the clauses above: with it, an `rlp_append` that returns the
+        // result needs no lemma.
         ensures grows { OnErr result (GrowsTo self.old.state self.new.state) }
         ensures moved { self.new.moved ≡ self.old.moved }
     {
@@ -150,7 +152,7 @@ impl RlpStream {
     }
 
     /// Puts bytes, and counts items. It makes all room before anything changes. With no list open
-    /// it is refused only if the stream has too little room for the bytes.
+    /// it fails only if the stream has too little room for the bytes.
     #[inline(always)]
     pub(crate) fn put_counted(&mut self, bytes: &[u8], items: usize) -> Result<(), AllocError>
         ensures ok { OnOk result (self.new.state ≡ count items (put bytes.now self.old.state)) }
@@ -168,7 +170,7 @@ impl RlpStream {
         Ok(())
     }
 
-    /// The same if the count closes a list. It is out of line, since most calls close none.
+    /// The same if the count closes a list. It is out of line, since most calls close no list.
     #[inline(never)]
     fn put_closing(&mut self, bytes: &[u8], items: usize) -> Result<(), AllocError>
         requires { IsTrue (is_counted_after items self.old.state.stack.lists false) }
@@ -286,15 +288,15 @@ impl RlpStream {
         self.lists.is_innermost_unbounded()
     }
 
-    /// The number of items that the innermost open list awaits. `None` if it is unbounded, or if no
-    /// list is open.
+    /// The number of items that the innermost open list awaits. `None` if that list is unbounded,
+    /// or if no list is open.
     pub fn items_awaited(&self) -> Option<usize>
         ensures { result ≡ awaited self.now.state.stack.lists }
     {
         self.lists.innermost_awaits()
     }
 
-    /// The number of innermost lists that are unbounded, or `most` if there are more.
+    /// The number of innermost lists that are unbounded, at most `most`.
     pub(crate) fn unbounded_lists(&self, most: usize) -> usize
         ensures { result ≡ min most (unbounded_count self.now.state.stack.lists) }
     {
@@ -309,7 +311,7 @@ impl RlpStream {
         self.buffer.as_slice()
     }
 
-    /// The front and the encodings after it. No list may be open. Test it by
+    /// The front, and then the payload of the top. No list may be open: test this by
     /// [`RlpStream::is_finished`].
     pub fn out(self) -> BytesMut
         requires { IsFinished self.state }

@@ -6,10 +6,11 @@ ghost use Rattle.rlp_format.specs.Format.Encoding.{big_endian, written_header};
 use rlp_format::digits::leading_zero_bytes;
 use std::marker::Model;
 
-/// The header of a short string is this and its length.
+/// The header of a short string is the sum of this number and the length of the string.
 pub const STRING: u8 = 0x80;
 
-/// The header of a list with a short payload is this and the payload's length.
+/// The header of a list with a short payload is the sum of this number and the length of the
+/// payload.
 pub const LIST: u8 = 0xc0;
 
 /// The greatest length with a header of one byte.

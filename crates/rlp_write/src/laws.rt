@@ -14,8 +14,8 @@ pub fn constants_are_encodings()
     ensures empty_list { EMPTY_LIST_RLP ≡ encoding (list_of []) }
 {}
 
-/// Closing the innermost list doesn't change the bytes that there are once every list is closed.
-/// Neither does counting.
+/// Neither closing the innermost list nor counting items changes the bytes that the stream has once
+/// every list is closed.
 #[tactic(auto, using(crate::proofs::Streams::States::states))]
 pub fn closing_keeps_what_is_closed()
     ensures shut { (s : State) → closed_text (shut s) ≡ closed_text s }
@@ -55,8 +55,8 @@ pub fn finished_streams_have_their_closed_size()
         → length (s.front ++ s.stack.inner) ≡ length s.front + closed_size s }
 {}
 
-/// A state grows to itself. If it grows to a second state, and that to a third, it grows to the
-/// third.
+/// A state grows to itself. If a state grows to a second state, and the second to a third, the
+/// first grows to the third.
 #[tactic(auto, using(crate::proofs::Streams::Growth::growth))]
 pub fn growth_is_an_order()
     ensures same { (s : State) → GrowsTo s s }
@@ -69,14 +69,15 @@ pub fn growth_of_moves()
     ensures opened { (awaits : Option ℕ) (s : State) → GrowsTo s (with_list awaits s) }
 {}
 
-/// A bounded list is open only while it awaits an item. No call leaves one open that awaits none.
+/// A bounded list is open only while it awaits an item. No call leaves a bounded list open that
+/// awaits no item.
 #[tactic(auto, using(crate::proofs::Streams::Awaits::awaiting))]
 pub fn open_lists_await_items()
     ensures { (c : Call) (s : State) → AllAwait s.stack.lists → AllAwait (effect c s).stack.lists }
 {}
 
-/// Finalizing the n innermost unbounded lists in one call equals n single calls: each of them is
-/// admitted, and the last leaves the same state.
+/// Finalizing the n innermost unbounded lists in one call equals n single calls: each single call
+/// is admitted, and the last of them leaves the same state.
 pub fn unbounded_lists_are_finalized_in_turn()
     ensures admitted { (n : ℕ) (s : State) → n < unbounded_count s.stack.lists
         → IsTrue (is_admitted finalize_unbounded_list s)

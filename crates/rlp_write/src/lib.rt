@@ -1,6 +1,6 @@
 //! Writing: streams, and values that are appended to them. It depends on `rlp_format` and `bytes`.
-//! Users list `rlp`, which re-exports every public name but [`append_list_encoding`], which only its
-//! `RawItem` may call, and those of `header`.
+//! Users list `rlp`, which re-exports every public name but the names of `header` and
+//! [`append_list_encoding`], which only the `RawItem` of `rlp` may call.
 #![tactic(auto)]
 
 mod buffer;

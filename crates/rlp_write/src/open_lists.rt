@@ -101,8 +101,8 @@ impl OpenLists {
         self.lists.is_empty()
     }
 
-    /// The number of items that the innermost list awaits. `None` if it is unbounded, or if no list
-    /// is open.
+    /// The number of items that the innermost list awaits. `None` if that list is unbounded, or if
+    /// no list is open.
     pub(crate) fn innermost_awaits(&self) -> Option<usize>
         ensures { result ≡ innermost_awaits self.now }
     {
@@ -119,7 +119,7 @@ impl OpenLists {
         }
     }
 
-    /// Whether the count of these items closes the innermost list, and perhaps others around it.
+    /// Whether the count of these items closes the innermost list, and perhaps lists around it.
     #[inline]
     pub(crate) fn closes(&self, items: usize) -> bool
         ensures { result ≡ closes items self.now }
@@ -130,7 +130,7 @@ impl OpenLists {
         }
     }
 
-    /// Returns the number of innermost lists that are unbounded, or `most` if there are more.
+    /// Returns the number of innermost lists that are unbounded, at most `most`.
     pub(crate) fn count_unbounded(&self, most: usize) -> usize
         ensures { result ≡ min most (unbounded_innermost self.now) }
     {
@@ -145,7 +145,7 @@ impl OpenLists {
         count
     }
 
-    /// Opens a list inside the others.
+    /// Opens a list inside all open lists.
     #[inline]
     pub(crate) fn push(&mut self, list: Placeholder) -> Result<(), AllocError>
         ensures ok { OnOk result (self.new ≡ list ∷ self.old) }
@@ -213,7 +213,7 @@ impl OpenLists {
     }
 }
 
-/// Whether these items are the last that a list awaits.
+/// Whether these items are the last items that a list awaits.
 #[inline]
 pub(crate) fn is_last(items: usize, awaits: Option<usize>) -> bool
     ensures { result ≡ is_last items awaits }

@@ -26,7 +26,7 @@ use std::alloc::{AllocError, Global};
 const STARTING_CAPACITY: usize = 1024;
 
 impl RlpStream {
-    /// An empty stream. Fails with `AllocError` if its first room is refused.
+    /// An empty stream. Fails with `AllocError` if memory is refused.
     pub fn new(alloc: Global) -> Result<RlpStream, AllocError>
         ensures state { IfOk result (λ s. s.state ≡ initial_state []) }
         ensures spare { IfOk result (λ s. 1024 ≤ s.spare) }
@@ -86,8 +86,9 @@ impl RlpStream {
         Ok(Chain { stream: self })
     }
 
-    /// Appends the string of the bytes that an iterator gives. It writes them as they come, and
-    /// then the header for their number. The iterator must end.
+    /// Appends the string of the bytes that an iterator gives. It writes each byte when the
+    /// iterator gives it, and then inserts the header for the number of bytes. The iterator must
+    /// end.
     pub fn append_iter<I: IntoIterator<Item = u8>>(
         &mut self,
         value: I,
@@ -104,7 +105,8 @@ impl RlpStream {
         Ok(Chain { stream: self })
     }
 
-    /// Appends the list of the values: begins a list that awaits all of them, and appends each.
+    /// Appends the list of the values: begins a list that awaits as many items as there are values,
+    /// and appends each value.
     pub fn append_list<E: Encodable>(&mut self, values: &[E]) -> Result<Chain<'_>, AllocError>
         ensures* refused { sem 𝓛 (stays_if_refused self.entry result) }
         ensures fits { OnOk result (All E.fits values.now) }
@@ -146,8 +148,9 @@ impl RlpStream {
         Ok(Chain { stream: self })
     }
 
-    /// Puts bytes as they are, and counts `item_count` items. The innermost open list, if it has a
-    /// bound, must await at least that number. Test it by [`RlpStream::items_awaited`].
+    /// Puts bytes as they are, and counts `item_count` items. If the innermost open list is
+    /// bounded, it must await at least that number of items: test this by
+    /// [`RlpStream::items_awaited`].
     ///
     /// It doesn't test whether the bytes are encodings of that number of items.
     pub fn append_raw(&mut self, bytes: &[u8], item_count: usize) -> Result<Chain<'_>, AllocError>
@@ -197,8 +200,8 @@ impl RlpStream {
         self.put_counted(bytes, item_count).map(|()| true)
     }
 
-    /// Begins a list that awaits `len` items. The last of them closes it. A list of no items is
-    /// written at once.
+    /// Begins a list that awaits `len` items. The last of these items closes the list. A list of no
+    /// items is written at once.
     pub fn begin_list(&mut self, len: usize) -> Result<Chain<'_>, AllocError>
         ensures* refused { sem 𝓛 (rests_if_refused self.entry result) }
         ensures ok { IfOk result
@@ -223,7 +226,7 @@ impl RlpStream {
     }
 
     /// Closes the innermost open list, and counts it in the list around it. The list must be
-    /// unbounded. Test it by [`RlpStream::can_finalize`]. The closed size stays.
+    /// unbounded: test this by [`RlpStream::can_finalize`]. The closed size doesn't change.
     pub fn finalize_unbounded_list(&mut self) -> Result<(), AllocError>
         requires { IsTrue (is_admitted finalize_unbounded_list self.old.state) }
         ensures ok { OnOk result (self.new.state ≡ effect finalize_unbounded_list self.old.state) }
@@ -239,8 +242,8 @@ impl RlpStream {
     /// out, and returns their number. It does the same as that number of calls of
     /// [`RlpStream::finalize_unbounded_list`], but moves each byte of payload at most once.
     ///
-    /// The last of them counts as an item of the list around it, and may fill that list. Then that
-    /// list is closed too, as by any last item.
+    /// The outermost of the closed lists counts as an item of the list around it. If that list
+    /// awaits no further item, it is closed too.
     ///
     /// ```rust
     /// let mut s = rlp::RlpStream::new(alloc)?;
@@ -263,8 +266,8 @@ impl RlpStream {
         Ok(count)
     }
 
-    /// The size of [`RlpStream::len`] with `add` more bytes put. It must be less than 2^64. Test it
-    /// by [`RlpStream::checked_estimate_size`].
+    /// The size of [`RlpStream::len`] with `add` more bytes put. The size must be less than 2^64:
+    /// test this by [`RlpStream::checked_estimate_size`].
     pub fn estimate_size(&self, add: usize) -> usize
         requires { closed_size_with add self.now.state < 2 ^ 64 }
         ensures { result ≡ closed_size_with add self.now.state }
@@ -272,7 +275,7 @@ impl RlpStream {
         self.checked_estimate_size(add).unwrap()
     }
 
-    /// A writer of strings into this stream. It doesn't count them.
+    /// A writer of strings into this stream. It doesn't count the strings.
     pub fn encoder(&mut self) -> BasicEncoder<'_>
         ensures same_reference { result.stream.ghost_name ≡ self.entry.ghost_name }
         ensures same { result.stream.now ≡ self.old }

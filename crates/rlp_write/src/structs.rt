@@ -19,7 +19,7 @@ use std::alloc::AllocError;
 ///
 /// A reference to a value is one item. [`ListOf`] is one item too: the list of the values of a
 /// slice. [`Each`] is one item for each value of a slice, and [`Flattened`] is the fields of each
-/// value. A pair is the items of its first part, and then those of its second part.
+/// value. A pair is the items of its first part, and then the items of its second part.
 pub trait AppendFields {
     /// The items, in order.
     ghost items: { Self → List Item };

@@ -31,8 +31,8 @@ abbrev pub items_after_all : List Step → Stack Item → Stack Item
 items_after_all [] s = s
 items_after_all (m ∷ ms) s = items_after_all ms (items_after m s)
 
--- Which step a call is in the state s. Raw bytes add items if they are the joined encodings of the announced number of items, and P holds for each. A checked
--- raw call does nothing if the size is too large. Strings that are written without being counted aren't described.
+-- Which step a call is in the state s. Raw bytes add items if they are the joined encodings of the announced number of items, and P holds for each. A checked call
+-- with raw bytes does nothing if the closed size is too large. Strings that are written without being counted aren't described.
 pub data DescribesWhere (P : Item → Type 0) (s : State) : Call → Step → Type 0 where
   by_append : (x : Item) → DescribesWhere P s (append x) (brings (x ∷ []))
   by_empty_data : DescribesWhere P s append_empty_data (brings (string [] ∷ []))
@@ -60,7 +60,7 @@ pub record IsDescribedWhere (P : Item → Type 0) (front : List ℕ) (calls : Li
   pub described : AreDescribedWhere P (initial_state front) calls steps
   pub finished : items_after_all steps empty_stack ≡ record { inner = items; lists = [] }
 
--- this holds for every item
+-- a fact that holds for every item
 abbrev pub IsAny : Item → Type 0
 IsAny x = Unit
 

@@ -71,8 +71,8 @@ impl Decodable for u128 {
 }
 
 /// Reads a number of at most `WIDTH` bytes, from 1 to 8. A number that is its own encoding is read
-/// at once. Others are read out of line. The header of a number is one byte, which is read faster
-/// than a header that was read before is found.
+/// at once. Any other number is read out of line. The header of a number is one byte, and reading
+/// it again is faster than looking up its length.
 #[inline(always)]
 fn number_within<const WIDTH: usize>(rlp: &Rlp<'_>) -> Result<usize, DecoderError>
     requires some { 1 ≤ WIDTH }
@@ -138,8 +138,8 @@ pub(crate) fn number_digits<'a>(rlp: &Rlp<'a>, width: usize) -> Result<&'a [u8],
     Ok(digits)
 }
 
-/// Tests whether these are the digits of a number of at most `width` bytes: first their number, and
-/// then the first digit.
+/// Tests whether these are the digits of a number of at most `width` bytes: first the number of
+/// digits, and then the first digit.
 #[inline(always)]
 fn check_digits(digits: &[u8], width: usize) -> Result<(), DecoderError>
     ensures few { IfOk result (λ _. length digits.now ≤ width) }

@@ -8,11 +8,11 @@ use crate::traits::{Decodable, RoundTrip, StrictRead};
 use rlp_reading::error::DecoderError;
 use std::alloc::Global;
 
-/// Reads `None` from a list of no items, and `Some` of the item's value from a list of one item. Of
-/// a lenient view it looks at two items at most. Of a strict view it walks over all items if there
-/// are more.
+/// Reads `None` from a list of no items, and `Some` of the item's value from a list of one item. It
+/// looks at two items at most of a lenient view. It walks over all items of a strict view that has
+/// more than two.
 ///
-/// Fails with `RlpExpectedToBeList` if there are no bytes or the first byte is one of a string, and
+/// Fails with `RlpExpectedToBeList` if there are no bytes or the first byte begins a string, and
 /// with `RlpIncorrectListLen` if there is more than one item.
 impl<T: Decodable> Decodable for Option<T> {
     ghost reading = { option_reading T.reading };

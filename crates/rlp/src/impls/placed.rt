@@ -1,5 +1,5 @@
-//! Values that are one string or one item of any kind: their faults are of the whole item. And values
-//! that hold other values.
+//! Where reading fails, for values that are one string or one item of any kind, whose faults are
+//! faults of the whole item, and for values that hold other values.
 
 ghost use Rattle.std.specs.Prelude.{◌≡◌};
 

@@ -144,9 +144,9 @@ impl Encodable for RawItem {
 
 /// Reads the bytes of the first item, with one copy, whatever the item is.
 ///
-/// Reading fails as [`Rlp::payload_info`] does if the view doesn't begin with a framed item, and
-/// as [`RawItem::new`] does if that isn't canonical or nests too deep. This holds for a lenient
-/// view too, which ignores only the bytes that follow the item.
+/// Reading fails as [`Rlp::payload_info`] does if the view doesn't begin with a framed item, and as
+/// [`RawItem::new`] does if the item isn't canonical or nests too deep. A lenient view fails in the
+/// same cases: it ignores only the bytes that follow the item.
 impl Decodable for RawItem {
     ghost reading = { raw_item.reading };
 

@@ -5,10 +5,10 @@ ghost use Rattle.rlp_format.specs.Format.Encoding.{Item, join, IsSized};
 ghost use Rattle.rlp_write.specs.Streams.Stream.{empty_stack, State, initial_state, Call, after};
 ghost use Rattle.rlp.specs.Streams.Described.{Step, AreDescribed, AreDescribedWhere, IsDescribed, IsDescribedWhere, items_after_all, joined_stack, FinishAs};
 
-/// Calls that describe items are admitted, and leave payloads that are each the join of their
-/// items. If no list is left open, the buffer is the front and the join of the items described, and
-/// the calls describe no other items. All of this also holds if each item of raw bytes has to pass
-/// a test, since the calls describe the same items without it.
+/// If calls describe items, each call is admitted, and each payload is the joined encodings of its
+/// items. If no list is left open, the buffer is the front and the joined encodings of the items
+/// described, and the calls describe no other items. The same holds if each item of raw bytes has
+/// to pass a test: without the test the calls describe the same items.
 pub fn stream_joins_what_is_described()
     ensures payloads { (front : List ℕ) (calls : List Call) (steps : List Step)
         → AreDescribed (initial_state front) calls steps
@@ -30,8 +30,8 @@ pub fn stream_joins_what_is_described()
         → IsDescribed front calls items }
 {}
 
-/// If calls describe items, the finished buffer is the front and the join of the items. Over one
-/// front, two finished buffers are equal if and only if the items described are.
+/// If calls describe items, the finished buffer is the front and the joined encodings of the items.
+/// Two finished buffers with the same front are equal if and only if the same items are described.
 pub fn finished_buffers_tell_items(one: &[u8], other: &[u8])
     ensures joined { (front : List ℕ) (calls : List Call) (xs : List Item)
         → IsDescribed front calls xs → FinishAs front calls (front ++ join xs) }

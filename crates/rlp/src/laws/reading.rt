@@ -12,53 +12,55 @@ use crate::structs::DecodeFields;
 use crate::traits::Decodable;
 use rlp_write::Encodable;
 
-/// A view gives one value of a type, as contracts see it, and has no fault, or gives none and has
-/// one fault.
+/// A view either gives one value of a type, as contracts see the value, and has no fault, or gives
+/// no value and has one fault.
 pub fn one_reading<T: Decodable>(rlp: &Rlp<'_>)
     ensures { HasOneAnswer T.reading rlp.now }
 {}
 
-/// `read_string` gives the one string whose encoding the bytes begin with. If they begin with none,
-/// it gives the fault of the first case that applies.
+/// `read_string` gives the one string whose encoding the bytes begin with. If the bytes begin with
+/// no such encoding, it gives the fault of the first case that applies.
 pub fn string_is_read(bytes: &[u8])
     ensures read { ReadsString bytes.now (read_string bytes.now) }
     ensures only { (d : List ℕ) → IsString bytes.now d → read_string bytes.now ≡ Ok d }
 {}
 
-/// For each width, bytes give one number and have no fault, or give none and have one fault. The
-/// numbers of `N` bytes are those of `Uint<N>` too.
+/// For each width, bytes either give one number and have no fault, or give no number and have one
+/// fault. The law for `N` bytes is also the law for `Uint<N>`.
 pub fn number_is_read(bytes: &[u8])
     ensures { (width : ℕ)
         → HasOneReading number_item (Gives (number width).reading (view_of bytes.now))
         (Faults (number width).reading (view_of bytes.now)) }
 {}
 
-/// Bytes give one byte string and have no fault, or give none and have one fault.
+/// Bytes either give one byte string and have no fault, or give no byte string and have one fault.
 pub fn bytes_are_read(bytes: &[u8])
     ensures { HasOneReading string (Gives (byte_string (λ d. d)).reading (view_of bytes.now))
         (Faults (byte_string {B = List ℕ} (λ d. d)).reading (view_of bytes.now)) }
 {}
 
-/// For each length, bytes give one array and have no fault, or give none and have one fault.
+/// For each length, bytes either give one array and have no fault, or give no array and have one
+/// fault.
 pub fn arrays_are_read(bytes: &[u8])
     ensures { (n : ℕ) → HasOneReading string (Gives (byte_array n).reading (view_of bytes.now))
         (Faults (byte_array n).reading (view_of bytes.now)) }
 {}
 
-/// A view, lenient or strict, gives one raw item and has no fault, or gives none and has one fault.
+/// A view, lenient or strict, either gives one raw item and has no fault, or gives no raw item and
+/// has one fault.
 pub fn raw_item_is_read(rlp: &Rlp<'_>)
     ensures { HasOneReading raw_item_of (Gives raw_item.reading rlp.now)
         (Faults raw_item.reading rlp.now) }
 {}
 
-/// Bytes give one text and have no fault, or give none and have one fault.
+/// Bytes either give one text and have no fault, or give no text and have one fault.
 pub fn text_is_read(bytes: &[u8])
     ensures { HasOneReading string (Gives (text (λ d. d)).reading (view_of bytes.now))
         (Faults (text {B = List ℕ} (λ d. d)).reading (view_of bytes.now)) }
 {}
 
-/// If each item gives one value of a type or has one fault, bytes give one option of it or have one
-/// fault.
+/// If each item gives one value of a type or has one fault, bytes give one option of the type or
+/// have one fault.
 pub fn option_is_read<T: Encodable + Decodable>(bytes: &[u8])
     ensures { ((item : View) → AreBytes item.bytes → length item.bytes < 2 ^ 64
         → HasOneReading T.item (Gives T.reading item) (Faults T.reading item))
@@ -87,7 +89,8 @@ pub fn options_are_read(bytes: &[u8])
         (Faults (option (text {B = List ℕ} (λ d. d))).reading (view_of bytes.now)) }
 {}
 
-/// If each item gives one value of a type or has one fault, so do options of its options.
+/// If each item gives one value of a type or has one fault, bytes give one option of an option of
+/// the type or have one fault.
 pub fn option_of_option_is_read<T: Encodable + Decodable>(bytes: &[u8])
     ensures { ((item : View) → AreBytes item.bytes → length item.bytes < 2 ^ 64
         → HasOneReading T.item (Gives T.reading item) (Faults T.reading item))
@@ -96,14 +99,14 @@ pub fn option_of_option_is_read<T: Encodable + Decodable>(bytes: &[u8])
         (Faults (option_reading (option_reading T.reading)) (view_of bytes.now)) }
 {}
 
-/// Bytes give one `bool` and have no fault, or give none and have one fault.
+/// Bytes either give one `bool` and have no fault, or give no `bool` and have one fault.
 pub fn bool_is_read(bytes: &[u8])
     ensures { HasOneReading (λ b. number_item (bit b)) (Gives truth_value.reading (view_of bytes.now))
         (Faults truth_value.reading (view_of bytes.now)) }
 {}
 
-/// If each item gives one value of a type or has one fault, the item in each place gives some value
-/// of it or has one fault. So a field of the type has one reading.
+/// If each item gives one value of a type or has one fault, the item in each place of a list gives
+/// some value of the type or has one fault. So a field of the type has one reading.
 pub fn field_is_read<T: Encodable + Decodable>(bytes: &[u8])
     ensures lenient { ((item : View) → AreBytes item.bytes → length item.bytes < 2 ^ 64
         → HasOneReading T.item (Gives T.reading item) (Faults T.reading item))
@@ -117,8 +120,8 @@ pub fn field_is_read<T: Encodable + Decodable>(bytes: &[u8])
         (Faults (reading_at i T.reading) (strict_view_of bytes.now)) }
 {}
 
-/// A view gives one value of a struct, as contracts see it, and has no fault, or gives none and has
-/// one fault.
+/// A view either gives one value of a struct, as contracts see the value, and has no fault, or
+/// gives no value and has one fault.
 pub fn struct_is_read<F: DecodeFields>(rlp: &Rlp<'_>)
     ensures { HasOneAnswer (struct_reading F.reading) rlp.now }
 {}

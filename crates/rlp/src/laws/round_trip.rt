@@ -10,7 +10,7 @@ use rlp_reading::error::DecoderError;
 use std::alloc::Global;
 
 /// A slice that begins with the encoding of a value that fits gives exactly the values that fit and
-/// are alike to it, and has no fault.
+/// are alike to that value, and has no fault.
 pub fn encoding_is_read_back<T: RoundTrip>(bytes: &[u8])
     ensures { (v : T) → T.fits v → HoldsItem (view_of bytes.now) (T.item v)
         → ReadsBack T.fits T.item (Gives T.reading) (Faults T.reading) (view_of bytes.now) v }
@@ -24,8 +24,8 @@ pub fn scalar_is_read<T: Scalar>(bytes: &[u8])
 {}
 
 /// If bytes begin with the encoding of a list of values, the items are the encodings of the values,
-/// in order. Each item gives the values that fit and are alike to the value in its place, no
-/// others, and has no fault. So the bytes give the list of the values if all of them fit.
+/// in order. Each item gives exactly the values that fit and are alike to the value in its place,
+/// and has no fault. So the bytes give the list of the values if all of them fit.
 pub fn list_is_read_back<T: RoundTrip>(bytes: &[u8])
     ensures items { (vs : List T) → BeginsWith bytes.now (encoding (list_of (map T.item vs)))
         → items bytes.now ≡ map (λ v. encoding (T.item v)) vs }
@@ -39,7 +39,7 @@ pub fn list_is_read_back<T: RoundTrip>(bytes: &[u8])
 {}
 
 /// The value that bytes begin with. If they begin with the encoding of a value that fits, the
-/// result is alike to that value, or memory ran out.
+/// result is alike to that value, or memory is refused.
 pub fn encoding_is_decoded<T: RoundTrip>(alloc: Global, bytes: &[u8]) -> Result<T, DecoderError>
     ensures alike { (v : T) → T.fits v → BeginsWith bytes.now (encoding (T.item v))
         → IfOk result (λ w. T.fits w × AreAlike T.item w v) }
@@ -50,7 +50,7 @@ pub fn encoding_is_decoded<T: RoundTrip>(alloc: Global, bytes: &[u8]) -> Result<
 }
 
 /// The value that bytes begin with. It is alike to a value that fits if and only if they begin with
-/// the encoding of that value. If they do, the call fails only if memory runs out.
+/// the encoding of that value. If they do, the call fails only if memory is refused.
 pub fn scalar_is_decoded<T: Scalar>(alloc: Global, bytes: &[u8]) -> Result<T, DecoderError>
     ensures only { (v : T) → IsOkAnd result (λ w. AreAlike T.item w v)
         → BeginsWith bytes.now (encoding (T.item v)) }
@@ -64,7 +64,7 @@ pub fn scalar_is_decoded<T: Scalar>(alloc: Global, bytes: &[u8]) -> Result<T, De
 
 /// The values of the items of a list. If bytes begin with the encoding of a list of values that
 /// fit, the result has the same number of values, and each fits and is alike to the value in its
-/// place. The call then fails only if memory runs out.
+/// place. The call then fails only if memory is refused.
 pub fn list_is_decoded<T: RoundTrip>(alloc: Global, bytes: &[u8]) -> Result<Vec<T>, DecoderError>
     ensures alike { (vs : List T) → All T.fits vs
         → BeginsWith bytes.now (encoding (list_of (map T.item vs)))

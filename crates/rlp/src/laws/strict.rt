@@ -1,4 +1,4 @@
-//! Views of both kinds, and what strict views give.
+//! Lenient and strict views, and what strict views give.
 
 ghost use Rattle.std.specs.Prelude.{◌≡◌, ◌+◌, ◌<◌, ◌^◌, ◌↔◌, ◌⊎◌, ℕ, List, All, if◌then◌else◌, length, Ok, Err, Some, None, IfErr, IfOk, IsOkAnd, map};
 ghost use Rattle.rlp_reading.specs.declared.error.DecoderError.TheVariants.{OutOfMemory, RlpExpectedToBeList, RlpIsTooBig};
@@ -26,8 +26,8 @@ pub fn strict_fault_is_read(bytes: &[u8])
     ensures canonical { IsCanonical bytes.now → strict_fault bytes.now ≡ None }
 {}
 
-/// Each definition over a lenient view equals the one over its bytes, whatever follows the first
-/// item.
+/// Each definition over a lenient view equals the definition over the bytes of the view, whatever
+/// follows the first item.
 #[tactic(auto, using(rlp_reading::proofs::Views::ViewKinds::lenient_count, rlp_reading::proofs::Views::ViewKinds::lenient_place))]
 pub fn lenient_views_ignore_what_follows(bytes: &[u8])
     ensures header { view_header (view_of bytes.now) ≡ framing bytes.now }
@@ -50,10 +50,10 @@ pub fn whole_encoding_is_read<T: StrictRead>(bytes: &[u8])
     ensures { (v : T) → ReadsStrictly T.fits T.item (Gives T.reading) (Faults T.reading) bytes.now v }
 {}
 
-/// A strict view gives one value of a number of each width, of a `bool`, of a byte string, of
-/// a text or of an array of each length, and has no fault, or gives none and has one fault. The
-/// numbers of `N` bytes are those of `Uint<N>` too. See also [`crate::laws::raw_item_is_read`] and
-/// [`strict_option_is_read`].
+/// For numbers of each width, for `bool`, for byte strings, for text and for arrays of each length,
+/// a strict view either gives one value and has no fault, or gives no value and has one fault. The
+/// law for numbers of `N` bytes is also the law for `Uint<N>`. See also
+/// [`crate::laws::raw_item_is_read`] and [`strict_option_is_read`].
 pub fn strict_values_are_read(bytes: &[u8])
     ensures numbers { (width : ℕ)
         → HasOneReading number_item (Gives (number width).reading (strict_view_of bytes.now))
@@ -72,8 +72,8 @@ pub fn strict_values_are_read(bytes: &[u8])
         (Faults (byte_array n).reading (strict_view_of bytes.now)) }
 {}
 
-/// If each item gives one value of a type or has one fault, a strict view gives one option of it or
-/// has one fault.
+/// If each item gives one value of a type or has one fault, a strict view gives one option of the
+/// type or has one fault.
 pub fn strict_option_is_read<T: Encodable + Decodable>(bytes: &[u8])
     ensures { ((item : View) → AreBytes item.bytes → length item.bytes < 2 ^ 64
         → HasOneReading T.item (Gives T.reading item) (Faults T.reading item))

@@ -12,8 +12,8 @@ use rlp_reading::error::DecoderError;
 /// Item number i of a view, lenient or strict, is the i-th of its items, counted from 0, if the view
 /// can be read as a list. All numbers past the last item have the same fault.
 ///
-/// Only a strict view may have a fault as a list. It then has that fault for every number, and
-/// otherwise `RlpIsTooShort` for every number past the last item.
+/// Only a strict view may have a fault as a list: then each number has that fault. Otherwise each
+/// number past the last item of a strict view has the fault `RlpIsTooShort`.
 pub fn items_by_number_are_in_order(rlp: &Rlp<'_>)
     ensures there { (i : ℕ) (item : View) → (item_at rlp.now i ≡ Ok item)
         ↔ ((list_fault rlp.now ≡ None) × (slice_get (item_views rlp.now) i ≡ Some item)) }
@@ -40,7 +40,7 @@ pub fn view_of_list_has_its_items(rlp: &Rlp<'_>)
     ensures past { (xs : List Item) (i : ℕ) → HoldsItem rlp.now (list_of xs) → length xs ≤ i
         → item_at rlp.now i ≡ Err RlpIsTooShort }
 {
-    // The proof goes by what this returns: fewer than 2^64 bytes.
+    // The proof uses that `as_raw` returns fewer than 2^64 bytes.
     let _bytes = rlp.as_raw();
 }
 
@@ -54,9 +54,9 @@ pub fn iteration_reads_few_headers()
         → end.headers ≤ length given + 2 }
 {}
 
-/// Over joined encodings, [`Rlp::split_first`] of a lenient view returns the first and leaves the
-/// others joined. Called again on what is left, it returns them one by one, and after the last no
-/// bytes are left.
+/// If bytes are joined encodings, [`Rlp::split_first`] of a lenient view returns the first
+/// encoding, and leaves the remaining encodings joined. Called again and again on the bytes that
+/// are left, it returns the encodings one by one, until no bytes are left.
 pub fn joined_items_are_split_off<'a>(bytes: &'a [u8]) -> Result<(Rlp<'a>, &'a [u8]), DecoderError>
     ensures next { (x : Item) (xs : List Item) → bytes.now ≡ join (x ∷ xs)
         → IsOkAnd result (λ r. (r.0.bytes ≡ encoding x) × (r.1.now ≡ join xs)) }

@@ -54,7 +54,7 @@ impl<'a> CountedFields<'a> {
         item
     }
 
-    /// The place of the item that was taken last, counted from 0, if one was.
+    /// The place, counted from 0, of the item that was taken last, if an item was taken.
     pub fn last_place(&self) -> usize
         ensures { result ≡ self.now.count - 1 - length self.now.views }
     {

@@ -72,11 +72,11 @@ impl<'a> BasicDecoder<'a> {
         }
     }
 
-    /// The string that the bytes begin with, without its header. It is a part of these bytes, so no
-    /// memory is taken.
+    /// The string that the bytes begin with, without its header. The string is a part of the bytes,
+    /// so the call doesn't allocate.
     ///
-    /// The faults are those of [`BasicDecoder::decode_value`]. A strict decoder fails with the fault
-    /// of the string, or else with `RlpIsTooBig` if bytes follow it.
+    /// Fails as [`BasicDecoder::decode_value`] does. A strict decoder fails with the fault of the
+    /// string, or else with `RlpIsTooBig` if bytes follow the string.
     ///
     /// ```rust
     /// let decoder = rlp::BasicDecoder::new(&[0x83, b'c', b'a', b't']);
@@ -121,8 +121,8 @@ impl<'a> BasicDecoder<'a> {
     }
 }
 
-/// The string whose encoding the bytes are, if they are a string in the shortest form. The bytes are
-/// exactly one item, which has this content. `None` says nothing about the bytes.
+/// The string whose encoding the bytes are. The caller knows that the bytes are exactly one item,
+/// with this content. Returns `None` for a list and for a byte that has a needless header.
 #[inline(always)]
 pub(crate) fn item_string<'a>(bytes: &[u8], strict: bool, content: &'a [u8]) -> Option<&'a [u8]>
     requires whole { strict_fault bytes.now ≡ None }
@@ -147,8 +147,8 @@ pub(crate) fn may_end_at(bytes: &[u8], strict: bool, len: usize) -> bool
 }
 
 /// The string that bytes begin with, if it is its own encoding or has a header of one byte, and
-/// nothing is wrong with it. `None` says nothing about the bytes. It takes the parts of a view, which
-/// then stay in registers.
+/// nothing is wrong with it. `None` says nothing about the bytes. The arguments are the parts of a
+/// view, so that they stay in registers.
 #[inline(always)]
 pub(crate) fn short_string(bytes: &[u8], strict: bool) -> Option<&[u8]>
     ensures held { IfSome result

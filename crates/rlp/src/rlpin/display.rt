@@ -7,7 +7,7 @@ use rlp_reading::text::write_text;
 use std::fmt;
 
 /// Prints `null` for no bytes, `"0x..."` for a string, and `[.., ..]` for a list. Bytes that aren't
-/// framed print the name of their fault, the one of [`Rlp::payload_info`]. The formatter's flags
+/// framed print the name of the fault that [`Rlp::payload_info`] returns. The formatter's flags
 /// change nothing.
 impl fmt::Display for Rlp<'_> {
     ghost use Rattle.rlp_reading.specs.Views.Text.{text};

@@ -20,7 +20,7 @@ use std::marker::Model;
 ///
 /// It keeps its place, so it reads the header of each item once. [`Rlp::val_at`] begins at the
 /// start of the list each time. Each call returns what [`Rlp::val_at`], [`Rlp::list_at`] or
-/// [`Rlp::at`] returns for the next number.
+/// [`Rlp::at`] returns for the number of the next item.
 ///
 /// ```rust
 /// let list = rlp::Rlp::new(&[0xc5, 0x05, 0x83, b'c', b'a', b't']);
@@ -79,7 +79,7 @@ impl<'a> Rlp<'a> {
 
 impl<'a> Fields<'a> {
     /// A reader of the items of the list that the view begins with. Fails as [`Rlp::item_count`]
-    /// does. It walks over the items of a strict view, but not over those of a lenient view.
+    /// does. It walks over the items of a strict view, and not over the items of a lenient view.
     #[inline(always)]
     #[tactic(auto, using(rlp_reading::proofs::ListLaws::items_told))]
     pub fn of(rlp: &Rlp<'a>) -> Result<Fields<'a>, DecoderError>
@@ -115,8 +115,8 @@ impl<'a> Fields<'a> {
     }
 
     /// A reader of the items of the list that the view begins with, by the list's header alone. It
-    /// walks over no items: it fails as [`Fields::of`] does, but doesn't find bytes that follow the
-    /// items in the list of a strict view. [`Fields::has_ended`] finds them at the end.
+    /// doesn't walk over the items: it fails as [`Fields::of`] does, but doesn't find bytes that
+    /// follow the items in the list of a strict view. [`Fields::has_ended`] finds them at the end.
     #[inline(always)]
     pub(crate) fn framed(rlp: &Rlp<'a>) -> Result<Fields<'a>, DecoderError>
         ensures views { IfOk result (λ f. f.views ≡ item_views rlp.now) }
@@ -128,8 +128,8 @@ impl<'a> Fields<'a> {
         Ok(Fields::over_items(items, rlp.is_strict()))
     }
 
-    /// A reader of the items of a view that is read as a list. It is [`Fields::framed`] of a strict
-    /// view. A lenient view never fails.
+    /// A reader of the items of a view that is read as a list. For a strict view it is
+    /// [`Fields::framed`]. For a lenient view it never fails.
     #[inline(always)]
     pub(crate) fn framed_list(rlp: &Rlp<'a>) -> Result<Fields<'a>, DecoderError>
         ensures views { IfOk result (λ f. f.views ≡ item_views rlp.now) }
@@ -234,7 +234,7 @@ impl<'a> Fields<'a> {
         item.as_list(alloc)
     }
 
-    /// Tests that all items were taken. Fails with `RlpIncorrectListLen` if one is left.
+    /// Tests that all items were taken. Fails with `RlpIncorrectListLen` if an item is left.
     pub fn finish(self) -> Result<(), DecoderError>
         ensures { MatchResult result (λ _. self.entry.views ≡ [])
             (λ e. (self.entry.views ≢ []) × (e ≡ RlpIncorrectListLen)) }
@@ -245,7 +245,7 @@ impl<'a> Fields<'a> {
         Err(DecoderError::RlpIncorrectListLen)
     }
 
-    /// The number of items that are left. It walks over them.
+    /// The number of items that are left. It walks over these items.
     pub fn count_left(&self) -> usize
         ensures { result ≡ length self.now.views }
     {

@@ -12,9 +12,9 @@ use std::marker::Model;
 /// are left, how many headers were read, and whether it has ended.
 ///
 /// It keeps its place. [`Rlp::iter`] reads the header of the list, and each `next` reads at most
-/// one header more. After `next` returned `None` it reads none. So n items and the first `None`
-/// read at most n + 2 headers. `len` and `size_hint` walk the items that are left each time,
-/// uncounted.
+/// one header more. After `next` returned `None` it reads no header. So n items and the first
+/// `None` read at most n + 2 headers. `len` and `size_hint` walk over the items that are left each
+/// time; these headers are not counted.
 #[derive(Drop)]
 pub struct RlpIterator<'a, 'view> {
     rlp: &'view Rlp<'a>,
@@ -67,7 +67,7 @@ impl<'a, 'view> Iterator for RlpIterator<'a, 'view> {
 }
 
 impl<'a, 'view> ExactSizeIterator for RlpIterator<'a, 'view> {
-    /// The number of items that are left. It walks them.
+    /// The number of items that are left. It walks over these items.
     fn len(&self) -> usize
         ensures { result ≡ length self.now.left }
     {

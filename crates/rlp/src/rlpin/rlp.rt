@@ -28,8 +28,8 @@ use std::marker::Model;
 ///
 /// The same call always returns the same result. Contracts see a view as the record `View` of its
 /// bytes and its kind. A lenient view ignores the bytes after the first item. A strict view has a
-/// fault if there are any. The view of an item of a list knows where its value begins, so that the
-/// item's header isn't read again.
+/// fault if bytes follow the first item. The view of an item of a list knows where the value of the
+/// item begins, so that the header isn't read again.
 #[derive(Debug, Drop)]
 pub struct Rlp<'a> {
     bytes: &'a [u8],
@@ -88,7 +88,7 @@ impl<'a> Rlp<'a> {
         }
     }
 
-    /// All the bytes, including those after the first item.
+    /// All the bytes, including the bytes after the first item.
     pub fn as_raw(&self) -> &'a [u8]
         ensures { result.now ≡ self.now.bytes }
     {
@@ -140,8 +140,9 @@ impl<'a> Rlp<'a> {
     /// The number of items in the list that the view begins with.
     ///
     /// Fails with `RlpExpectedToBeList` if there is no byte, or the first byte begins a string. A
-    /// list that isn't framed has no items. A strict view must be exactly one list. After the first
-    /// fault come those of [`Rlp::payload_info`] and of bytes that follow the items in the list.
+    /// list that isn't framed has no items. A strict view must be exactly one list: it fails as
+    /// [`Rlp::payload_info`] does, or else with the fault of bytes in the list that follow its last
+    /// item.
     #[tactic(auto, unfolding(rlp_reading::specs::Views::View::item_count, rlp_reading::specs::Format::Framing::items))]
     pub fn item_count(&self) -> Result<usize, DecoderError>
         ensures { result ≡ item_count self.now }
@@ -170,7 +171,16 @@ impl<'a> Rlp<'a> {
 
     /// The item at `index`, counted from 0.
     ///
-    /// Fails as [`Rlp::at_with_offset`] does.
+    /// Fails with the first of these faults:
+    ///
+    /// - `RlpExpectedToBeList` if there is no byte, or the first byte begins a string;
+    /// - the fault of [`Rlp::payload_info`] if the list isn't framed;
+    /// - past the last item, the fault of the bytes in the list that follow the last item, which is
+    ///   `RlpIsTooShort` if no bytes follow.
+    ///
+    /// It reads the list's header and at most `index + 1` headers of items. For a strict view it
+    /// fails first as [`Rlp::item_count`] does, and reads the header of each item to find that
+    /// fault.
     ///
     /// ```rust
     /// let list = rlp::Rlp::new(&[0xc4, 0x83, b'c', b'a', b't']);
@@ -187,15 +197,7 @@ impl<'a> Rlp<'a> {
 
     /// The item at `index`, counted from 0, and its place, counted from the view's first byte.
     ///
-    /// Fails with the first of these:
-    ///
-    /// - `RlpExpectedToBeList` if there is no byte, or the first byte begins a string;
-    /// - the fault of [`Rlp::payload_info`] if the list isn't framed;
-    /// - past the last item, the fault of the bytes that follow the items in the list, which is
-    ///   `RlpIsTooShort` if there are none.
-    ///
-    /// It reads the list's header and at most `index + 1` more. A strict view has the faults of
-    /// [`Rlp::item_count`] first, and reads the header of each item to find them.
+    /// Fails as [`Rlp::at`] does, and reads the same headers.
     #[inline(always)]
     pub fn at_with_offset(&self, index: usize) -> Result<(Rlp<'a>, usize), DecoderError>
         ensures { result ≡ item_with_place self.now index }
@@ -249,9 +251,10 @@ impl<'a> Rlp<'a> {
     }
 
     /// Whether the bytes begin as a number does. They begin with one byte up to `0x80`, or with the
-    /// header of a string and a first byte of it that isn't zero.
+    /// header of a string and a first byte of the string that isn't zero.
     ///
-    /// It looks no further than that byte. So it is true for `00`, and for a string that is cut.
+    /// It looks no further than that byte. So it is true for `00`, and for a string that is cut
+    /// off.
     pub fn is_int(&self) -> bool
         ensures { result ≡ begins_as_int self.now.bytes }
     {
@@ -299,9 +302,9 @@ impl<'a> Rlp<'a> {
     /// The values of the items, in order.
     ///
     /// Fails with the fault of an item if all items before it give values. Fails with `OutOfMemory`
-    /// if memory is refused for the value of an item, or for room for it. Anything but a framed
-    /// list has no items, and gives an empty list. A strict view fails then as [`Rlp::item_count`]
-    /// does.
+    /// if memory is refused for the value of an item, or for room in the vector. A lenient view
+    /// that doesn't begin with a framed list gives an empty vector. A strict view that isn't
+    /// exactly one list fails as [`Rlp::item_count`] does.
     ///
     /// ```rust
     /// let list = rlp::Rlp::new(&[0xc2, 0x05, 0x06]);
@@ -410,13 +413,13 @@ impl<'a> Rlp<'a> {
     /// Fails with the first fault, in the order of the bytes, if they aren't the canonical encoding
     /// of an item of depth at most `max_depth`:
     ///
-    /// - the fault of [`Rlp::payload_info`] of a strict view, or that of bytes inside a list that
+    /// - the fault of [`Rlp::payload_info`] of a strict view, or the fault of bytes in a list that
     ///   aren't an item;
     /// - `RlpInvalidIndirection` for a byte below `0x80` that has a header;
-    /// - [`TreeFault::TooDeep`] at a list inside `max_depth` others.
+    /// - [`TreeFault::TooDeep`] at a list inside `max_depth` lists.
     ///
-    /// Fails with `OutOfMemory` if memory is refused. It reads each header twice, and asks for
-    /// memory once, for just as many items as there are.
+    /// Fails with `OutOfMemory` if memory is refused. It reads each header twice, and allocates
+    /// once, for exactly the number of items.
     ///
     /// ```rust
     /// let items = rlp::Rlp::new(&[0xc2, 0xc1, 0x05]).flatten(alloc, 2)?;
@@ -469,8 +472,8 @@ impl<'a> Rlp<'a> {
         Some(&self.bytes[header_len..])
     }
 
-    /// The string whose encoding the bytes are, if they are known to be exactly one item. `None` says
-    /// nothing about the bytes.
+    /// The string whose encoding the bytes are, if the bytes are known to be exactly one item.
+    /// `None` says nothing about the bytes.
     #[inline(always)]
     pub(crate) fn known_string(&self) -> Option<&'a [u8]>
         ensures held { IfSome result (λ d. HoldsString self.now d.now) }
@@ -479,8 +482,9 @@ impl<'a> Rlp<'a> {
         item_string(self.bytes, self.strict, self.known_content()?)
     }
 
-    /// The bytes that begin with the items of the view: the value of a framed list. A list that isn't
-    /// framed is taken itself, and has no items, as anything else has.
+    /// The bytes that begin with the items of the view: the value of a framed list. For a list that
+    /// isn't framed it is all bytes of the view, which begin with no item, and for anything else no
+    /// bytes.
     #[inline(always)]
     #[tactic(auto, using(crate::proofs::Readers::items_by_frame))]
     pub(crate) fn items(&self) -> &'a [u8]

@@ -9,12 +9,12 @@ use rlp_reading::framed::first_framed;
 
 impl<'a> Rlp<'a> {
     /// A view of the item that the view begins with, of the same kind, and the bytes that follow
-    /// it. To read joined items one by one, call it again on a view of these, until no bytes are
-    /// left.
+    /// it. To read joined items one by one, call it again on a view of the bytes that follow, until
+    /// no bytes are left.
     ///
-    /// It doesn't allocate, and doesn't read what is in a list. Fails as [`Rlp::payload_info`]
-    /// does: with `RlpIsTooShort` if there are no bytes, and for a strict view with `RlpIsTooBig`
-    /// if bytes follow the item.
+    /// It doesn't allocate, and reads no header inside a list. Fails as [`Rlp::payload_info`] does:
+    /// with `RlpIsTooShort` if there are no bytes, and for a strict view with `RlpIsTooBig` if
+    /// bytes follow the item.
     ///
     /// ```rust
     /// let (id, rest) = rlp::Rlp::new(&[0x05, 0xc1, 0x06]).split_first()?;

@@ -8,7 +8,7 @@ use crate::structs::{DecodeFields, FixedFields};
 use rlp_reading::error::DecoderError;
 use std::alloc::Global;
 
-/// Fields that are a fixed number of items, and those after them.
+/// Fields that are a fixed number of items, and the fields after them.
 #[derive(Drop)]
 pub struct Joined<P, Q>(pub P, pub Q);
 

@@ -10,9 +10,9 @@ use std::alloc::{AllocError, Global};
 
 /// Fields that say which item of their list is at fault.
 pub trait DecodeFieldsPlaced: DecodeFields {
-    /// Appends the places that lead to the item at fault, as [`DecodePlaced::put_path`] does, if the
-    /// next items aren't the fields. Returns whether they have a fault. If not, the items after the
-    /// fields are left.
+    /// Appends the places that lead to the item at fault, as [`DecodePlaced::put_path`] does, if
+    /// the next items aren't the fields. Returns whether the fields have a fault. If they have no
+    /// fault, the items after the fields are left.
     ///
     /// Fails with `AllocError` if memory is refused.
     fn put_path(
@@ -140,10 +140,10 @@ pub fn put_path_of<F: DecodeFieldsPlaced>(
     Ok(())
 }
 
-/// Appends the places that lead to the item at fault of a struct. It is the whole body of a
-/// [`DecodePlaced::put_path`]. The arguments are the allocator, the view, the path, and the types of
-/// the fields in order. A list of values is a [`ListField`](crate::ListField). After a `;` stands
-/// what may be missing, such as an [`OptionalField`](crate::OptionalField).
+/// Appends the places that lead to the item at fault of a struct. The macro is the whole body of a
+/// [`DecodePlaced::put_path`]. The arguments are the allocator, the view, the path, and the types
+/// of the fields in order. A list of values is a [`ListField`](crate::ListField). The field that
+/// may be missing, such as an [`OptionalField`](crate::OptionalField), comes after a `;`.
 ///
 /// ```rust
 /// fn put_path(alloc: Global, rlp: &Rlp<'_>, path: &mut Vec<usize>) -> Result<(), AllocError> {

@@ -9,8 +9,8 @@ use std::alloc::Global;
 
 /// A type whose values are read from the beginning of a view.
 ///
-/// An implementation says what each view gives: a value or a fault. `decode` returns nothing else,
-/// but for `OutOfMemory`. Most implementations read one string by
+/// An implementation says what each view gives: a value or a fault. `decode` returns that value or
+/// fault, or else `OutOfMemory`. Most implementations read one string by
 /// [`BasicDecoder::decode_value`](crate::BasicDecoder::decode_value), or a value of another type by
 /// [`Rlp::as_val`].
 ///
@@ -28,13 +28,13 @@ use std::alloc::Global;
 /// }
 /// ```
 pub trait Decodable: Sized + Drop {
-    /// What contracts see of a value, what each view gives, and whether reading takes memory.
+    /// What contracts see of a value, what each view gives, and whether reading allocates.
     ghost reading: { Reading Self };
 
     /// Reads the value that the view begins with. The types of this crate ignore bytes that follow
-    /// its item.
+    /// the item of the value.
     ///
-    /// Fails with the fault that the view gives, or with `OutOfMemory` if the type takes memory and
+    /// Fails with the fault that the view gives, or with `OutOfMemory` if reading allocates and
     /// memory is refused.
     fn decode(alloc: Global, rlp: &Rlp<'_>) -> Result<Self, DecoderError>
         ensures value { IfOk result (λ x. Gives reading rlp.now x) }

@@ -13,8 +13,8 @@ use std::alloc::{AllocError, Global};
 pub trait DecodePlaced: Decodable {
     /// Appends the places that lead to the item that [`Decodable::decode`] fails on: the place in
     /// the outermost list, then the place in the list found there, and so on, each counted from 0.
-    /// Appends nothing if the fault is one of the view as a whole. It reads the view again, and says
-    /// nothing of a view that gives a value.
+    /// Appends nothing if the fault is a fault of the view as a whole. It reads the view again. For
+    /// a view that gives a value, `path` may be anything.
     ///
     /// Fails with `AllocError` if memory is refused.
     fn put_path(alloc: Global, rlp: &Rlp<'_>, path: &mut Vec<usize>) -> Result<(), AllocError>
@@ -31,8 +31,8 @@ pub struct PlacedFault {
 }
 
 /// Reads the value that the view begins with, as [`Decodable::decode`] does, and says where it
-/// fails. It takes memory for the path of a fault, and fails with `OutOfMemory` and some path if
-/// memory is refused.
+/// fails. It allocates the path of a fault, and fails with `OutOfMemory` and some path if memory is
+/// refused.
 ///
 /// ```rust
 /// let fault = rlp::decode_placed::<Vec<u8>>(alloc, &rlp::Rlp::new(&[0xc0])).unwrap_err();
@@ -67,8 +67,8 @@ pub(crate) fn has_fault<T: Decodable>(alloc: Global, rlp: &Rlp<'_>) -> Result<bo
     }
 }
 
-/// Appends the places that lead to the item at fault in the item at this place, if there is one, and
-/// returns whether there is.
+/// Appends the places that lead to the item at fault in the item at this place, if that item has a
+/// fault, and returns whether it has.
 pub(crate) fn put_item_path<T: DecodePlaced>(
     alloc: Global,
     place: usize,

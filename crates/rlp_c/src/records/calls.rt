@@ -20,14 +20,15 @@ use rlp_reading::framed::begins_as_list;
 use rlp_reading::items::{ItemReader, count_items};
 use std::alloc::Global;
 
-/// Writes a row for each field of the transaction that the bytes are by themselves, as in EIP-2718,
-/// and its type, which is 0 for a legacy transaction. `count` gets the number of fields, or if one
-/// of them has a fault or is missing, its number from 1 on, or else 0. The elements of the array
-/// behind the fields stay as they were.
+/// Writes a row for each field of the standalone transaction that the bytes are, as in EIP-2718,
+/// and its type, which is 0 for a legacy transaction. `count` gets the number of fields. If a field
+/// has a fault or is missing, it gets the number of this field, counted from 1; if there are too
+/// many items, the number of the first item too many; and for any other fault 0. The elements of
+/// the array behind the fields stay as they were.
 ///
-/// The transactions and their fields are those of `rlp_transactions`: the fields are found exactly
-/// if that crate reads the bytes, and else the fault is that crate's. Only an unknown type has a
-/// status of its own.
+/// The transactions and their fields are the ones of `rlp_transactions`: the fields are found if
+/// and only if that crate reads the bytes, and else the status is the fault of that crate. Only an
+/// unknown type has a status of its own.
 #[unsafe(no_mangle)]
 pub extern "C" fn rlp_transaction(
     alloc: Global,
@@ -80,7 +81,7 @@ fn read_transaction(
 }
 
 /// Writes a row for each field of the header of a block that the bytes are, a header of
-/// `rlp_headers`. Otherwise as [`rlp_transaction`].
+/// `rlp_headers`. Everything else is as in [`rlp_transaction`].
 #[unsafe(no_mangle)]
 pub extern "C" fn rlp_header_fields(
     alloc: Global,
@@ -134,8 +135,7 @@ fn read_record(
     }
 }
 
-/// The number of the field that has the fault of this status, if the number that the fault came with
-/// is `number`.
+/// The number of the field that has the fault of this status, if `number` came with the fault.
 #[tactic(auto, unfolding(rlp_reading::specs::Format::Framing::items))]
 fn faulty_field(list: Record, bytes: &[u8], number: usize, status: u32) -> usize
     ensures { result ≡ faulty_field (most_fields list) (length (items bytes.now)) number status }

@@ -1,5 +1,5 @@
-//! The fields of records. A record is tested by the list of its fields, with the types of its codec, but
-//! no value is kept, and no memory is taken.
+//! The fields of records. A record is tested by the list of its fields, with the types of its
+//! codec, but no value is kept, and nothing is allocated.
 
 ghost use Rattle.std.specs.Prelude.{◌≡◌, false, Err, MatchResult, None, Ok, OnOk};
 ghost use Rattle.rlp_reading.specs.{Format.Framing.strict_list_fault, Views.View.strict_view_of, Form.{fault_of, struct_reading}};
@@ -12,7 +12,7 @@ use rlp_records::{Address, Hash};
 use rlp_transactions::{NonZeroScalar, Recipient, SignedAuthorization};
 use std::alloc::Global;
 
-/// The types of fields as steps. Behind the `;` stands what comes after them.
+/// The types of fields as steps. Behind the `;` is the type of what comes after the fields.
 macro_rules! steps {
     ($type:ty; $last:ty) => {
         Step<$type, $last>

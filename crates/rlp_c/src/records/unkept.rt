@@ -1,4 +1,4 @@
-//! Tests of values and of fields that keep nothing of what they read, so that they take no memory.
+//! Tests of values and of fields that keep nothing of what they read, and so don't allocate.
 
 ghost use Rattle.std.specs.Prelude.{ℕ, ◌≡◌, ◌≤◌, ◌^◌, ◌⊎◌, ⊤, Err, IfErr, IsOkAnd, IsTrue, List, MatchOption, Ok, OnOk, Option, false};
 ghost use Rattle.rlp_reading.specs.declared.error.DecoderError.TheVariants.{OutOfMemory};
@@ -21,7 +21,7 @@ pub trait Test {
     ghost tested: { Reading Value };
 
     /// Tests whether the view gives a value. Fails with the fault that the view gives, or with
-    /// `OutOfMemory` if the test takes memory.
+    /// `OutOfMemory` if the test allocates and memory is refused.
     fn test(alloc: Global, rlp: &Rlp<'_>) -> Result<(), DecoderError>
         ensures value { OnOk result (without_value (tested.read rlp.now).result ≡ Ok tt) }
         ensures fault { IfErr result (λ e.
@@ -51,7 +51,8 @@ pub trait TestFields {
             ⊎ ((e ≡ OutOfMemory) × IsTrue tested.takes_memory)) }
         ensures after { fields.new.after ≡ fields.old.after };
 
-    /// Where the fields are all of the items, [`accepts`](TestFields::accepts) takes their number.
+    /// If the fields are all of the items, [`accepts`](TestFields::accepts) returns `true` for the
+    /// number of items.
     ghost possible: { TakePossible Self.tested };
 }
 
@@ -65,7 +66,7 @@ pub trait TestFixed: TestFields {
     ghost takes: { TakeWidth Self.tested };
 }
 
-/// A value that is read and let go.
+/// A value that is read and not kept.
 impl<T: Decodable> Test for T {
     ghost Value = { T };
 
@@ -102,7 +103,7 @@ impl TestFixed for () {
     ghost takes = { end_wide };
 }
 
-/// Last fields that are read and let go.
+/// Last fields that are read and not kept.
 impl<S: DecodeFields + Drop> TestFields for OptionalGroup<S> {
     ghost Value = { Option S };
 
@@ -187,7 +188,7 @@ impl<F: TestFields> DecodeFields for Unkept<F> {
     ghost possible = { forgotten_possible F.tested F.possible };
 }
 
-/// A field, and those after it.
+/// A field, and the fields after it.
 pub struct Step<T, Q>(PhantomData<T>, PhantomData<Q>);
 
 impl<T: Test, Q: TestFields> TestFields for Step<T, Q> {

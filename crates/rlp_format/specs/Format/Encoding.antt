@@ -56,15 +56,16 @@ big_endian_within zero n = []
 big_endian_within (suc turns) zero = []
 big_endian_within (suc turns) (suc n) = big_endian_within turns (suc n / 256) ++ (suc n % 256) ∷ []
 
--- The digits of n to the base 256, greatest first, with no leading zero; none for 0. A number has no more digits than its value, which bounds the recursion.
+-- The big-endian digits of n to the base 256, with no leading zero; no digits for 0. The number of digits is at most n, which bounds the recursion.
 unfoldable pub big_endian : ℕ → List ℕ
 big_endian n = big_endian_within n n
 
--- The header of a payload of n bytes. A length up to 55 is part of the one byte. A longer length follows the first byte, which says how many bytes it has.
+-- The header of a payload of n bytes. A length up to 55 is added to the base, in one byte. A longer length follows the first byte, which says how many bytes the
+-- length has.
 unfoldable pub written_header : ℕ → ℕ → List ℕ
 written_header base n = if nat_le n 55 then (base + n) ∷ [] else (base + 55 + length (big_endian n)) ∷ big_endian n
 
--- headers of strings begin at 0x80, those of lists at 0xc0
+-- the base of the headers of strings is 0x80, the base of the headers of lists is 0xc0
 abbrev pub IsBase : ℕ → Type 0
 IsBase base = (base ≡ 0x80) ⊎ (base ≡ 0xc0)
 

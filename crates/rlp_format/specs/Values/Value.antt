@@ -2,11 +2,11 @@
 use Rattle.std.specs.Prelude.{ℕ, ◌≡◌, ◌*◌, ◌^◌, ◌<◌, Bool, true, false, Option, Some, None, List, [], ◌∷◌, ◌++◌}
 use Rattle.rlp_format.specs.Format.Encoding.{Item, string, list_of, big_endian}
 
--- a number is the string of its digits to the base 256, the greatest first
+-- a number is the string of its big-endian digits to the base 256
 abbrev pub number_item : ℕ → Item
 number_item n = string (big_endian n)
 
--- a truth value as a number
+-- a bool as a number: 1 for true, 0 for false
 abbrev pub bit : Bool → ℕ
 bit false = 0
 bit true = 1
@@ -16,7 +16,7 @@ abbrev pub option_item : {A : Type 0} → (A → Item) → Option A → Item
 option_item item None = list_of []
 option_item item (Some x) = list_of (item x ∷ [])
 
--- n has at most that number of bytes. In definitions and laws numbers have no greatest value, so each type says which ones fit.
+-- n has at most this number of bytes. In definitions and laws numbers have no greatest value, so each type says which numbers fit.
 abbrev pub FitsBytes : ℕ → ℕ → Type 0
 FitsBytes width n = n < 2 ^ (8 * width)
 

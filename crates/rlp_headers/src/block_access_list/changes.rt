@@ -14,7 +14,7 @@ use std::alloc::{AllocError, Global};
 #[derive(Debug, Clone, PartialEq, Eq, Drop)]
 pub struct StateChange<T> {
     /// The place in the block: 0 before all transactions, then the number of a transaction, counted
-    /// from 1, and after the last transaction one more than their number.
+    /// from 1, and after the last transaction 1 more than the number of transactions.
     pub block_access_index: u32,
     /// The value after the change.
     pub new_value: T,
@@ -64,7 +64,7 @@ impl<T: StrictRead> StrictRead for StateChange<T> {
 pub struct SlotChanges {
     /// The slot.
     pub slot: Uint<32>,
-    /// The changes of its value.
+    /// The changes of the slot's value.
     pub changes: Vec<StateChange<Uint<32>>>,
 }
 

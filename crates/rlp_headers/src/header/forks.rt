@@ -1,7 +1,7 @@
 //! The fields that forks added to headers of blocks.
 //!
-//! A fork's struct has its fields and, as an `Option`, the struct of the next fork. So a header has
-//! the fields of a fork only with those of each fork before it.
+//! A fork's struct has its fields and, as an `Option`, the struct of the next fork. So a header
+//! that has the fields of a fork has the fields of each earlier fork.
 
 ghost use Rattle.rlp_headers.specs.Forks.{amsterdam_fields, cancun_fields, london_fields, prague_fields, shanghai_fields};
 
@@ -12,7 +12,7 @@ use rlp::{
 use rlp_records::Hash;
 use std::alloc::{AllocError, Global};
 
-/// What a header has since London: one field, and those of later forks.
+/// What a header has since London: one field, and the fields of later forks.
 #[derive(Debug, Clone, Copy, PartialEq, Eq)]
 pub struct London {
     /// The base fee of a unit of gas, in Wei. EIP-1559.
@@ -74,7 +74,7 @@ impl DecodeFieldsPlaced for London {
     }
 }
 
-/// What a header has since Shanghai: one field, and those of later forks.
+/// What a header has since Shanghai: one field, and the fields of later forks.
 #[derive(Debug, Clone, Copy, PartialEq, Eq)]
 pub struct Shanghai {
     /// The root of the trie of the block's withdrawals. EIP-4895.
@@ -128,7 +128,7 @@ impl DecodeFieldsPlaced for Shanghai {
     }
 }
 
-/// What a header has since Cancun: three fields, and those of later forks.
+/// What a header has since Cancun: three fields, and the fields of later forks.
 #[derive(Debug, Clone, Copy, PartialEq, Eq)]
 pub struct Cancun {
     /// The blob gas that the block's transactions used. EIP-4844.
@@ -202,7 +202,7 @@ impl DecodeFieldsPlaced for Cancun {
     }
 }
 
-/// What a header has since Prague: one field, and those of later forks.
+/// What a header has since Prague: one field, and the fields of later forks.
 #[derive(Debug, Clone, Copy, PartialEq, Eq)]
 pub struct Prague {
     /// The hash of the block's requests. EIP-7685.
@@ -258,13 +258,14 @@ impl DecodeFieldsPlaced for Prague {
 
 /// What a header has since Amsterdam: one field, and maybe a second.
 ///
-/// The fields are those of the drafts of EIP-7928 and EIP-7843, and may change. A header that follows
-/// the first draft alone has no slot.
+/// The fields follow the drafts of EIP-7928 and EIP-7843, and may change. A header that follows
+/// only EIP-7928 has no slot.
 #[derive(Debug, Clone, Copy, PartialEq, Eq)]
 pub struct Amsterdam {
     /// The hash of the encoding of the block's access list. EIP-7928.
     pub block_access_list_hash: Hash,
-    /// The slot of the beacon chain that the block is for, if there is one. EIP-7843.
+    /// The slot of the beacon chain that the block is for, or `None` if the header has no slot.
+    /// EIP-7843.
     pub slot_number: Option<u64>,
 }
 

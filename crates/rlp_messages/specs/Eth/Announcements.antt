@@ -15,7 +15,7 @@ new_block_hash_fields =
     field (λ (n : NewBlockHash). n.hash) hash (
     field (λ (n : NewBlockHash). n.number) (number 8) end)
 
--- the list of the fields
+-- a block that is announced, as the list of its fields
 abbrev pub new_block_hash : Codec NewBlockHash
 new_block_hash = struct_of new_block_hash_fields
 
@@ -30,7 +30,7 @@ new_pooled_transaction_hashes_fields =
     field (λ (n : NewPooledTransactionHashes). n.sizes) (list_type vec_items (number 8)) (
     field (λ (n : NewPooledTransactionHashes). n.hashes) (list_type vec_items hash) end))
 
--- the list of the fields
+-- the transactions that are announced, as the list of the fields
 abbrev pub new_pooled_transaction_hashes : Codec NewPooledTransactionHashes
 new_pooled_transaction_hashes = struct_of new_pooled_transaction_hashes_fields
 
@@ -41,7 +41,7 @@ block_range_update_fields =
     field (λ (b : BlockRangeUpdate). b.latest_block) (number 8) (
     field (λ (b : BlockRangeUpdate). b.latest_block_hash) hash end))
 
--- the list of the fields
+-- the blocks that a client has, as the list of the fields
 abbrev pub block_range_update : Codec BlockRangeUpdate
 block_range_update = struct_of block_range_update_fields
 
@@ -51,7 +51,7 @@ new_block_fields =
     field (λ (n : NewBlock). n.block) block (
     field (λ (n : NewBlock). n.total_difficulty) (uint 32) end)
 
--- the list of the fields
+-- a whole block that is announced, as the list of the fields
 abbrev pub new_block : Codec NewBlock
 new_block = struct_of new_block_fields
 

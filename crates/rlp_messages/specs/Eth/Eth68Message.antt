@@ -11,7 +11,7 @@ use Rattle.rlp_messages.specs.declared.eth.eth68_message.Eth68Message.TheVariant
 abbrev pub Eth68Body : Type 0
 Eth68Body = Status68 ⊎ (WithRequestId Receipts ⊎ EthBody)
 
--- the bodies with their numbers: Status (0x00) and Receipts (0x10) of eth/68, and those of both versions
+-- the bodies with their numbers: Status (0x00) and Receipts (0x10) of eth/68, and the messages of both versions
 abbrev pub eth68_bodies : Bodies Eth68Body
 eth68_bodies =
     and_message 0x00 refl status68 (

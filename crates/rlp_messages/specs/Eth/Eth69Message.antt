@@ -12,7 +12,7 @@ use Rattle.rlp_messages.specs.declared.eth.eth69_message.Eth69Message.TheVariant
 abbrev pub Eth69Body : Type 0
 Eth69Body = Status69 ⊎ (WithRequestId Receipts69 ⊎ (BlockRangeUpdate ⊎ EthBody))
 
--- the bodies with their numbers: Status (0x00), Receipts (0x10) and BlockRangeUpdate (0x11) of EIP-7642, and those of both versions
+-- the bodies with their numbers: Status (0x00), Receipts (0x10) and BlockRangeUpdate (0x11) of EIP-7642, and the messages of both versions
 abbrev pub eth69_bodies : Bodies Eth69Body
 eth69_bodies =
     and_message 0x00 refl status69 (

@@ -1,4 +1,4 @@
--- Hashes or numbers are read back, and from nothing else.
+-- Hashes or numbers are read back, and are read only from their encodings.
 use Rattle.std.specs.Prelude.{ℕ, ◌≡◌, ◌==◌, Bool, true, false, List, length, Ok}
 use Rattle.std.proofs.{Common.{◌^◌, ◌<◌, inl, inr, ap, arith, eq-eqb, ne_eqb, refl, subst, sym, ◌∙◌}, lemmas.Bool.{cond-true, cond-false, eqb-true}}
 use Rattle.rlp.specs.{Codec.{Codec, string_type}, Form.{map_value, number_of}, Format.Encoding.{AreBytes, big_endian}, Values.Value.FitsBytes}

@@ -8,6 +8,6 @@ use Rattle.rlp_headers.specs.TypedReceipt.{any_receipt}
 abbrev pub block_receipts : Codec BlockReceipts
 block_receipts = list_type (λ (b : BlockReceipts). vec_items b.0) any_receipt
 
--- the list of those lists
+-- the list of the lists of receipts
 abbrev pub receipts : Codec Receipts
 receipts = list_type (λ (r : Receipts). vec_items r.0) block_receipts

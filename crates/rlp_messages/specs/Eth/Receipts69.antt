@@ -21,6 +21,6 @@ receipt69 = struct_of receipt69_fields
 abbrev pub block_receipts69 : Codec BlockReceipts69
 block_receipts69 = list_type (λ (b : BlockReceipts69). vec_items b.0) receipt69
 
--- [[receipt₁, receipt₂], ...] of EIP-7642: the list of those lists
+-- [[receipt₁, receipt₂], ...] of EIP-7642: the list of the lists of receipts
 abbrev pub receipts69 : Codec Receipts69
 receipts69 = list_type (λ (r : Receipts69). vec_items r.0) block_receipts69

@@ -10,7 +10,7 @@ with_request_id_fields {A} c = field (λ (w : WithRequestId A). w.request_id) (n
 abbrev pub with_request_id : {A : Type 0} → Codec A → Codec (WithRequestId A)
 with_request_id c = struct_of (with_request_id_fields c)
 
--- the reading of that codec, for a type without known laws
+-- the reading of this codec, for a type without known laws
 abbrev pub with_request_id_reading : {A : Type 0} → Reading A → Reading (WithRequestId A)
 with_request_id_reading {A} r =
     struct_reading (

@@ -53,7 +53,7 @@ abbrev pub form : Disconnect → DisconnectReason ⊎ DisconnectReason
 form (Listed r) = inl r
 form (Bare r) = inr r
 
--- the reason in either form
+-- the reason of a disconnect, in a list or alone
 abbrev pub told_reason : Disconnect → DisconnectReason
 told_reason (Listed r) = r
 told_reason (Bare r) = r

@@ -40,7 +40,7 @@ supersedes theirs name version p = nat_lt version p.version && (bytes_eq p.name 
 abbrev pub is_superseded : List Known → List Named → List ℕ → ℕ → Bool
 is_superseded ours theirs name version = list_any (supersedes theirs name version) ours
 
--- whether the peer has a capability with this name and this version too, and none with a higher version is shared
+-- whether the peer has a capability with this name and this version too, and no higher version is shared
 abbrev pub is_used : List Known → List Named → List ℕ → ℕ → Bool
 is_used ours theirs name version = speaks theirs name version && not (is_superseded ours theirs name version)
 
@@ -48,23 +48,23 @@ is_used ours theirs name version = speaks theirs name version && not (is_superse
 abbrev pub comes_before : List ℕ → List ℕ → Bool
 comes_before name other = is_lt (slice_cmp nat_cmp name other)
 
--- the number of ids that a capability takes before those of the name
+-- the number of ids that a capability takes before the capability of this name
 abbrev pub ids_before : List Known → List Named → List ℕ → Known → ℕ
 ids_before ours theirs name p = if comes_before p.name name && is_used ours theirs p.name p.version then p.ids else 0
 
--- the ids from 0x10 on are given to each shared capability, in alphabetic order: what those before the name take
+-- the offset of the capability with this name: the ids from 0x10 on are given to the shared capabilities, in alphabetic order of the names
 abbrev pub offset_of : List Known → List Named → List ℕ → ℕ
 offset_of ours theirs name = 0x10 + sum_by (ids_before ours theirs name) ours
 
--- the capabilities in a greeting of a client that speaks these
+-- the capabilities in the greeting of a client that speaks these capabilities
 abbrev pub announced : List Known → List Named
 announced ours = map (λ p. record { name = p.name; version = p.version }) ours
 
--- whether both clients have a capability with this name and this version, and none with a higher version
+-- whether both clients have a capability with this name and this version, and no higher version is shared
 abbrev pub is_shared : List Known → List Named → List ℕ → ℕ → Bool
 is_shared ours theirs name version = speaks (announced ours) name version && is_used ours theirs name version
 
--- the offset, if there is one and it is below 2^8
+-- the offset, if the capability has an offset and it is below 2^8
 abbrev pub byte_if : Bool → ℕ → Option ℕ
 byte_if used offset = if used && nat_lt offset 0x100 then Some offset else None
 
@@ -72,7 +72,7 @@ byte_if used offset = if used && nat_lt offset 0x100 then Some offset else None
 abbrev pub shared_offset : List Known → List Named → List ℕ → ℕ → Option ℕ
 shared_offset ours theirs name version = byte_if (is_shared ours theirs name version) (offset_of ours theirs name)
 
--- ---- for the law of both ends
+-- ---- for the law of the two ends of a connection
 
 -- whether a capability has the same name and version as another
 abbrev pub is_same : Known → Known → Bool
@@ -83,6 +83,6 @@ abbrev pub lists_each_once : List Known → Bool
 lists_each_once [] = true
 lists_each_once (p ∷ more) = not (list_any (is_same p) more) && lists_each_once more
 
--- whether clients that speak these know the same number of ids of each capability that both have
+-- whether clients that speak these capabilities know the same number of ids for each capability that both have
 abbrev pub know_same_ids : List Known → List Known → Bool
 know_same_ids ours theirs = list_all (λ p. list_all (λ q. not (is_same p q) || (p.ids == q.ids)) theirs) ours

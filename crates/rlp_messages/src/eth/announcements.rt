@@ -12,7 +12,7 @@ use rlp_records::Hash;
 use rlp_transactions::AnyTransaction;
 use std::alloc::{AllocError, Global};
 
-/// A block that a client announces: the list of both fields.
+/// A block that a client announces: the list of the two fields.
 #[derive(Debug, Clone, Copy, PartialEq, Eq)]
 pub struct NewBlockHash {
     /// The hash of the block.
@@ -53,7 +53,7 @@ impl StrictRead for NewBlockHash {
     ghost strict = { new_block_hash.reads_strictly };
 }
 
-/// The blocks that a client announces, message 0x01 of `eth`: the list of them.
+/// The blocks that a client announces, message 0x01 of `eth`: the list of the blocks.
 #[derive(Debug, Clone, PartialEq, Eq, Drop)]
 pub struct NewBlockHashes(pub Vec<NewBlockHash>);
 
@@ -91,14 +91,15 @@ impl StrictRead for NewBlockHashes {
 }
 
 /// The transactions that a client announces, message 0x08 since `eth/68`: the list of its three
-/// fields. The protocol asks for as many types as sizes and hashes; this type doesn't check that.
+/// fields. The protocol asks for the same number of types, sizes and hashes, which this type
+/// doesn't check.
 #[derive(Debug, Clone, PartialEq, Eq, Drop)]
 pub struct NewPooledTransactionHashes {
-    /// The types of the transactions, a byte each, and 0 for legacy ones.
+    /// The types of the transactions, a byte each, and 0 for legacy transactions.
     pub types: Vec<u8>,
-    /// The lengths of their encodings, in bytes.
+    /// The lengths of the encodings of the transactions, in bytes.
     pub sizes: Vec<u64>,
-    /// Their hashes.
+    /// The hashes of the transactions.
     pub hashes: Vec<Hash>,
 }
 
@@ -146,7 +147,7 @@ impl StrictRead for NewPooledTransactionHashes {
 /// EIP-7642.
 #[derive(Debug, Clone, Copy, PartialEq, Eq)]
 pub struct BlockRangeUpdate {
-    /// The number of the earliest block that the client has whole.
+    /// The number of the earliest block that the client has in full.
     pub earliest_block: u64,
     /// The number of the latest block.
     pub latest_block: u64,
@@ -199,7 +200,7 @@ impl StrictRead for BlockRangeUpdate {
     ghost strict = { block_range_update.reads_strictly };
 }
 
-/// A whole block that a client announces, message 0x07 of `eth`: the list of both fields.
+/// A whole block that a client announces, message 0x07 of `eth`: the list of the two fields.
 #[derive(Debug, Clone, PartialEq, Eq, Drop)]
 pub struct NewBlock {
     /// The block.
@@ -247,8 +248,9 @@ impl StrictRead for NewBlock {
     ghost strict = { new_block.reads_strictly };
 }
 
-/// Transactions that a client sends to others, message 0x02 of `eth`: the list of them, each as in a
-/// block. EIP-4844 forbids to send blob transactions in this message; this type doesn't check that.
+/// Transactions that a client sends to other clients, message 0x02 of `eth`: the list of the
+/// transactions, each as in a block. EIP-4844 forbids blob transactions in this message, which this
+/// type doesn't check.
 #[derive(Debug, Clone, PartialEq, Eq, Drop)]
 pub struct Transactions(pub Vec<AnyTransaction>);
 

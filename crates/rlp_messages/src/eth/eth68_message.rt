@@ -18,7 +18,8 @@ pub const ETH_68: Protocol<'static> = Protocol {
 };
 
 /// A message of `eth/68`. The clients' `Hello` messages give the offset of [`ETH_68`] by
-/// [`Protocol::offset`]: it is 0x10, and more if a shared capability's name comes before `eth`.
+/// [`Protocol::offset`]: the offset is 0x10, or more if the two clients share a capability whose
+/// name comes before `eth`.
 #[derive(Debug, Clone, PartialEq, Eq, Drop)]
 pub enum Eth68Message {
     /// 0x00.

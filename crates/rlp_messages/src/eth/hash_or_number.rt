@@ -8,8 +8,8 @@ use rlp::{
 use rlp_records::Hash;
 use std::alloc::{AllocError, Global};
 
-/// A block, by its hash or its number. A string of 32 bytes is a hash, and one of at most eight is
-/// a number.
+/// A block, by its hash or its number. A string of 32 bytes is a hash, and a string of at most
+/// eight bytes is a number.
 #[derive(Debug, Clone, Copy, PartialEq, Eq)]
 pub enum HashOrNumber {
     /// The block with this hash.
@@ -33,8 +33,8 @@ impl Encodable for HashOrNumber {
 }
 
 /// Reading fails as reading a number does: with `RlpIsTooBig` if the string has more than eight
-/// bytes and not 32, and with `RlpInvalidIndirection` if it is shorter and begins with a zero. It
-/// doesn't allocate.
+/// bytes but not 32, and with `RlpInvalidIndirection` if it has at most eight bytes and begins with
+/// a zero. It doesn't allocate.
 impl Decodable for HashOrNumber {
     ghost reading = { hash_or_number.reading };
 

@@ -9,8 +9,8 @@ use rlp::{
 use rlp_headers::AnyReceipt;
 use std::alloc::{AllocError, Global};
 
-/// The receipts of the transactions of a block, in their order: the list of them. Those of types that
-/// aren't known are kept.
+/// The receipts of a block, in the order of its transactions: the list of the receipts. Receipts of
+/// unknown types are kept as their bytes.
 #[derive(Debug, Clone, PartialEq, Eq, Drop)]
 pub struct BlockReceipts(pub Vec<AnyReceipt>);
 
@@ -48,7 +48,8 @@ impl StrictRead for BlockReceipts {
 }
 
 /// The answer to [`GetReceipts`](crate::GetReceipts), in message 0x10 of `eth/68`: the list of the
-/// receipts of each block. Since `eth/69` the receipts are other lists, without filters of logs.
+/// receipts of each block. Since `eth/69` receipts are written as other lists, without filters of
+/// logs.
 #[derive(Debug, Clone, PartialEq, Eq, Drop)]
 pub struct Receipts(pub Vec<BlockReceipts>);
 

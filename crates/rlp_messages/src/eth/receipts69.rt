@@ -13,11 +13,12 @@ use std::alloc::{AllocError, Global};
 /// and its type is its first field.
 #[derive(Debug, Clone, PartialEq, Eq, Drop)]
 pub struct Receipt69 {
-    /// The type of the transaction, and 0 for a legacy one. This type allows any number of one byte.
+    /// The type of the transaction, and 0 for a legacy transaction. This type allows any number of
+    /// one byte.
     pub transaction_type: u8,
     /// The status or the root of the state, as in a [`Receipt`](rlp_headers::Receipt).
     pub status_or_state_root: ReceiptStatus,
-    /// The gas that this transaction and those before it in the block used.
+    /// The gas that the block used up to this transaction, including it.
     pub cumulative_gas_used: u64,
     /// The logs that the transaction emitted, in order.
     pub logs: Vec<Log>,
@@ -70,7 +71,8 @@ impl StrictRead for Receipt69 {
     ghost strict = { receipt69.reads_strictly };
 }
 
-/// The receipts of the transactions of a block since `eth/69`, in their order: the list of them.
+/// The receipts of a block since `eth/69`, in the order of its transactions: the list of the
+/// receipts.
 #[derive(Debug, Clone, PartialEq, Eq, Drop)]
 pub struct BlockReceipts69(pub Vec<Receipt69>);
 

@@ -20,7 +20,7 @@ pub struct GetBlockHeaders {
     pub start_block: HashOrNumber,
     /// The number of headers that are asked for, at most.
     pub limit: u64,
-    /// The number of blocks between two of them.
+    /// The number of blocks that are skipped between two headers.
     pub skip: u64,
     /// Whether the headers lead back from the first block.
     pub reverse: bool,
@@ -104,7 +104,7 @@ impl StrictRead for BlockHeaders {
     ghost strict = { block_headers.reads_strictly };
 }
 
-/// Asks for the bodies of blocks, in message 0x05 of `eth`: the list of their hashes.
+/// Asks for the bodies of blocks, in message 0x05 of `eth`: the list of the hashes of the blocks.
 #[derive(Debug, Clone, PartialEq, Eq, Drop)]
 pub struct GetBlockBodies(pub Vec<Hash>);
 
@@ -178,8 +178,8 @@ impl StrictRead for BlockBodies {
     ghost strict = { block_bodies.reads_strictly };
 }
 
-/// Asks for transactions that aren't in a block yet, in message 0x09 of `eth`: the list of their
-/// hashes.
+/// Asks for transactions that aren't in a block yet, in message 0x09 of `eth`: the list of the
+/// hashes of the transactions.
 #[derive(Debug, Clone, PartialEq, Eq, Drop)]
 pub struct GetPooledTransactions(pub Vec<Hash>);
 
@@ -217,7 +217,7 @@ impl StrictRead for GetPooledTransactions {
 }
 
 /// The answer to [`GetPooledTransactions`], in message 0x0a of `eth`: the list of the transactions.
-/// One of type 3 has its blobs, as in EIP-4844 or EIP-7594.
+/// A transaction of type 3 has its blobs, as in EIP-4844 or EIP-7594.
 #[derive(Debug, Clone, PartialEq, Eq, Drop)]
 pub struct PooledTransactions(pub Vec<PooledTransaction>);
 

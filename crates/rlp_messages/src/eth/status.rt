@@ -12,7 +12,7 @@ use std::alloc::{AllocError, Global};
 #[derive(Debug, Clone, Copy, PartialEq, Eq)]
 pub struct ForkHash(pub [u8; 4]);
 
-/// Written as the array of the bytes is.
+/// Written as the array of its bytes.
 impl Encodable for ForkHash {
     ghost item = { fork_hash.item };
 
@@ -23,7 +23,7 @@ impl Encodable for ForkHash {
     }
 }
 
-/// Read as the array of the bytes is. Fails with `RlpIsTooShort` if the string is shorter, and with
+/// Read as an array of 4 bytes. Fails with `RlpIsTooShort` if the string is shorter, and with
 /// `RlpIsTooBig` if it is longer. It doesn't allocate.
 impl Decodable for ForkHash {
     ghost reading = { fork_hash.reading };
@@ -48,7 +48,7 @@ impl StrictRead for ForkHash {
     ghost strict = { fork_hash.reads_strictly };
 }
 
-/// The forks that a client knows: the list of both fields, as in EIP-2124.
+/// The forks that a client knows: the list of the two fields, as in EIP-2124.
 #[derive(Debug, Clone, Copy, PartialEq, Eq)]
 pub struct ForkId {
     /// The checksum of the hash of block 0 and of the forks so far.
@@ -175,7 +175,7 @@ pub struct Status69 {
     pub genesis_hash: Hash,
     /// The forks that the client knows.
     pub fork_id: ForkId,
-    /// The number of the earliest block that the client has whole.
+    /// The number of the earliest block that the client has in full.
     pub earliest_block: u64,
     /// The number of the latest block.
     pub latest_block: u64,

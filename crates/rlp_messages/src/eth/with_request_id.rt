@@ -9,7 +9,7 @@ use rlp::{
 };
 use std::alloc::{AllocError, Global};
 
-/// A request or its answer, with the number that they share: the list of both fields, as in
+/// A request or its answer, with the number that the two share: the list of the two fields, as in
 /// EIP-2481.
 #[derive(Debug, Clone, PartialEq, Eq, Drop)]
 pub struct WithRequestId<T> {

@@ -8,14 +8,15 @@ use rlp::{
 };
 use std::alloc::{AllocError, Global};
 
-/// Why a client ends a connection: a number of one byte, by its name in RLPx.
+/// Why a client ends a connection: a number of one byte. The variants are the names of the numbers
+/// in RLPx.
 #[derive(Debug, Clone, Copy, PartialEq, Eq)]
 pub enum DisconnectReason {
     /// 0x00: the end was requested.
     Requested,
-    /// 0x01: an error of the connection below, of TCP.
+    /// 0x01: an error of the TCP connection.
     TcpError,
-    /// 0x02: the other client broke the protocol, as by a message that can't be read.
+    /// 0x02: the other client broke the protocol, for example by a message that can't be read.
     ProtocolBreach,
     /// 0x03: the other client is of no use.
     UselessPeer,
@@ -23,11 +24,11 @@ pub enum DisconnectReason {
     TooManyPeers,
     /// 0x05: the clients are connected already.
     AlreadyConnected,
-    /// 0x06: the versions of `p2p` don't fit together.
+    /// 0x06: the versions of `p2p` aren't compatible.
     IncompatibleVersion,
     /// 0x07: the other client has no identity.
     NullIdentity,
-    /// 0x08: the client ends.
+    /// 0x08: the client shuts down.
     ClientQuitting,
     /// 0x09: the identity isn't the one that was expected.
     UnexpectedIdentity,
@@ -35,7 +36,7 @@ pub enum DisconnectReason {
     OwnIdentity,
     /// 0x0b: a [`Ping`](crate::Ping) had no answer in time.
     PingTimeout,
-    /// 0x10: a reason of another protocol on this connection.
+    /// 0x10: a reason of a protocol above `p2p`.
     SubprotocolError,
     /// A number that has no name.
     Other(u8),
@@ -88,7 +89,7 @@ impl DisconnectReason {
     }
 }
 
-/// Written as its number is.
+/// Written as its number.
 impl Encodable for DisconnectReason {
     ghost item = { reason.item };
 
@@ -99,7 +100,7 @@ impl Encodable for DisconnectReason {
     }
 }
 
-/// Read as its number is. It doesn't allocate.
+/// Read as a number of one byte. It doesn't allocate.
 impl Decodable for DisconnectReason {
     ghost reading = { reason.reading };
 
@@ -125,10 +126,11 @@ impl StrictRead for DisconnectReason {
 
 /// The last message of a connection, 0x01 of `p2p`, in one of two forms.
 ///
-/// RLPx says that it is the list of the reason. Some clients send the reason alone.
+/// RLPx says that the message is the list of the reason. Some clients send the reason alone.
 ///
-/// The reason 0 is the empty string, `80`. Reading fails for the string of the byte 0, `00`, alone or
-/// in a list (`c100`), and for a list with items after the reason, though some clients read these.
+/// The reason 0 is the empty string, `80`. Reading fails for the string of the byte 0, `00`, alone
+/// or in a list (`c100`), and for a list with items after the reason, though some clients read
+/// these messages.
 #[derive(Debug, Clone, Copy, PartialEq, Eq)]
 pub enum Disconnect {
     /// The list of the reason.
@@ -138,7 +140,7 @@ pub enum Disconnect {
 }
 
 impl Disconnect {
-    /// Returns the reason, in either form.
+    /// Returns the reason, whichever form the message has.
     pub fn reason(self) -> DisconnectReason
         ensures { result ≡ told_reason self }
     {

@@ -14,7 +14,7 @@ use std::alloc::{AllocError, Global};
 #[derive(Debug, Clone, Copy, PartialEq, Eq)]
 pub struct NodeId(pub [u8; 64]);
 
-/// Written as the array of the bytes is.
+/// Written as the array of its bytes.
 impl Encodable for NodeId {
     ghost item = { node_id.item };
 
@@ -25,7 +25,7 @@ impl Encodable for NodeId {
     }
 }
 
-/// Read as the array of the bytes is. Fails with `RlpIsTooShort` if the string is shorter, and with
+/// Read as an array of 64 bytes. Fails with `RlpIsTooShort` if the string is shorter, and with
 /// `RlpIsTooBig` if it is longer. It doesn't allocate.
 impl Decodable for NodeId {
     ghost reading = { node_id.reading };
@@ -50,7 +50,7 @@ impl StrictRead for NodeId {
     ghost strict = { node_id.reads_strictly };
 }
 
-/// A protocol that a client speaks, and its version: the list of both.
+/// A protocol that a client speaks, and its version: the list of the two fields.
 #[derive(Debug, Clone, PartialEq, Eq, Drop)]
 pub struct Capability {
     /// The name, such as `eth`. The protocol allows at most 8 characters of ASCII; this type allows
@@ -148,8 +148,9 @@ impl FixedFields for FurtherItem {
 /// The first message of a connection, 0x00 of `p2p`: the list of its five fields, and of further
 /// items.
 ///
-/// EIP-8 asks a reader to ignore items after the five fields. They are kept, so that the value is
-/// written as the bytes that it was read from. A client that writes a greeting has none.
+/// EIP-8 asks a reader to ignore items after the five fields. This type keeps these items, so that
+/// the value is written as the bytes that it was read from. A client that writes a greeting of its
+/// own adds none.
 #[derive(Debug, Clone, PartialEq, Eq, Drop)]
 pub struct Hello {
     /// The version of the capability `p2p`.
@@ -158,7 +159,7 @@ pub struct Hello {
     pub client_id: Vec<u8>,
     /// The protocols that the client speaks, in order.
     pub capabilities: Vec<Capability>,
-    /// The port that the client listens on, or 0. RLPx asks a reader to ignore it, and lets it be
+    /// The port that the client listens on, or 0. RLPx asks a reader to ignore the port, and allows
     /// any number; this type reads numbers of at most 64 bits.
     pub listen_port: u64,
     /// The client's public key.

@@ -12,13 +12,14 @@ pub struct Protocol<'a> {
     pub name: &'a [u8],
     /// The version.
     pub version: u64,
-    /// The number of ids: 1 more than the greatest number of a message.
+    /// The number of ids: 1 more than the greatest number of a message of the capability.
     pub ids: u8,
 }
 
 impl Protocol<'_> {
-    /// Returns whether a connection to the client of this greeting uses the capability: it is one of
-    /// ours, the peer speaks it in the same version, and no higher version of it is shared.
+    /// Returns whether a connection to the client of this greeting uses the capability: the
+    /// capability is one of ours, the peer speaks it in the same version, and the two clients share
+    /// no higher version of it.
     pub fn is_shared(&self, ours: &[Protocol<'_>], peer: &Hello) -> bool
         ensures { result ≡ is_shared (map known_of ours.now) (offered peer.now) self.now.name.now
             self.now.version }
@@ -31,7 +32,7 @@ impl Protocol<'_> {
     /// alphabetic order of the names, which are compared byte by byte.
     ///
     /// `ours` are the capabilities in our own greeting, each once. Returns `None` if the capability
-    /// isn't shared, as [`Protocol::is_shared`] tells, and if its offset is above 255.
+    /// isn't shared, as [`Protocol::is_shared`] says, or if its offset is above 255.
     ///
     /// Of n capabilities of ours and m of the peer, it compares each of ours with each of the peer at
     /// most n + 2 times, and doesn't allocate.
@@ -46,7 +47,7 @@ impl Protocol<'_> {
     }
 }
 
-/// Returns the first id after those of the shared capabilities whose names come before this name.
+/// Returns the first id after the ids of the shared capabilities whose names come before this name.
 fn first_id(name: &[u8], ours: &[Protocol<'_>], peer: &Hello) -> u128
     ensures { result ≡ offset_of (map known_of ours.now) (offered peer.now) name.now }
 {
@@ -59,7 +60,8 @@ fn first_id(name: &[u8], ours: &[Protocol<'_>], peer: &Hello) -> u128
     next
 }
 
-/// Whether the peer speaks a capability in this version, and both clients in no higher one.
+/// Whether the peer speaks a capability in this version, and the two clients share no higher
+/// version.
 fn is_used(protocol: &Protocol<'_>, ours: &[Protocol<'_>], peer: &Hello) -> bool
     ensures { result ≡ is_used (map known_of ours.now) (offered peer.now) protocol.now.name.now
         protocol.now.version }

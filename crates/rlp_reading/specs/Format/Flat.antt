@@ -12,7 +12,8 @@ flat_item place depth is_list header payload =
 abbrev pub header_length : Item → List ℕ → ℕ
 header_length x payload = length (encoding x) - length payload
 
--- The rows of an item whose encoding begins at this place, inside `depth` lists: its own, and then those of the items in it. `row_of` makes each row.
+-- The rows of an item whose encoding begins at this place, inside `depth` lists: the row of the item itself, and then the rows of the items in it. `row_of` makes
+-- each row.
 unfoldable mutual
   pub flat_rows : {R : Type 0} → (FlatItem → R) → ℕ → ℕ → Item → List R
   flat_rows row_of place depth (string s) = row_of (flat_item place depth false (header_length (string s) s) (length s)) ∷ []

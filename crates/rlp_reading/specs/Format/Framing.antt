@@ -19,7 +19,7 @@ pub data HasHeader : List ℕ → ℕ → ℕ → Type 0 where
 abbrev pub HasNoHeader : List ℕ → Type 0
 HasNoHeader b = (h n : ℕ) → ¬ HasHeader b h n
 
--- the number of length bytes that a first byte announces
+-- the number of bytes of the length that follows this first byte
 abbrev pub announced : ℕ → ℕ
 announced first = if nat_lt first 0xc0 then first - 0xb7 else first - 0xf7
 
@@ -27,7 +27,7 @@ announced first = if nat_lt first 0xc0 then first - 0xb7 else first - 0xf7
 abbrev pub is_within : ℕ → ℕ → ℕ → Bool
 is_within low high n = nat_le low n && nat_le n high
 
--- Why bytes begin with no header: the first of these that applies. It has no meaning for bytes that have a header.
+-- Why bytes begin with no header: the first fault that applies. It has no meaning for bytes that have a header.
 abbrev pub header_fault : List ℕ → DecoderError
 header_fault [] = RlpIsTooShort
 header_fault (first ∷ []) = RlpIsTooShort
@@ -120,25 +120,25 @@ map_ok f (Err e) = Err e
 unfoldable pub frame : List ℕ → Result (List ℕ) DecoderError
 frame b = map_ok (λ p. take (total_len p) b) (framing b)
 
--- only the bytes of the value
+-- the bytes of the value, if b is framed
 unfoldable pub value : List ℕ → Result (List ℕ) DecoderError
 value b = map_ok (λ p. take p.value_len (drop p.header_len b)) (framing b)
 
 -- ---- the items that bytes begin with, and what follows the items
 
--- framed items whose joined bytes begin p
+-- the fs are framed items, and p begins with their joined bytes
 pub record IsCut (p : List ℕ) (fs : List (List ℕ)) : Type 0 where
   pub each : All IsFramedItem fs
   pub begins : BeginsWith p (concat fs)
 
--- the longest such list
+-- the fs are the longest list of framed items with whose joined bytes p begins
 pub record IsSplit (p : List ℕ) (fs : List (List ℕ)) : Type 0 where
   pub cut : IsCut p fs
   pub longest : (gs : List (List ℕ)) → IsCut p gs → length gs ≤ length fs
 
 -- ---- the same, computed
 
--- the first frame of p, and then what `more` gives for the bytes after it
+-- the first frame of p, and then the items that `more` gives for the bytes after the frame
 abbrev pub frame_and_more : (List ℕ → List (List ℕ)) → List ℕ → Result (List ℕ) DecoderError → List (List ℕ)
 frame_and_more more p (Err e) = []
 frame_and_more more p (Ok f) = f ∷ more (drop (length f) p)
@@ -148,8 +148,8 @@ abbrev pub split_within : ℕ → List ℕ → List (List ℕ)
 split_within zero p = []
 split_within (suc turns) p = frame_and_more (split_within turns) p (frame p)
 
--- The longest list of framed items that begins p. The law `split_is_longest` says that only this list is `IsSplit`. Each item has a byte, so there are no more
--- items than bytes.
+-- The longest list of framed items with whose joined bytes p begins. The law `split_is_longest` says that only this list is `IsSplit`. Each item has a byte, so
+-- there are no more items than bytes.
 unfoldable pub split : List ℕ → List (List ℕ)
 split p = split_within (length p) p
 
@@ -158,7 +158,7 @@ abbrev pub begins_as_list : List ℕ → Bool
 begins_as_list [] = false
 begins_as_list (first ∷ rest) = nat_le 0xc0 first
 
--- the value, if there is one and the bytes begin a list
+-- the value, if the result is a value and the bytes begin a list
 abbrev pub payload_in : Bool → Result (List ℕ) DecoderError → List ℕ
 payload_in true (Ok v) = v
 payload_in true (Err e) = []
@@ -168,11 +168,11 @@ payload_in false v = []
 unfoldable pub payload : List ℕ → List ℕ
 payload b = payload_in (begins_as_list b) (value b)
 
--- the items of a framed list: the longest list of framed items that begins its value. Anything else has none.
+-- the items of a framed list: the longest list of framed items with whose joined bytes its value begins. Anything else has no items.
 unfoldable pub items : List ℕ → List (List ℕ)
 items b = split (payload b)
 
--- what follows the items in the value of a framed list; no bytes for anything else
+-- the bytes that follow the items in the value of a framed list; no bytes for anything else
 unfoldable pub rest : List ℕ → List ℕ
 rest b = drop (length (concat (items b))) (payload b)
 
@@ -186,19 +186,19 @@ IsString b d = BeginsWith b (encoding (string d))
 abbrev pub HasNoString : List ℕ → Type 0
 HasNoString b = (d : List ℕ) → ¬ IsString b d
 
--- why there is no string after a first byte that announces n bytes, at most 55: they aren't all there, or are one byte below 0x80, which has no header
+-- why there is no string after a first byte that announces n bytes, at most 55: fewer bytes follow, or the string is one byte below 0x80, which has no header
 abbrev pub short_string_fault : ℕ → List ℕ → DecoderError
 short_string_fault n rest = if nat_lt (length rest) n then RlpInconsistentLengthAndData else RlpInvalidIndirection
 
--- Why there is no string of n bytes after k length bytes, in this order: a length up to 55 belongs in the first byte, header and string have to be
--- fewer than 2^64 bytes, or the n bytes aren't all there.
+-- Why there is no string of n bytes after k length bytes, in this order: a length up to 55 belongs in the first byte, header and string have to be fewer than 2^64
+-- bytes, or fewer than n bytes follow.
 abbrev pub long_value_fault : ℕ → ℕ → DecoderError
 long_value_fault k n =
     if nat_le n 55 then RlpInvalidIndirection
     else if nat_lt (2 ^ 64 - 1) (1 + k + n) then RlpInvalidLength
     else RlpInconsistentLengthAndData
 
--- why there is no string after a first byte that announces k length bytes: they aren't all there, the first of them is zero, or a fault of the length itself
+-- why there is no string after a first byte that announces k length bytes: fewer length bytes follow, the first of them is zero, or a fault of the length itself
 abbrev pub long_string_fault : ℕ → List ℕ → DecoderError
 long_string_fault k rest =
     if nat_lt (length rest) k then RlpInconsistentLengthAndData
@@ -217,7 +217,7 @@ string_fault (first ∷ rest) =
 abbrev pub ReadsString : List ℕ → Result (List ℕ) DecoderError → Type 0
 ReadsString b answer = MatchResult answer (λ d. IsString b d) (λ e. HasNoString b × (e ≡ string_fault b))
 
--- ---- the same, computed by the first byte. The law `string_is_read` says that the strings are those of `IsString`, and the faults `string_fault`.
+-- ---- the same, computed by the first byte. The law `string_is_read` says that the string is the one of `IsString`, and the fault is `string_fault`.
 
 -- After a first byte that announces n bytes, at most 55: all have to be there, and one byte below 0x80 must not have a header.
 abbrev pub short_string : ℕ → List ℕ → Result (List ℕ) DecoderError
@@ -242,8 +242,8 @@ long_string k rest =
     else if slice_index rest 0 == 0 then Err RlpInvalidIndirection
     else long_value k (number_from_digits 256 (take k rest)) (drop k rest)
 
--- The string that b begins with, or why there is none. A byte below 0x80 is its own string. A byte below 0xb8 announces the string's length.
--- A byte below 0xc0 announces the number of length bytes. The others begin a list.
+-- The string that b begins with, or why there is none. A byte below 0x80 is its own string. A byte below 0xb8 announces the string's length. A byte below 0xc0
+-- announces the number of length bytes. Any other byte begins a list.
 unfoldable pub read_string : List ℕ → Result (List ℕ) DecoderError
 read_string [] = Err RlpIsTooShort
 read_string (first ∷ rest) =
@@ -295,7 +295,8 @@ abbrev pub fault_of_some : List ℕ → Option DecoderError
 fault_of_some [] = None
 fault_of_some (byte ∷ more) = Some (fault (byte ∷ more))
 
--- Why b isn't exactly one list. The first that applies: it doesn't begin as a list, it has a strict fault, bytes that aren't an item follow the items in it.
+-- Why b isn't exactly one list. The first fault that applies: b doesn't begin as a list, b has a strict fault, or bytes that aren't an item follow the items in the
+-- list.
 unfoldable pub strict_list_fault : List ℕ → Option DecoderError
 strict_list_fault b = if begins_as_list b then first_fault (strict_fault b) (fault_of_some (rest b)) else Some RlpExpectedToBeList
 
@@ -304,6 +305,6 @@ abbrev pub whole_string : List ℕ → Result (List ℕ) DecoderError → Result
 whole_string b (Err e) = Err e
 whole_string b (Ok d) = if nat_lt (length (encoding (string d))) (length b) then Err RlpIsTooBig else Ok d
 
--- what follows the items that bytes begin with
+-- the bytes that follow the items that p begins with
 abbrev pub after_items : List ℕ → List ℕ
 after_items p = drop (length (concat (split p))) p

@@ -4,7 +4,7 @@ use Rattle.rlp_reading.specs.{declared.error.DecoderError.DecoderError, declared
 use Rattle.rlp_reading.specs.Format.Framing.{begins_as_list, payload, split, IsCanonicalWithin, after_items, fault_of_some, strict_fault}
 use Rattle.rlp_reading.specs.{declared.flat.TreeFault.TreeFault, declared.flat.TreeFault.TheVariants.{Decoding, TooDeep}}
 
--- a header in front of one byte that is its own encoding
+-- whether bytes are a header in front of one byte that is its own encoding
 abbrev pub is_needless : List ℕ → Bool
 is_needless [] = false
 is_needless (header ∷ []) = false
@@ -15,14 +15,14 @@ is_needless (header ∷ byte ∷ next ∷ rest) = false
 abbrev pub needless_fault : List ℕ → Option TreeFault
 needless_fault f = if is_needless f then Some (Decoding RlpInvalidIndirection) else None
 
--- the first of these faults, or else that of what follows
+-- the first of these faults, or else the fault of what follows
 abbrev pub first_of : List (Option TreeFault) → Option DecoderError → Option TreeFault
 first_of [] None = None
 first_of [] (Some e) = Some (Decoding e)
 first_of (None ∷ faults) follows = first_of faults follows
 first_of (Some e ∷ faults) follows = Some e
 
--- the first fault of the items in a payload, or else why what follows them is no item
+-- the first fault of the items in a payload, or else why the bytes that follow the items are no item
 abbrev pub payload_fault : (List ℕ → Option TreeFault) → List ℕ → Option TreeFault
 payload_fault item_fault p = first_of (map item_fault (split p)) (fault_of_some (after_items p))
 
@@ -31,7 +31,7 @@ unfoldable pub walk_fault : ℕ → List ℕ → Option TreeFault
 walk_fault zero f = if begins_as_list f then Some TooDeep else needless_fault f
 walk_fault (suc left) f = if begins_as_list f then payload_fault (walk_fault left) (payload f) else needless_fault f
 
--- the fault of bytes that aren't exactly one framed item, or else the first one in it
+-- the fault of bytes that aren't exactly one framed item, or else the first fault in the item
 abbrev pub first_in : Option DecoderError → Option TreeFault → Option TreeFault
 first_in None inside = inside
 first_in (Some e) inside = Some (Decoding e)
@@ -40,7 +40,7 @@ first_in (Some e) inside = Some (Decoding e)
 unfoldable pub tree_fault : ℕ → List ℕ → Option TreeFault
 tree_fault most b = first_in (strict_fault b) (walk_fault most b)
 
--- The fault of bytes that have no flat form within the depth: their first fault. If they have one, memory was refused.
+-- The fault of bytes that have no flat form within the depth: their first fault. If the bytes have a flat form, memory was refused.
 pub data IsFlatFault (most : ℕ) (b : List ℕ) : TreeFault → Type 0 where
   faulty : (e : TreeFault) → tree_fault most b ≡ Some e → ¬ IsCanonicalWithin most b → IsFlatFault most b e
   refused : IsCanonicalWithin most b → IsFlatFault most b (Decoding OutOfMemory)

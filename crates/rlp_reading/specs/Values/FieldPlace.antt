@@ -2,7 +2,7 @@
 use Rattle.std.specs.Prelude.{ℕ, ◌≡◌, ◌≤◌, List, None, Err, length, drop}
 use Rattle.rlp_reading.specs.{Format.Framing.{fault, items, split, after_items}, Views.View.{View, item_at, items_fault}}
 
--- These bytes are left after the first `place` items of a view. Past the last item each number has the fault of what follows the items.
+-- These bytes are left after the first `place` items of a view. Each number past the last item has the fault of the bytes that follow the items.
 pub record IsAtPlace (v : View) (place : ℕ) (left : List ℕ) : Type 0 where
   pub told : items_fault v ≡ None
   pub others : split left ≡ drop place (items v.bytes)

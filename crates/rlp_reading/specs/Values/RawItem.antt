@@ -26,7 +26,7 @@ item_within (suc most) bytes = item_by (item_within most) bytes (read_string byt
 abbrev pub deepest_raw_item : ℕ
 deepest_raw_item = 256
 
--- The bytes are the encoding of an item that is no deeper than that. Proofs of types that hold raw items don't look inside.
+-- The bytes are the encoding of an item of at most the greatest depth of a raw item. Proofs of types that hold raw items don't look inside.
 unfoldable pub IsRawItem : List ℕ → Type 0
 IsRawItem b = IsCanonicalWithin deepest_raw_item b
 

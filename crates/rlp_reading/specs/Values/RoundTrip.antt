@@ -3,13 +3,13 @@ use Rattle.std.specs.Prelude.{◌≡◌, ◌↔◌, ◌<◌, ◌^◌, ℕ, List,
 use Rattle.rlp_reading.specs.{declared.error.DecoderError.DecoderError, Views.View.{View, strict_view_of, view_of}}
 use Rattle.rlp_format.specs.{Format.Encoding.{Item, AreBytes, BeginsWith, encoding}, Values.Value.AreAlike}
 
--- A view reads a value back: it gives exactly the values that fit and are alike to it, and has no fault.
+-- A view reads a value back: it gives exactly the values that fit and are alike to that value, and has no fault.
 pub record ReadsBack {A : Type 0} (Fits : A → Type 0) (item : A → Item) (gives : View → A → Type 0) (faults : View → DecoderError → Type 0)
     (view : View) (v : A) : Type 0 where
   pub alike : (w : A) → gives view w ↔ (Fits w × AreAlike item w v)
   pub no_fault : (e : DecoderError) → ¬ faults view e
 
--- Read strictly, bytes give a value if and only if it fits and they are the encoding of its item, and then have no fault.
+-- Read strictly, bytes give a value if and only if the value fits and the bytes are the encoding of its item, and then the bytes have no fault.
 pub record ReadsStrictly {A : Type 0} (Fits : A → Type 0) (item : A → Item) (gives : View → A → Type 0) (faults : View → DecoderError → Type 0)
     (b : List ℕ) (v : A) : Type 0 where
   pub exact : gives (strict_view_of b) v ↔ (Fits v × (b ≡ encoding (item v)))

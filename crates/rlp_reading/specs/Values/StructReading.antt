@@ -2,7 +2,7 @@
 use Rattle.std.specs.Prelude.{◌⊎◌}
 use Rattle.rlp_reading.specs.{declared.error.DecoderError.DecoderError, Values.ValueReading.IsSameFault}
 
--- Exactly one of a fact and one fault: the fact holds or there is a fault, not both, and all faults are the same.
+-- Either the fact holds and there is no fault, or the fact does not hold and there is exactly one fault.
 pub record HoldsOrHasOneFault (Fact : Type 0) (Faults : DecoderError → Type 0) : Type 0 where
   pub some : Fact ⊎ ((e : DecoderError) × Faults e)
   pub one_fault : (e f : DecoderError) → Faults e → Faults f → IsSameFault e f

@@ -1,9 +1,9 @@
--- Values of several types: told apart by a list or a string, or by a tag, which is a number in front of a payload.
+-- Values of several types, which differ in being a list or a string, or in a tag, which is a number in front of a payload.
 use Rattle.std.specs.Prelude.{ℕ, ◌⊎◌}
 use Rattle.std.proofs.Common.{inl, inr}
 use Rattle.rlp_format.specs.Format.Encoding.{Item}
 
--- P of a value on the left, and Q of one on the right
+-- P of a value on the left, and Q of a value on the right
 abbrev pub OnSum : {A B : Type 0} → (A → Type 0) → (B → Type 0) → A ⊎ B → Type 0
 OnSum P Q (inl x) = P x
 OnSum P Q (inr y) = Q y
@@ -13,7 +13,7 @@ abbrev pub sum_item : {A B : Type 0} → (A → Item) → (B → Item) → A ⊎
 sum_item item other (inl x) = item x
 sum_item item other (inr y) = other y
 
--- the number of a value on the left, or that of one on the right
+-- the tag of a value on the left, or the tag of a value on the right
 abbrev pub sum_tag : {A B : Type 0} → ℕ → (B → ℕ) → A ⊎ B → ℕ
 sum_tag tag more (inl x) = tag
 sum_tag tag more (inr y) = more y

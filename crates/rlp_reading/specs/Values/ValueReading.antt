@@ -13,16 +13,16 @@ pub record GivesValue {A : Type 0} (Fits : A → Type 0) (item : A → Item) (v 
 abbrev pub GivesNumber : ℕ → View → ℕ → Type 0
 GivesNumber width v n = GivesValue (FitsBytes width) number_item v n
 
--- Why a string isn't a number of at most this number of bytes, in the order of the tests: it is longer, or it begins with a zero.
+-- Why a string isn't a number of at most this number of bytes, in the order of the tests: the string is longer, or it begins with a zero.
 pub data IsDigitsFault (width : ℕ) (digits : List ℕ) : DecoderError → Type 0 where
   too_long : width < length digits → IsDigitsFault width digits RlpIsTooBig
   leading_zero : (more : List ℕ) → length digits ≤ width → digits ≡ 0 ∷ more → IsDigitsFault width digits RlpInvalidIndirection
 
--- two faults are the same if their variants are, and for `Custom` also their texts
+-- two faults are the same if they are the same variant, and for `Custom` also have the same text
 abbrev pub IsSameFault : DecoderError → DecoderError → Type 0
 IsSameFault e f = error_name e ≡ error_name f
 
--- Exactly one reading: one value, if alike values count as one, or one fault. `Gives` says which values are read, and `Faults` which faults.
+-- Either one value, if alike values count as one, or one fault. `Gives` says which values are read, and `Faults` which faults.
 pub record HasOneReading {A : Type 0} (item : A → Item) (Gives : A → Type 0) (Faults : DecoderError → Type 0) : Type 0 where
   pub some : ((x : A) × Gives x) ⊎ ((e : DecoderError) × Faults e)
   pub one_value : (x y : A) → Gives x → Gives y → AreAlike item x y

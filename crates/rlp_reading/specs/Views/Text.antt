@@ -8,7 +8,7 @@ use Rattle.rlp_reading.specs.declared.error.DecoderError.TheVariants.{RlpInvalid
 use Rattle.rlp_reading.specs.{declared.error.DecoderError.TheVariants.OutOfMemory, Format.Framing.{value, begins_as_list, items}}
 use Rattle.rlp_reading.specs.Views.ByItems.{by_items}
 
--- what an error prints: its name, and for `Custom` also the text
+-- the printed text of an error: its name, and for `Custom` also the text
 abbrev pub error_name : DecoderError → List ℕ
 error_name RlpIsTooBig = codes "RlpIsTooBig"
 error_name RlpIsTooShort = codes "RlpIsTooShort"
@@ -29,8 +29,8 @@ separated [] = []
 separated (t ∷ []) = t
 separated (t ∷ u ∷ ts) = t ++ codes ", " ++ separated (u ∷ ts)
 
--- The text of b, by its value. For a string it has the digits, for a list the texts of its items, which `text_of` gives. If b has no value, it is the fault's
--- name.
+-- The text of b, by its value. The text of a string has its digits, the text of a list has the texts of its items, which `text_of` gives. If b has no value, the
+-- text is the name of the fault.
 abbrev pub framed_text : (List ℕ → List ℕ) → List ℕ → Bool → Result (List ℕ) DecoderError → List ℕ
 framed_text text_of b is_list (Err e) = error_name e
 framed_text text_of b false (Ok v) = codes "\"0x" ++ encode_lower v ++ codes "\""

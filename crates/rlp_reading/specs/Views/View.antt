@@ -21,32 +21,32 @@ view_of b = record { bytes = b; is_strict = false }
 abbrev pub strict_view_of : List ℕ → View
 strict_view_of b = record { bytes = b; is_strict = true }
 
--- the strict fault of a strict view; a lenient one has none
+-- the strict fault of a strict view; a lenient view has no such fault
 abbrev pub frame_fault : View → Option DecoderError
 frame_fault v = if v.is_strict then strict_fault v.bytes else None
 
--- the lengths of the header and the value that a view begins with, or why they don't lie within it; for a strict view, why they aren't all of it
+-- the lengths of the header and the value that a view begins with, or why the two don't lie within the view, or aren't all bytes of a strict view
 abbrev pub view_header : View → Result PayloadInfo DecoderError
 view_header v = unless (frame_fault v) (framing v.bytes)
 
--- only the value
+-- the bytes of the value that a view begins with, or the fault of `view_header`
 abbrev pub view_value : View → Result (List ℕ) DecoderError
 view_value v = unless (frame_fault v) (value v.bytes)
 
--- the string that a view begins with, or why there is none; in a strict view nothing follows it
+-- the string that a view begins with, or why there is no string; in a strict view nothing follows the string
 abbrev pub view_string : View → Result (List ℕ) DecoderError
 view_string v = if v.is_strict then whole_string v.bytes (read_string v.bytes) else read_string v.bytes
 
--- b begins with the bytes s, or, read strictly, is s
+-- b begins with the bytes s, or, if the Bool is true, b is s
 abbrev pub Holds : Bool → List ℕ → List ℕ → Type 0
 Holds false b s = BeginsWith b s
 Holds true b s = b ≡ s
 
--- a lenient view begins with the encoding of the item, and a strict one is that encoding
+-- a lenient view begins with the encoding of the item, and a strict view is that encoding
 abbrev pub HoldsItem : View → Item → Type 0
 HoldsItem v x = Holds v.is_strict v.bytes (encoding x)
 
--- the same for a string
+-- a lenient view begins with the encoding of the string, and a strict view is that encoding
 abbrev pub HoldsString : View → List ℕ → Type 0
 HoldsString v d = HoldsItem v (string d)
 
@@ -54,8 +54,8 @@ HoldsString v d = HoldsItem v (string d)
 abbrev pub HoldsNoString : View → Type 0
 HoldsNoString v = (d : List ℕ) → ¬ HoldsString v d
 
--- Why a view can't be read as a list, apart from faults of items. A lenient view has no such fault:
--- bytes that aren't a framed list are read as a list of no items, and what follows the items in a list is ignored.
+-- Why a view can't be read as a list, apart from faults of items. A lenient view has no such fault: bytes that aren't a framed list are read as a list of no items,
+-- and bytes that follow the items in a list are ignored.
 abbrev pub list_fault : View → Option DecoderError
 list_fault v = if v.is_strict then strict_list_fault v.bytes else None
 
@@ -75,8 +75,8 @@ pub record Remaining : Type 0 where
   pub headers : ℕ
   pub has_ended : Bool
 
--- What a call of `next` does. It gives the first item that is left, or nothing if none is left. It reads at most one header.
--- Once it gave nothing the iterator has ended, and reads no header.
+-- What a call of `next` does. It gives the first item that is left, or nothing if no item is left. It reads at most one header. Once it gave nothing the iterator
+-- has ended, and reads no header.
 pub record IsStep (old : Remaining) (given : Option View) (new : Remaining) : Type 0 where
   pub steps : YieldsFirst (λ (i : Remaining). i.left) old given new
   pub headers : new.headers ≤ old.headers + 1
@@ -93,7 +93,7 @@ abbrev pub begins_as_data : List ℕ → Bool
 begins_as_data [] = false
 begins_as_data (first ∷ rest) = nat_lt first 0xc0
 
--- whether there is a byte at place i, and it isn't zero
+-- whether there is a byte at place i that isn't zero
 abbrev pub has_nonzero_at : ℕ → List ℕ → Bool
 has_nonzero_at i b = nat_lt 0 (slice_index_or b i 0)
 
@@ -113,11 +113,12 @@ begins_as_int (first ∷ rest) =
 abbrev pub items_fault : View → Option DecoderError
 items_fault v = if begins_as_list v.bytes then list_fault v else Some RlpExpectedToBeList
 
--- the number of items
+-- the number of items of a view, or why the view has no items by number
 unfoldable pub item_count : View → Result ℕ DecoderError
 item_count v = unless (items_fault v) (Ok (length (items v.bytes)))
 
--- Item i and its place, counted from the view's first byte, if the list's header has h bytes. Past the last item, the fault of what follows the items.
+-- Item i and its place, counted from the view's first byte, if the list's header has h bytes. For i past the last item, the fault of the bytes that follow the
+-- items.
 abbrev pub item_after : View → ℕ → ℕ → Result (View × ℕ) DecoderError
 item_after v i h =
     if nat_lt i (length (items v.bytes)) then Ok (record v { bytes = slice_index_or (items v.bytes) i [] }, h + length (concat (take i (items v.bytes))))
@@ -128,11 +129,12 @@ abbrev pub item_by : View → ℕ → Result PayloadInfo DecoderError → Result
 item_by v i (Err e) = Err e
 item_by v i (Ok p) = item_after v i p.header_len
 
--- Item i and its place. First the bytes must begin as a list, then they must be framed. A strict view must be exactly one list.
+-- Item i of a view and its place, counted from the view's first byte, or the fault. First the bytes must begin as a list, then they must be framed. A strict view
+-- must be exactly one list.
 unfoldable pub item_with_place : View → ℕ → Result (View × ℕ) DecoderError
 item_with_place v i = unless (items_fault v) (item_by v i (framing v.bytes))
 
--- the same without the place
+-- item i of a view, counted from 0, or the fault
 abbrev pub item_at : View → ℕ → Result View DecoderError
 item_at v i = map_ok (λ p. p.0) (item_with_place v i)
 

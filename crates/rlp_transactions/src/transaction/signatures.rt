@@ -60,8 +60,8 @@ impl Transaction {
     }
 
     /// Returns the transaction without its signature, and the parity of the y value of the
-    /// signature's point. Returns `None` if the transaction has no type and its `v` is none of
-    /// EIP-155, or that of a chain of more than 64 bits.
+    /// signature's point. Returns `None` if the transaction has no type and its `v` isn't a `v` of
+    /// EIP-155, or is the `v` of a chain whose number has more than 64 bits.
     pub fn into_unsigned(self) -> Option<(UnsignedTransaction, bool)>
         ensures some { IfSome result (λ x. Signs self x.0 x.1) }
         ensures none { IfNone result (HasNoV self) }
@@ -87,7 +87,7 @@ impl Transaction {
     }
 
     /// Returns the bytes that are hashed and signed, as [`UnsignedTransaction::to_bytes`] does for
-    /// the transaction without its signature. Returns `None` where [`Transaction::into_unsigned`]
+    /// the transaction without its signature. Returns `None` if [`Transaction::into_unsigned`]
     /// does.
     pub fn signing_payload(&self, alloc: Global) -> Result<Option<BytesMut>, AllocError>
         ensures some { IfOk result (λ o. IfSome o (λ b. (u : UnsignedTransaction) × (parity : Bool)

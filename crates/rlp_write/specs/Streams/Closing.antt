@@ -20,7 +20,7 @@ closed_bytes zero b tail ps = b ++ tail
 closed_bytes (suc n) b tail [] = b ++ tail
 closed_bytes (suc n) b tail (p ∷ ps) = closed_bytes n (take p.position b) (list_encoding (drop (p.position + 1) b ++ tail)) ps
 
--- the length of the header of such a payload
+-- the length of the header of a list, for the length of its payload
 abbrev pub header_len : ℕ → ℕ
 header_len len = length (written_header 0xc0 len)
 

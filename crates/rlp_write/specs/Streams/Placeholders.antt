@@ -18,12 +18,12 @@ pub record Placed (b : List ℕ) (p : Placeholder) : Type 0 where
   pub placeholder : get_or b p.position 1 ≡ 0
   pub awaits_some : AwaitsSome p.awaits
 
--- each list is within the bytes that are left of the one inside it, and all are behind the front
+-- each list is within the bytes before the placeholder of the list inside it, and all lists are behind the front
 abbrev pub IsLaid : ℕ → List ℕ → List Placeholder → Type 0
 IsLaid start b [] = start ≤ length b
 IsLaid start b (p ∷ ps) = Placed b p × IsLaid start (take p.position b) ps
 
--- only the places: each is below the one inside it, and all are below the end
+-- only the places: each place is below the place of the list inside it, and all are below the end
 abbrev pub Descends : ℕ → List Placeholder → Type 0
 Descends end [] = Unit
 Descends end (p ∷ ps) = (p.position < end) × Descends p.position ps

@@ -3,7 +3,7 @@ use Rattle.std.specs.Prelude.{ℕ, zero, suc, ◌-◌, ◌<◌, Bool, true, fals
 use Rattle.std.specs.Prelude.{Option, Some, None, is_none, All, ◌≡◌, ◌+◌, ◌≤◌, ◌||◌, length, flat_map, replicate, Result, Ok, Err}
 use Rattle.rlp_format.specs.Format.Encoding.{written_header, Item, is_list, string, list_of, encoding}
 
--- ==== Open lists, one inside the other, and the payload of each. In a stream payloads are bytes. Over items the same moves say what the bytes mean.
+-- ==== Open lists, one inside the other, and the payload of each: bytes in a stream. With items as payloads, the same moves say what the bytes mean.
 
 -- An open list, seen from inside: the number of items that it still awaits, which is 1 or more, or `None` if it is unbounded; and the payload before it in the
 -- list around it.
@@ -25,7 +25,7 @@ abbrev pub AwaitsSome : Option ℕ → Type 0
 AwaitsSome None = Unit
 AwaitsSome (Some n) = 0 < n
 
--- what holds for each open list of a stream
+-- each open list that is bounded awaits at least one item
 abbrev pub AllAwait : {A : Type 0} → List (OpenList A) → Type 0
 AllAwait lists = All (λ l. AwaitsSome l.awaits) lists
 
@@ -83,7 +83,7 @@ abbrev pub awaits_after : ℕ → Option ℕ → Option ℕ
 awaits_after k None = None
 awaits_after k (Some n) = Some (n - k)
 
--- K items were counted in the innermost of the lists, which has this `payload`: it awaits k fewer. The last item that it awaits shuts it, and one item is
+-- K items were counted in the innermost of the lists, which has this `payload`: it awaits k items fewer. The last item that it awaits shuts it, and one item is
 -- counted in the list around it.
 abbrev pub count_around : {A : Type 0} → (List A → List A) → ℕ → List A → List (OpenList A) → Stack A
 count_around wrap k payload [] = record { inner = payload; lists = [] }
@@ -95,12 +95,13 @@ count_around wrap k payload (l ∷ ls) =
 abbrev pub stack_count : {A : Type 0} → (List A → List A) → ℕ → Stack A → Stack A
 stack_count wrap k s = count_around wrap k s.inner s.lists
 
--- `is_counted` of a state after k items were counted: whether that closed a list, which is itself an item and counted by now; with no list open it stays
+-- `is_counted` of a state after k items were counted: whether the count closed a list, which is then counted itself as an item; with no list open `is_counted`
+-- doesn't change
 abbrev pub is_counted_after : {A : Type 0} → ℕ → List (OpenList A) → Bool → Bool
 is_counted_after k [] is_counted = is_counted
 is_counted_after k (l ∷ ls) is_counted = is_last k l.awaits
 
--- the top's payload after every list was shut, if `payload` is inside them
+-- the top's payload after every list was shut, if `payload` is inside the lists
 abbrev pub closed_payload_around : {A : Type 0} → (List A → List A) → List A → List (OpenList A) → List A
 closed_payload_around wrap payload [] = payload
 closed_payload_around wrap payload (l ∷ ls) = closed_payload_around wrap (l.outer ++ wrap payload) ls
@@ -127,7 +128,7 @@ is_unbounded (l ∷ ls) = none_in l.awaits
     none_in None = true
     none_in (Some n) = false
 
--- the number of innermost open lists that are unbounded: those inside the innermost bounded list, or all if none is bounded
+-- the number of innermost open lists that are unbounded: the lists inside the innermost bounded list, or all lists if none is bounded
 abbrev pub unbounded_count : {A : Type 0} → List (OpenList A) → ℕ
 unbounded_count [] = 0
 unbounded_count (l ∷ ls) = if is_none l.awaits then suc (unbounded_count ls) else 0
@@ -145,9 +146,9 @@ each_awaits (suc n) awaits (l ∷ ls) = record l { awaits = awaits } ∷ each_aw
 
 -- ==== The state of a stream, and its moves.
 
--- The front, which is the bytes handed in; the payloads and the open lists; and `is_counted`, which tells `append` whether the value that it let be written is
--- counted already. A list counts itself once it is whole, so what writes or closes a list makes `is_counted` true. `append` makes it false before the value is
--- written, and counts one item if it is false after it.
+-- The front, which is the bytes that the stream was given when it was made; the payloads and the open lists; and `is_counted`, which tells `append` whether the
+-- value that was just written is counted already. A list counts itself once it is whole, so each call that writes or closes a list makes `is_counted` true. `append`
+-- makes `is_counted` false before the value is written, and counts one item if it is still false after that.
 pub record State : Type 0 where
   pub front : List ℕ
   pub stack : Stack ℕ
@@ -159,7 +160,7 @@ pub record Seen : Type 0 where
   pub spare : ℕ
   pub moved : ℕ
 
--- The state is the old one, including `is_counted`, and no payload byte was moved. The room may differ.
+-- The state is the old state, including `is_counted`, and no payload byte was moved. The room may differ.
 abbrev pub IsAsBefore : Seen → Seen → Type 0
 IsAsBefore old new = (new.state ≡ old.state) × (new.moved ≡ old.moved)
 
@@ -177,7 +178,7 @@ list_encoding payload = written_header 0xc0 (length payload) ++ payload
 
 -- ---- moves
 
--- x is put at the end of the innermost payload, or of the top's
+-- x is put at the end of the innermost payload, or of the top if no list is open
 abbrev pub put : List ℕ → State → State
 put x s = record s { stack = stack_put x s.stack }
 
@@ -185,8 +186,9 @@ put x s = record s { stack = stack_put x s.stack }
 abbrev pub shut : State → State
 shut s = record s { stack = stack_shut list_encoding s.stack }
 
--- K items are counted. With no list open nothing changes. If the innermost list is unbounded, `is_counted` becomes false. If it is bounded, it awaits k fewer. At 0
--- it is shut, one item is counted in the list around it, and `is_counted` becomes true. Else it becomes false.
+-- The state after k items are counted in the innermost open list. With no list open nothing changes. If the innermost list is unbounded, `is_counted` becomes false.
+-- If it is bounded, it awaits k items fewer. If it then awaits none, it is shut, one item is counted in the list around it, and `is_counted` becomes true. Else
+-- `is_counted` becomes false.
 abbrev pub count : ℕ → State → State
 count k s = record { front = s.front; stack = stack_count list_encoding k s.stack; is_counted = is_counted_after k s.stack.lists s.is_counted }
 
@@ -198,17 +200,17 @@ with_is_counted is_counted s = record s { is_counted = is_counted }
 abbrev pub with_awaiting : ℕ → Option ℕ → State → State
 with_awaiting n awaits s = record s { stack = record s.stack { lists = each_awaits n awaits s.stack.lists } }
 
--- a new list with an empty payload, which awaits the given number of items, and `is_counted` false
+-- a new list is open, which has an empty payload and awaits the given number of items; `is_counted` is false
 abbrev pub with_list : Option ℕ → State → State
 with_list awaits s = record { front = s.front; stack = stack_with_list awaits s.stack; is_counted = false }
 
 -- ---- the effect of items
 
--- an appended item: `is_counted` is false, the encoding is put, one is counted, and `is_counted` is true if the item is a list
+-- the state after an item is appended: `is_counted` becomes false, the encoding is put, one item is counted, and `is_counted` is true if the item is a list
 abbrev pub add : Item → State → State
 add x s = let counted : State = count 1 (put (encoding x) (with_is_counted false s)) in record counted { is_counted = is_list x || counted.is_counted }
 
--- What a value's `rlp_append` does. It puts the encoding of a string, and nothing else changes. Or it puts the encoding of a list, one is counted, and
+-- The state after a value's `rlp_append`. The encoding of a string is put, and nothing else changes; or the encoding of a list is put, one item is counted, and
 -- `is_counted` is true.
 abbrev pub put_item : Item → State → State
 put_item x s = if is_list x then with_is_counted true (count 1 (put (encoding x) s)) else put (encoding x) s
@@ -232,7 +234,7 @@ closed_text s = closed_payload list_encoding s.stack
 abbrev pub closed_size : State → ℕ
 closed_size s = length (closed_text s)
 
--- The closed size with this number of bytes more put. It doesn't depend on which bytes they are.
+-- The closed size after this number of further bytes is put. It doesn't depend on the values of these bytes.
 abbrev pub closed_size_with : ℕ → State → ℕ
 closed_size_with more s = closed_size (put (replicate more 0) s)
 
@@ -302,6 +304,6 @@ abbrev pub after_from : ℕ → State → List Call → Result State ℕ
 after_from n s [] = Ok s
 after_from n s (c ∷ cs) = if is_admitted c s then after_from (n + 1) (effect c s) cs else Err n
 
--- the state of a stream over the front after all calls, or the place, counted from 1, of the first call that isn't admitted
+-- the state after all calls of a new stream with this front, or the place, counted from 1, of the first call that isn't admitted
 abbrev pub after : List ℕ → List Call → Result State ℕ
 after front calls = after_from 1 (initial_state front) calls

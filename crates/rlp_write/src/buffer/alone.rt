@@ -8,8 +8,9 @@ use crate::header::list_header_len;
 use bytes::BytesMut;
 use std::alloc::AllocError;
 
-/// Turns joined encodings into the encoding of the list of their items. They follow one byte, which
-/// keeps the place of the header. No bytes at all become the encoding of the empty list.
+/// Turns joined encodings into the encoding of the list of their items. The joined encodings follow
+/// one byte, which keeps the place of the header. An empty buffer becomes the encoding of the empty
+/// list.
 pub fn list_alone(bytes: BytesMut) -> Result<BytesMut, AllocError>
     ensures { IfOk result (λ b. b.items ≡ list_encoding (drop 1 bytes.items)) }
 {

@@ -14,9 +14,9 @@ use std::marker::Model;
 
 /// The bytes of a stream. Only these methods touch them.
 ///
-/// Only [`Buffer::shift`] moves bytes to a later place for a closing, and it always counts them.
-/// [`Buffer::insert`] moves the bytes of an iterator to make place for their header. It counts
-/// nothing, and only the module that writes strings can call it.
+/// Only [`Buffer::shift`] moves bytes to a later place for a closing, and it always counts the
+/// bytes. [`Buffer::insert`] moves the bytes of an iterator to make place for their header. It
+/// doesn't count these bytes, and only the module that writes strings can call it.
 #[derive(Drop)]
 pub struct Buffer {
     bytes: BytesMut,
@@ -117,7 +117,7 @@ impl Buffer {
         self.bytes.advance_mut(more);
     }
 
-    /// Keeps the first `len` bytes. The place of the others becomes room.
+    /// Keeps the first `len` bytes. The place of the bytes after them becomes room.
     #[inline]
     pub fn truncate(&mut self, len: usize)
         ensures items { self.new.items ≡ take len self.old.items }
@@ -128,8 +128,8 @@ impl Buffer {
         self.bytes.truncate(len);
     }
 
-    /// Moves bytes to a later place in the buffer, and counts them. If they are there already, it
-    /// moves nothing.
+    /// Moves bytes to a later place in the buffer, and counts them. If the bytes are at that place
+    /// already, it moves nothing.
     #[inline]
     pub(crate) fn shift(&mut self, from: usize, len: usize, to: usize)
         requires forward { from ≤ to }
@@ -167,8 +167,8 @@ impl Buffer {
         begin
     }
 
-    /// Inserts a part at a place, and moves the bytes behind it. It doesn't count them, since they
-    /// are a string that has no header yet.
+    /// Inserts a part at a place, and moves the bytes behind it. It doesn't count the moved bytes,
+    /// since these are a string that has no header yet.
     pub(super) fn insert(&mut self, at: usize, part: &[u8]) -> Result<(), AllocError>
         requires { at ≤ length self.old.items }
         ensures ok { OnOk result (self.new.items

@@ -59,7 +59,7 @@ fn write_short(buffer: &mut Buffer, value: &[u8]) -> Result<(), AllocError>
     Ok(())
 }
 
-/// The encoding of a string, alone. It takes one request for memory, of the length of the encoding.
+/// The encoding of a string, alone in a buffer. It allocates once, the length of the encoding.
 pub fn encoded_string(alloc: Global, value: &[u8]) -> Result<BytesMut, AllocError>
     ensures { IfOk result (λ b. b.items ≡ encoding (string value.now)) }
 {
@@ -73,8 +73,8 @@ pub fn encoded_string(alloc: Global, value: &[u8]) -> Result<BytesMut, AllocErro
     Ok(BytesMut::from_vec(bytes))
 }
 
-/// The encoding of a number from 1 to 0x7f, alone: the number itself. It takes one request for
-/// memory, of one byte.
+/// The encoding of a number from 1 to 0x7f, alone in a buffer: the number itself. It allocates
+/// once, one byte.
 #[tactic(auto, using(crate::proofs::Streams::Written::encoding_digit))]
 pub fn encoded_digit(alloc: Global, digit: u8) -> Result<BytesMut, AllocError>
     requires some { 0 < digit }
@@ -84,7 +84,8 @@ pub fn encoded_digit(alloc: Global, digit: u8) -> Result<BytesMut, AllocError>
     Ok(BytesMut::from_vec(Vec::from_slice(alloc, &[digit])?))
 }
 
-/// Writes the bytes that an iterator gives at the end of a buffer. A refused call may leave some.
+/// Writes the bytes that an iterator gives at the end of a buffer. A call that fails may leave some
+/// of the bytes.
 fn write_bytes_of<I: IntoIterator<Item = u8>>(
     buffer: &mut Buffer,
     value: I,
@@ -102,8 +103,8 @@ fn write_bytes_of<I: IntoIterator<Item = u8>>(
     Ok(())
 }
 
-/// Turns the bytes from a place on into the encoding of their string. If the string isn't its own
-/// encoding, it inserts the header.
+/// Turns the bytes from a place on into the encoding of the string of these bytes. If the string
+/// isn't its own encoding, it inserts the header.
 fn write_header_before(buffer: &mut Buffer, start: usize) -> Result<(), AllocError>
     requires { start ≤ length buffer.old.items }
     ensures ok { OnOk result (buffer.new.items
@@ -120,8 +121,8 @@ fn write_header_before(buffer: &mut Buffer, start: usize) -> Result<(), AllocErr
     Ok(())
 }
 
-/// Writes the encoding of the string that an iterator gives at the end of a buffer. It writes the
-/// bytes as they come, and then inserts the header for their number.
+/// Writes the encoding of the string that an iterator gives at the end of a buffer. It writes each
+/// byte when the iterator gives it, and then inserts the header for the number of bytes.
 pub fn write_string_of<I: IntoIterator<Item = u8>>(
     buffer: &mut Buffer,
     value: I,
@@ -143,7 +144,7 @@ pub fn write_string_of<I: IntoIterator<Item = u8>>(
     }
 }
 
-/// The same as [`write_string_of`], but a refused call may leave some of the bytes.
+/// The same as [`write_string_of`], but a call that fails may leave some of the bytes.
 fn write_parts_of<I: IntoIterator<Item = u8>>(
     buffer: &mut Buffer,
     value: I,

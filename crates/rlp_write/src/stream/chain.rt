@@ -9,7 +9,7 @@ use crate::stream::RlpStream;
 use crate::traits::Encodable;
 use std::alloc::AllocError;
 
-/// A stream after a call that wasn't refused. Make the next call on the chain, or on its `stream`.
+/// A stream after a call that succeeded. Make the next call on the chain, or on its `stream`.
 ///
 /// ```rust
 /// let mut s = rlp::RlpStream::new(alloc)?;

@@ -7,8 +7,9 @@ ghost use Rattle.rlp_write.specs.{Streams.Stream.{effect, encode_value, IsAsBefo
 use crate::stream::RlpStream;
 use std::alloc::AllocError;
 
-/// A writer of strings into a stream that it borrows. It doesn't count the strings, and `is_counted`
-/// stays. Use it in [`crate::Encodable::rlp_append`] of a type that is written as a string.
+/// A writer of strings into a stream that it borrows. It doesn't count the strings, and doesn't
+/// change `is_counted`. Use it in [`crate::Encodable::rlp_append`] of a type that is written as a
+/// string.
 ///
 /// ```rust
 /// let mut s = rlp::RlpStream::new_list(alloc, 1)?;
@@ -37,8 +38,9 @@ impl BasicEncoder<'_> {
         self.stream.put_string(value)
     }
 
-    /// Puts the encoding of the string of the bytes that an iterator gives. It writes them as they
-    /// come, and then the header for their number. The iterator must end.
+    /// Puts the encoding of the string of the bytes that an iterator gives. It writes each byte
+    /// when the iterator gives it, and then inserts the header for the number of bytes. The
+    /// iterator must end.
     pub fn encode_iter<I: IntoIterator<Item = u8>>(&mut self, value: I) -> Result<(), AllocError>
         requires { IsFiniteIterable I.into_iter_gives I.IntoIter.can_next I.IntoIter.remaining value }
         ensures same_reference { self.new.stream.ghost_name ≡ self.old.stream.ghost_name }

@@ -1,4 +1,4 @@
-//! The steps of a stream's public calls. They see its state alone.
+//! The steps of a stream's public calls. They see only the state of the stream.
 
 ghost use Rattle.std.specs.{Prelude.{◌≡◌, ◌≤◌, ◌<◌, ℕ, List, IsOk, OnOk, OnErr, false, length}, Iterator.IsFiniteIterable};
 ghost use Rattle.rlp_format.specs.Format.Encoding.{string, encoding};
@@ -11,8 +11,8 @@ use crate::traits::Encodable;
 use std::alloc::AllocError;
 
 impl RlpStream {
-    /// Whether the closed size with these bytes put is at most the limit. It sums the size up, list
-    /// by list, only if an upper bound of it is above the limit.
+    /// Whether the closed size with these bytes put is at most the limit. It adds up the size, list
+    /// by list, only if an upper bound of the size is above the limit.
     pub(super) fn is_within_size(&self, bytes: &[u8], limit: usize) -> bool
         ensures { result ≡ is_within_size bytes.now limit self.now.state }
     {
@@ -42,10 +42,10 @@ impl RlpStream {
     /// Closes the `count` innermost lists, which are unbounded, one after another, and counts each
     /// in the list around it.
     ///
-    /// An item that is counted in a list that awaits one item closes it, and the list is then
-    /// counted in the list around it. So each of the lists is made to await one item, and one item
-    /// is counted: that closes them all in one pass. If memory is refused, they are made unbounded
-    /// again.
+    /// An item that is counted in a list that awaits one item closes the list, and the closed list
+    /// is counted in the list around it. So each of the `count` lists is made to await one item,
+    /// and one item is counted, which closes all of them in one pass. If memory is refused, the
+    /// lists are made unbounded again.
     pub(super) fn try_finalize(&mut self, count: usize) -> Result<(), AllocError>
         requires some { 0 < count }
         requires open { count ≤ unbounded_count self.old.state.stack.lists }
@@ -66,7 +66,7 @@ impl RlpStream {
         }
     }
 
-    /// Counts items in the innermost open list. With no list open it isn't refused.
+    /// Counts items in the innermost open list. With no list open it doesn't fail.
     fn try_count(&mut self, items: usize) -> Result<(), AllocError>
         ensures ok { OnOk result (self.new.state ≡ count items self.old.state) }
         ensures room { IsFinished self.old.state → IsOk result }
@@ -76,7 +76,7 @@ impl RlpStream {
         self.put_counted(&[], items)
     }
 
-    /// Puts a value and counts it if `is_counted` is false. A refused call may leave some bytes.
+    /// Puts a value and counts it if `is_counted` is false. A call that fails may leave some bytes.
     fn put_value<E: Encodable>(&mut self, value: &E) -> Result<(), AllocError>
         requires { self.old.state.is_counted ≡ false }
         ensures fits { OnOk result (E.fits value.now) }
@@ -93,7 +93,8 @@ impl RlpStream {
         self.try_count(1)
     }
 
-    /// Puts the string that an iterator gives and counts it. A refused call may leave some bytes.
+    /// Puts the string that an iterator gives and counts it. A call that fails may leave some
+    /// bytes.
     fn put_iter<I: IntoIterator<Item = u8>>(&mut self, value: I) -> Result<(), AllocError>
         requires uncounted { self.old.state.is_counted ≡ false }
         requires ends { IsFiniteIterable I.into_iter_gives I.IntoIter.can_next I.IntoIter.remaining value }
@@ -107,7 +108,7 @@ impl RlpStream {
         self.try_count(1)
     }
 
-    /// Appends a value. If it is refused, goes back to the place before the call.
+    /// Appends a value. If that fails, goes back to the place before the call.
     pub(crate) fn try_append<E: Encodable>(&mut self, value: &E) -> Result<(), AllocError>
         ensures fits { OnOk result (E.fits value.now) }
         ensures ok { OnOk result (self.new.state ≡ add (E.item value.now) self.old.state) }
@@ -127,7 +128,7 @@ impl RlpStream {
         }
     }
 
-    /// Writes a value by its own `rlp_append`. If it is refused, goes back to the place before the
+    /// Writes a value by its own `rlp_append`. If that fails, goes back to the place before the
     /// call.
     pub(super) fn try_append_internal<E: Encodable>(&mut self, value: &E) -> Result<(), AllocError>
         ensures fits { OnOk result (E.fits value.now) }
@@ -147,8 +148,8 @@ impl RlpStream {
         }
     }
 
-    /// Appends the string that an iterator gives. If it is refused, goes back to the place before
-    /// the call.
+    /// Appends the string that an iterator gives. If that fails, goes back to the place before the
+    /// call.
     pub(super) fn try_append_iter<I: IntoIterator<Item = u8>>(
         &mut self,
         value: I,

@@ -8,15 +8,16 @@ use crate::structs::AppendFields;
 use crate::traits::Encodable;
 use std::alloc::AllocError;
 
-/// A last field that may be missing: one item, or none.
+/// A last field that may be missing: one item, or no item.
 #[derive(Clone, Copy)]
 pub struct Optional<'a, T>(pub &'a Option<T>);
 
-/// A last field that may be missing, and is a list of values: one item, or none.
+/// A last field that may be missing, and is a list of values: one item, or no item.
 #[derive(Clone, Copy)]
 pub struct OptionalListOf<'a, T>(pub &'a Option<Vec<T>>);
 
-/// Last fields that are missing together, such as those that a later version of a format added.
+/// Last fields that are missing together, such as the fields that a later version of a format
+/// added.
 #[derive(Clone, Copy)]
 pub struct OptionalGroupOf<'a, S>(pub &'a Option<S>);
 

@@ -11,7 +11,8 @@ use std::alloc::{AllocError, Global};
 /// A type whose values are written as items. An item is a byte string or a list of items.
 ///
 /// A type says by `item` which item a value is, and by `fits` which values belong to the type. Its
-/// `rlp_append` calls the stream, and is proved to leave the stream as the contract says:
+/// `rlp_append` calls the stream, and the prover checks that it leaves the stream as the contract
+/// says:
 ///
 /// ```rust
 /// pub struct BlockNumber(pub u64);
@@ -30,19 +31,19 @@ use std::alloc::{AllocError, Global};
 /// ```
 ///
 /// A body that writes in several steps needs the lemmas of
-/// `#[tactic(auto, using(rlp::proofs::Growth::growth))]`. They prove the stream's state after a
-/// later step is refused.
+/// `#[tactic(auto, using(rlp::proofs::Growth::growth))]`. They prove what the stream's state is if
+/// a later step fails.
 pub trait Encodable {
     /// The item of a value.
     ghost item: { Self → Item };
 
-    /// The value belongs to the type, if definitions and laws speak of more values: a number is in
-    /// the type's range, and a text is UTF-8.
+    /// Whether the value belongs to the type. Definitions and laws speak of more values: `fits`
+    /// says that a number is in the type's range, or that a text is UTF-8.
     ghost fits: { Self → Type 0 };
 
-    /// The value is refused only for want of room: if no list is open and the stream has room for
-    /// the encoding, [`Encodable::rlp_append`] writes it. The provided types that are strings
-    /// promise it of each value. By default a type promises it of none.
+    /// Writing the value fails only if the stream lacks room: if no list is open and the stream has
+    /// room for the encoding, [`Encodable::rlp_append`] writes it. The provided types that are
+    /// strings promise this of each value. By default a type promises this of no value.
     ghost needs_only_room: { Self → Type 0 } = { λ _. ⊥ };
 
     /// Writes the value into a stream. For a string it writes the encoding and counts no item. For
@@ -50,8 +51,9 @@ pub trait Encodable {
     /// is counted.
     ///
     /// Fails with `AllocError` if memory is refused, or for a reason of the type. The stream then
-    /// holds its old bytes and its old open lists, and maybe more after them; [`RlpStream::append`]
-    /// then restores the old state. In any case its count of the bytes that were moved doesn't fall.
+    /// holds its old bytes and its old open lists, and maybe more after them, and
+    /// [`RlpStream::append`] restores the old state. Whether it fails or not, the count of moved
+    /// bytes doesn't fall.
     fn rlp_append(&self, s: &mut RlpStream) -> Result<(), AllocError>
         ensures fits { OnOk result (fits self.now) }
         ensures ok { OnOk result (s.new.state ≡ put_item (item self.now) s.old.state) }
@@ -64,7 +66,7 @@ pub trait Encodable {
     /// [`Encodable::rlp_append`] fails.
     ///
     /// The default body writes into a stream with room for 1,024 bytes. The provided types that are
-    /// strings make one request for memory, of the encoding's length.
+    /// strings allocate once, the length of the encoding.
     fn rlp_bytes(&self, alloc: Global) -> Result<BytesMut, AllocError>
         ensures fits { OnOk result (fits self.now) }
         ensures bytes { IfOk result (λ b. b.items ≡ encoding (item self.now)) }
