@@ -23,9 +23,10 @@ extern "C" {
 #define RLP_RESTRICT restrict
 #endif
 
-/* How a call went. After RLP_OK the elements of `out` behind the first `*count` are as they were. After a status other
- * than RLP_OK and RLP_NO_ROOM the result parameters are as they were, except for the elements of `out` of functions that
- * find several items, which then have no meaning, and as rlp_transaction says. */
+/* The result of a call. After RLP_OK the elements of `out` behind the first `*count` are unchanged. After a status
+ * other than RLP_OK and RLP_NO_ROOM the result parameters are unchanged, with two exceptions: the elements of `out`
+ * then have no meaning if the function finds several items, and rlp_transaction says what it and rlp_header_fields
+ * set. */
 typedef enum rlp_status {
     RLP_OK = 0,
     RLP_IS_TOO_BIG = 1,                     /* bytes follow the item, or a field or a number is too big */
@@ -40,12 +41,12 @@ typedef enum rlp_status {
     RLP_INVALID_LENGTH = 10,                /* a header and its string are 2^64 bytes or more */
     RLP_INVALID_SIGNATURE = 11,             /* a number of a signature is out of range */
     RLP_NO_ROOM = 13,                       /* `cap` is less than `*count`, which is what is needed */
-    RLP_TOO_DEEP = 14,                      /* there are more lists, one in the other, than allowed */
+    RLP_TOO_DEEP = 14,                      /* lists nest deeper than allowed */
     RLP_BAD_ITEMS = 15,                     /* the items describe no tree, or lie outside the bytes */
     RLP_UNKNOWN_TYPE = 16                   /* a transaction begins no list, and its first byte isn't 1 to 4 */
 } rlp_status;
 
-/* No call goes deeper into lists that hold lists, whatever the caller allows. */
+/* The greatest depth of nested lists. A larger `max_depth` counts as this number. */
 #define RLP_DEPTH_LIMIT 256
 
 /* An item of some bytes: 32 bytes on a 64-bit machine, without padding. */
@@ -57,84 +58,90 @@ typedef struct rlp_item {
     uint32_t is_list;                       /* 1 for a list, 0 for a string */
 } rlp_item;
 
-/* Finds the item that the bytes begin with. Others may follow it. It lies within the bytes; its payload isn't read.
+/* Finds the item that the bytes begin with. Other bytes may follow it. The item lies within the bytes; its payload
+ * isn't read.
  * Status: 0, 2, 6, 7, 8. */
 uint32_t rlp_header(const uint8_t *RLP_RESTRICT bytes, size_t len, rlp_item *RLP_RESTRICT out);
 
-/* Tells whether the bytes are the canonical encoding of an item whose lists nest at most `max_depth` deep, and at most
- * RLP_DEPTH_LIMIT: 0 allows strings alone, 1 also lists of strings. */
+/* Returns whether the bytes are the canonical encoding of an item whose lists nest at most `max_depth` deep, and at
+ * most RLP_DEPTH_LIMIT: 0 allows only strings, 1 also lists of strings. */
 bool rlp_is_canonical(const uint8_t *bytes, size_t len, uint32_t max_depth);
 
-/* Finds the items of the list that the bytes are, at depth 1, and doesn't look into them. `*count` is their number, at
- * most `len`. After RLP_NO_ROOM the elements of `out` have no meaning.
+/* Finds the items of the list that the bytes are, at depth 1. It reads only the header of each item. `*count` is the
+ * number of items, at most `len`. After RLP_NO_ROOM the elements of `out` have no meaning.
  * Status: 0, 1, 2, 3, 6, 7, 8, 13. */
 uint32_t rlp_split(const uint8_t *RLP_RESTRICT bytes, size_t len, rlp_item *RLP_RESTRICT out, size_t cap,
                    size_t *RLP_RESTRICT count);
 
 /* Finds all items of the canonical encoding that the bytes are, each before the items in it. The first is the whole.
- * Otherwise as rlp_split. RLP_OK and RLP_NO_ROOM are answered exactly where rlp_is_canonical holds; else the status is
- * the first fault on the way. Status: 0, 1, 2, 6, 7, 8, 13, 14. */
+ * Otherwise the function does what rlp_split does. The status is RLP_OK or RLP_NO_ROOM if and only if rlp_is_canonical
+ * returns true, and otherwise the first fault in the order of the bytes. Status: 0, 1, 2, 6, 7, 8, 13, 14. */
 uint32_t rlp_flatten(const uint8_t *RLP_RESTRICT bytes, size_t len, uint32_t max_depth, rlp_item *RLP_RESTRICT out,
                      size_t cap, size_t *RLP_RESTRICT count);
 
-/* Finds the fields of the transaction that the bytes are by themselves, as in EIP-2718, at depth 1 and in order:
- * `*count` of them. `*transaction_type` is 0 for a legacy transaction, which is a list, and else the byte in front of the
- * list: 1 (EIP-2930), 2 (EIP-1559), 3 (EIP-4844) or 4 (EIP-7702). Each field is tested, and the lists in a transaction to
- * their last item. A number has at most 8 or 32 bytes, an address 20 and a hash 32. The parity of a signature is 0 or 1;
- * in an authorization it is a number of at most one byte. The two numbers after it are from 1 to below the order of
- * secp256k1. After RLP_NO_ROOM the elements of `out` have no meaning. After a fault `*count` is the number of the field
- * that has it or is missing, 1 for the first, and 0 if the whole has it.
- * Status: 0, 1, 2, 3, 4, 5, 6, 7, 8, 11, 13, 16; after 2 for no bytes, and 16, `*transaction_type` is as it was. */
+/* Finds the fields of the standalone transaction that the bytes are, as in EIP-2718, at depth 1 and in order; `*count`
+ * is the number of fields. `*transaction_type` is 0 for a legacy transaction, which is a list, and otherwise the byte
+ * in front of the list: 1 (EIP-2930), 2 (EIP-1559), 3 (EIP-4844) or 4 (EIP-7702). Each field is tested, and in a field
+ * that is a list each item. A number has at most 8 or 32 bytes, an address 20 and a hash 32. The parity of a signature
+ * is 0 or 1; in an authorization it is a number of at most one byte. The two numbers after the parity are from 1 to
+ * below the order of secp256k1. After RLP_NO_ROOM the elements of `out` have no meaning. After a fault `*count` is the
+ * number of the field that has the fault or is missing, counted from 1; after too many fields the number of the first
+ * field too many; and 0 after a fault of the whole.
+ * Status: 0, 1, 2, 3, 4, 5, 6, 7, 8, 11, 13, 16; after 2 for no bytes, and 16, `*transaction_type` is unchanged. */
 uint32_t rlp_transaction(const uint8_t *RLP_RESTRICT bytes, size_t len, uint32_t *RLP_RESTRICT transaction_type,
                          rlp_item *RLP_RESTRICT out, size_t cap, size_t *RLP_RESTRICT count);
 
-/* Finds the fields of the header of a block that the bytes are: 15, or since London 16, Shanghai 17, Cancun 20, Prague 21,
- * and Amsterdam, by drafts, 22, or 23 with the slot's number. The bloom filter has 256 bytes, and the nonce 8. Otherwise as rlp_transaction.
+/* Finds the fields of the header of a block that the bytes are: 15, or since London 16, Shanghai 17, Cancun 20, Prague
+ * 21, and Amsterdam, by drafts, 22, or 23 with the slot's number. The bloom filter has 256 bytes, and the nonce 8.
+ * Otherwise the function does what rlp_transaction does.
  * Status: 0, 1, 2, 3, 4, 5, 6, 7, 8, 13. */
 uint32_t rlp_header_fields(const uint8_t *RLP_RESTRICT bytes, size_t len, rlp_item *RLP_RESTRICT out, size_t cap,
                            size_t *RLP_RESTRICT count);
 
-/* Finds the string that the bytes begin with, as rlp_header finds an item: it lies within the bytes, at `offset` 0 and
- * `depth` 0. If `strict`, nothing may follow it: use that for untrusted bytes.
+/* Finds the string that the bytes begin with, as rlp_header finds an item: the string lies within the bytes, at
+ * `offset` 0 and `depth` 0. If `strict` is true, nothing may follow the string: use this for untrusted bytes.
  * Status: 0, 1, 2, 4, 8, 9, 10. */
 uint32_t rlp_decode_bytes(const uint8_t *RLP_RESTRICT bytes, size_t len, bool strict, rlp_item *RLP_RESTRICT out);
 
 /* Reads the number below 2^64 that the bytes begin with. `strict` and status as for rlp_decode_bytes. */
 uint32_t rlp_decode_u64(const uint8_t *RLP_RESTRICT bytes, size_t len, bool strict, uint64_t *RLP_RESTRICT out);
 
-/* Finds the digits to the base 256 of the number that the bytes begin with, the greatest first, without a zero in front
- * and at most `width` of them: the string that rlp_decode_bytes finds. The number 0 has none. `strict` and status as for
+/* Finds the bytes of the number that the bytes begin with, as rlp_decode_bytes finds a string: big-endian, without
+ * leading zeros, and at most `width` of them. The number 0 has no bytes. `strict` and status as for
  * rlp_decode_bytes. */
 uint32_t rlp_decode_uint(const uint8_t *RLP_RESTRICT bytes, size_t len, bool strict, size_t width,
                          rlp_item *RLP_RESTRICT out);
 
-/* Writes the header of a payload. The caller writes the payload behind it: the encodings of a list's items, or a string
- * other than one byte below 0x80. `*count` is the header's length, 1 to 9. After RLP_NO_ROOM `out` is as it was.
+/* Writes the header of a payload. The caller writes the payload behind the header: the encodings of a list's items, or
+ * a string other than one byte below 0x80. `*count` is the header's length, 1 to 9. After RLP_NO_ROOM `out` is
+ * unchanged.
  * Status: 0, 13. */
 uint32_t rlp_encode_header(bool is_list, size_t payload_len, uint8_t *RLP_RESTRICT out, size_t cap,
                            size_t *RLP_RESTRICT count);
 
-/* Writes the encoding of a string. `*count` is its length. After RLP_NO_ROOM `out` is as it was. Status: 0, 13; and 10
- * if the encoding has 2^64 bytes or more, which no string in memory has. */
+/* Writes the encoding of a string. `*count` is the length of the encoding. After RLP_NO_ROOM `out` is unchanged.
+ * Status: 0, 13; and 10 if the encoding has 2^64 bytes or more, which no string in memory has. */
 uint32_t rlp_encode_bytes(const uint8_t *RLP_RESTRICT bytes, size_t len, uint8_t *RLP_RESTRICT out, size_t cap,
                           size_t *RLP_RESTRICT count);
 
-/* Writes the encoding of a number. `*count` is its length, 1 to 9. After RLP_NO_ROOM `out` is as it was.
+/* Writes the encoding of a number. `*count` is the length of the encoding, 1 to 9. After RLP_NO_ROOM `out` is
+ * unchanged.
  * Status: 0, 13. */
 uint32_t rlp_encode_u64(uint64_t number, uint8_t *RLP_RESTRICT out, size_t cap, size_t *RLP_RESTRICT count);
 
 /* Writes the encoding of the tree that the items describe, in the order of rlp_flatten: `*count` bytes. The first item
- * has depth 0; each other has at least depth 1, and at most that of the item before it, or 1 more if that is a list. No
- * list has a depth of RLP_DEPTH_LIMIT or more. Of a list only `depth` and `is_list` are read; `is_list` is 0 for a
- * string, and anything else for a list. A string is the payload that its item points at in `bytes`. After RLP_NO_ROOM
- * `out` is as it was. Status: 0, 13, 15; and 10 if the encoding has 2^64 bytes or more. */
+ * has depth 0. Each other item has at least depth 1, and at most the depth of the item before it, or 1 more if the
+ * item before it is a list. No list has a depth of RLP_DEPTH_LIMIT or more. Of a list only `depth` and `is_list` are
+ * read; `is_list` is 0 for a string, and anything else for a list. A string is the payload that its item points at in
+ * `bytes`. After RLP_NO_ROOM `out` is unchanged.
+ * Status: 0, 13, 15; and 10 if the encoding has 2^64 bytes or more. */
 uint32_t rlp_encode(const rlp_item *RLP_RESTRICT items, size_t items_len, const uint8_t *RLP_RESTRICT bytes, size_t len,
                     uint8_t *RLP_RESTRICT out, size_t cap, size_t *RLP_RESTRICT count);
 
-/* Writes the text of the item that the bytes begin with, in ASCII and without a zero at the end: `*count` bytes. It is
- * `"0x.."` for a string, `[.., ..]` for a list of the items that its payload begins with, `null` for no bytes, and the
- * name of the fault for other bytes. After RLP_NO_ROOM `out` is as it was. Status: 0, 13; and 14 for more than
- * RLP_DEPTH_LIMIT lists, one in the other. */
+/* Writes the text of the item that the bytes begin with, in ASCII and without a zero at the end: `*count` bytes. The
+ * text is `"0x.."` for a string, `[.., ..]` for a list of the items that its payload begins with, `null` for no bytes,
+ * and the name of the fault for other bytes. After RLP_NO_ROOM `out` is unchanged.
+ * Status: 0, 13; and 14 if lists nest deeper than RLP_DEPTH_LIMIT. */
 uint32_t rlp_text(const uint8_t *RLP_RESTRICT bytes, size_t len, uint8_t *RLP_RESTRICT out, size_t cap,
                   size_t *RLP_RESTRICT count);
 

@@ -11,8 +11,8 @@ OWN = "rlp"
 
 
 def files_of(names, without=()):
-    """The files of definitions of these crates and of those below them, by crate. Those of `rlp` and below are left out."""
-    left_out, found = needed([OWN, *without], crates()), {}
+    """The files of definitions of these crates and of those below them, by crate. Those of `rlp` and below are left out, unless it is named."""
+    left_out, found = needed([*([] if OWN in names else [OWN]), *without], crates()), {}
     for name in needed(names, crates()):
         files = sorted((ROOT / "crates" / name / "specs").rglob("*.antt"))
         files = [file for file in files if file.stem != "Lib" and DEFINITION.search(file.read_text(encoding="utf-8"))]

@@ -236,7 +236,7 @@ export class Codec {
   inspectInSteps(bytes: Bytes, options?: Options): Generator<number, Inspected, void>;
   /** The item that the bytes begin with. Others may follow it. */
   header(bytes: Bytes): Item;
-  /** The transaction that the bytes are by themselves, as in EIP-2718. */
+  /** The standalone transaction that the bytes are, as in EIP-2718. */
   transaction(bytes: Bytes): Transaction;
   /** The header of a block. */
   headerFields(bytes: Bytes): Header;
@@ -252,7 +252,7 @@ export function load(
   source: BufferSource | Response | WebAssembly.Module | PromiseLike<BufferSource | Response | WebAssembly.Module>,
 ): Promise<Codec>;
 
-/** The functions of a codec, each by itself. */
+/** The functions of a codec, each a separate export. */
 export function functionsOf(codec: Codec): Functions;
 /** Hexadecimal digits behind `0x`, or without it. An odd number of digits has a 0 in front. */
 export function fromHex(text: string): Uint8Array;

@@ -398,7 +398,7 @@ export async function load(source) {
   return new Codec(await WebAssembly.instantiate(module, {}));
 }
 
-/** The functions of a codec, each by itself. */
+/** The functions of a codec, each a separate export. */
 export function functionsOf(codec) {
   const names = ["encode", "encodeInSteps", "decode", "isCanonical", "flatten", "tree", "inspect", "inspectInSteps", "header", "transaction", "headerFields"];
   return Object.fromEntries(names.map((name) => [name, codec[name].bind(codec)]));

@@ -18,7 +18,7 @@ PyDoc_STRVAR(is_canonical_doc,
 
 PyDoc_STRVAR(decode_transaction_doc,
 "decode_transaction(rlp, /)\n--\n\n"
-"Return the type and the fields of the transaction that the bytes are by themselves, as in EIP-2718: bytes, and lists of\n"
+"Return the type and the fields of the standalone transaction that the bytes are, as in EIP-2718: bytes, and lists of\n"
 "values. The type is 0 for a legacy transaction. Each field is tested. Raise DecodingError for other bytes.");
 
 PyDoc_STRVAR(decode_header_doc,

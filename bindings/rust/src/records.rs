@@ -24,7 +24,7 @@ impl fmt::Display for FieldError {
 
 impl Error for FieldError {}
 
-/// Puts the fields of the transaction that the bytes are by themselves, as in EIP-2718, at the end
+/// Puts the fields of the standalone transaction that the bytes are, as in EIP-2718, at the end
 /// of a vector. Returns its type, which is 0 for a legacy transaction.
 ///
 /// ```

@@ -1,18 +1,20 @@
-//! Reading with a bound on the number of items.
+//! Reading with a bound on the number of items, also messages of strangers.
 
+use crate::named::bytes_of;
 use rlp::{DecoderError, StrictRead};
 use rlp_blocks::Body;
 use rlp_headers::Withdrawal;
+use rlp_messages::{Eth68Message, Eth69Message, Message, MessageBounds, Numbered, P2pMessage};
 use rlp_records::decode_at_most;
 use rlp_transactions::{AnyTransaction, Transaction};
 use rlp_vectors::rows::{Line, bytes_in, cut, number};
-use std::alloc::Global;
+use std::alloc::{AllocError, Global};
 use std::fmt;
 use std::fmt::Write;
 use std::test::Fail;
 
 /// Rows of the most items, a type, bytes, and the answer: `Ok`, or the text of the fault. Their
-/// calls take no memory.
+/// calls don't allocate.
 pub(crate) const WITHOUT_MEMORY: &str = "
     A withdrawal has five items: four numbers or strings, and their list.
     at most: 5 Withdrawal | d8010294030303030303030303030303030303030303030304 | Ok
@@ -50,7 +52,7 @@ pub(crate) const WITHOUT_MEMORY: &str = "
     at most: 24 Withdrawal | d801029401d280808080808080808080808080808080808004 | Ok
 ";
 
-/// Such rows whose calls take memory.
+/// More rows, whose calls allocate.
 pub(crate) const ROWS: &str = "
     at most: 17 Transaction | b867+ACCESS_LIST | Ok
     at most: 20 Body | f86cf869b867+ACCESS_LIST+c0 | Ok
@@ -83,26 +85,16 @@ fn tell_read<R: StrictRead>(
     }
 }
 
-/// Tells the answer for the bytes of digits, which take no memory.
-fn tell_digits(alloc: Global, asked: &str, digits: &str, out: &mut Line) -> fmt::Result {
-    let mut buffer = [0; 256];
-    let bytes = bytes_in(digits, &mut buffer);
-    tell(alloc, asked, bytes, out)
-}
-
-/// Notes a row whose call tells something else.
+/// Notes a row whose call tells something else. The bytes of its digits take no memory.
 fn check_row(alloc: Global, call: &str, rest: &str, wrong: &mut Line) {
-    let asked = match call.strip_prefix("at most: ") {
-        Some(asked) => asked,
-        None => call,
-    };
+    let asked = call.strip_prefix("at most: ").unwrap_or(call);
     let (digits, want) = rest.split_once(" | ").unwrap_or((rest, ""));
-    let mut said = Line::new();
-    let _ = tell_digits(alloc, asked, digits, &mut said);
+    let (mut buffer, mut said) = ([0; 256], Line::new());
+    let _ = tell(alloc, asked, bytes_in(digits, &mut buffer), &mut said);
     wrong.note(call, digits, said.as_str(), want);
 }
 
-/// The rows, also if every request for memory is refused.
+/// The rows, also if every allocation is refused.
 #[test]
 fn without_memory(rt: HostRuntime) -> Result<(), Fail> {
     let mut wrong = Line::new();
@@ -112,4 +104,85 @@ fn without_memory(rt: HostRuntime) -> Result<(), Fail> {
         }
     }
     wrong.none_noted()
+}
+
+/// Returns the bounds.
+fn most(bytes: usize, items: usize) -> MessageBounds {
+    MessageBounds { bytes, items }
+}
+
+/// Returns the bytes of a request for the receipts of a million blocks, after 16. Each hash is
+/// empty, which a reader without a bound learns from the first.
+fn million(alloc: Global) -> Result<Vec<u8>, AllocError> {
+    let mut bytes = bytes_of(alloc, "1ffa0f4247820457fa0f4240")?;
+    for _ in 0..1_000_000 {
+        bytes.push(0x80)?;
+    }
+    Ok(bytes)
+}
+
+#[test]
+fn a_million_items(rt: HostRuntime) -> Result<(), Fail> {
+    let alloc = rt.alloc();
+    let bytes = million(alloc)?;
+    let read = |bounds| Eth68Message::from_message_at_most(alloc, 0x10, bytes.as_slice(), bounds);
+    let many = DecoderError::Custom("too many items");
+    assert_eq!(rt; read(most(1_000_012, 4096)).err(), Some(many));
+    let many = DecoderError::Custom("too many items");
+    assert_eq!(rt; read(most(1_000_012, 1_000_002)).err(), Some(many));
+    assert_eq!(rt;
+        read(most(1_000_012, 1_000_003)).err(),
+        Some(DecoderError::RlpIsTooShort)
+    );
+    let long = DecoderError::Custom("too many bytes");
+    assert_eq!(rt; read(most(1_000_011, 1_000_003)).err(), Some(long));
+    Ok(())
+}
+
+#[test]
+fn bounds_of_requests(rt: HostRuntime) -> Result<(), Fail> {
+    let alloc = rt.alloc();
+    let request = "1ff847820457f842a0+00*28+deadc0dea0+00*28+feedbeef";
+    let bytes = bytes_of(alloc, request)?;
+    let slice = bytes.as_slice();
+    let read = Eth68Message::from_message_at_most(alloc, 0x10, slice, most(74, 5))?;
+    assert!(rt; read.to_message(alloc, 0x10)?.as_slice() == slice);
+    let read = Eth69Message::from_message_at_most(alloc, 0x10, slice, most(74, 5))?;
+    assert!(rt; read.to_message(alloc, 0x10)?.as_slice() == slice);
+    let few = Eth69Message::from_message_at_most(alloc, 0x10, slice, most(74, 4));
+    assert_eq!(rt; few.err(), Some(DecoderError::Custom("too many items")));
+    let short = Eth69Message::from_message_at_most(alloc, 0x10, slice, most(73, 5));
+    assert_eq!(rt; short.err(), Some(DecoderError::Custom("too many bytes")));
+    Ok(())
+}
+
+/// Messages of `p2p`, and the fault of each if it may have 4 bytes and 2 items.
+const P2P: [(&str, &str); 6] = [
+    ("01c104", "None"),
+    ("01c20404", "Some(Custom(\"too many items\"))"),
+    ("01c3040404", "Some(Custom(\"too many bytes\"))"),
+    ("04c20404", "Some(Custom(\"unknown message\"))"),
+    ("c0c20404", "Some(RlpExpectedToBeData)"),
+    ("01c0", "Some(RlpIncorrectListLen)"),
+];
+
+#[test]
+fn bounds_of_p2p(rt: HostRuntime) -> Result<(), Fail> {
+    let (alloc, mut wrong) = (rt.alloc(), Line::new());
+    for (text, want) in &P2P {
+        let (bytes, mut said) = (bytes_of(alloc, text)?, Line::new());
+        let read = P2pMessage::from_message_at_most(alloc, 0, bytes.as_slice(), most(4, 2));
+        let _ = said.debug(read.err());
+        wrong.note("p2p", text, said.as_str(), want);
+    }
+    wrong.none_noted()
+}
+
+#[test]
+fn ids_and_bodies(rt: HostRuntime) -> Result<(), Fail> {
+    let message = Numbered::of(rt.alloc(), 0x10, &[0x13, 0xc0])?;
+    assert!(rt; message.number == 3 && message.body == [0xc0].as_slice());
+    let below = Numbered::of(rt.alloc(), 0x10, &[0x0f, 0xc0]).err();
+    assert_eq!(rt; below, Some(DecoderError::Custom("unknown message")));
+    Ok(())
 }

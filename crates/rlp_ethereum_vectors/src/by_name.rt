@@ -1,5 +1,5 @@
-//! Records that are built by the names of their fields. Fields of one type have different values, so
-//! that a row notices two of them in each other's place. The expected bytes were put together by hand,
+//! Records that are built by the names of their fields. Fields of one type have different values,
+//! so that a row notices if two fields are exchanged. The expected bytes were put together by hand,
 //! from the order of the fields in the standards.
 
 use crate::reading::{made, made_of};
@@ -29,26 +29,21 @@ pub(crate) const ROWS: &str = "
 
     EIP-4844: the transaction of type 3 with the greatest fees 2, 3 and 8, no blobs, the commitment
     of bytes c0, and the proof of bytes c1.
-    by name: with proofs \
-     | f8aa+f843018002030494+35*20+0780c008e1a001+00*31+800102+c0+f1b0+c0*48+f1b0+c1*48
+    by name: with proofs | f8aa+SENT_3+c0f1b0+c0*48+f1b0+c1*48
 
     EIP-7594: the same with the version 1 of the wrapper, and the proof of bytes c2 for the cells.
-    by name: with cell proofs \
-     | f8ab+f843018002030494+35*20+0780c008e1a001+00*31+800102+01c0+f1b0+c0*48+f1b0+c2*48
+    by name: with cell proofs | f8ab+SENT_3+01c0f1b0+c0*48+f1b0+c2*48
 ";
 
-/// The account of its row.
-const ACCOUNT: Account = Account {
-    nonce: 1,
-    balance: Uint {
-        bytes: [
-            0, 0, 0, 0, 0, 0, 0, 0, 0, 0, 0, 0, 0, 0, 0, 0, 0, 0, 0, 0, 0, 0, 0, 0, 0, 0, 0, 0, 0,
-            0, 1, 0,
-        ],
-    },
-    storage_root: Hash([4; 32]),
-    code_hash: Hash([5; 32]),
-};
+/// Returns the account of its row.
+fn account() -> Account {
+    Account {
+        nonce: 1,
+        balance: Uint::<32>::from(256),
+        storage_root: Hash([4; 32]),
+        code_hash: Hash([5; 32]),
+    }
+}
 
 /// The withdrawal of its row.
 const WITHDRAWAL: Withdrawal = Withdrawal {
@@ -125,7 +120,7 @@ fn with_cell_proofs(alloc: Global) -> Result<BlobTransactionWithCellProofs, Allo
 /// Tells what a call about a record of this page answers.
 pub(crate) fn tell(alloc: Global, name: &str, bytes: &[u8], out: &mut Line) -> fmt::Result {
     match name {
-        "account" => made(alloc, &ACCOUNT, bytes, out),
+        "account" => made(alloc, &account(), bytes, out),
         "withdrawal" => made(alloc, &WITHDRAWAL, bytes, out),
         "deposit" => made_of(alloc, deposit(alloc), bytes, out),
         "with proofs" => made_of(alloc, with_proofs(alloc), bytes, out),

@@ -4,10 +4,14 @@ use crate::reading::fault;
 use rlp::{Decodable, Rlp};
 use rlp_blocks::{Block, Body};
 use rlp_headers::{Amsterdam, AnyReceipt, Header, London, TypedReceipt};
+use rlp_messages::{
+    BlockBodies, BlockHeaders, Disconnect, Hello, NewBlock, PooledTransactions, Receipts,
+    Receipts69, Transactions, WithRequestId,
+};
 use rlp_records::{Eip2718, Hash};
 use rlp_transactions::{
-    AnyTransaction, BlobTransaction, Recipient, SetCodeTransaction, Signed, SignedAuthorization,
-    SignedLegacyTransaction, Transaction,
+    AnyTransaction, BlobTransaction, PooledTransaction, Recipient, SetCodeTransaction, Signed,
+    SignedAuthorization, SignedLegacyTransaction, Transaction,
 };
 use rlp_vectors::rows::{Hex, Line};
 use std::alloc::Global;
@@ -37,16 +41,11 @@ pub(crate) fn fields<T: Decodable + Told>(
 impl Told for Header {
     fn tell(&self, _len: usize, out: &mut Line) -> fmt::Result {
         tell_hashes(self, out)?;
-        let (number, timestamp, is_empty) = (
-            self.number,
-            self.timestamp,
-            self.logs_bloom.0 == [0; 256],
-        );
-        let (gas_limit, gas_used) = (self.gas_limit, self.gas_used);
-        write!(
-            out,
-            " {number} {gas_limit} {gas_used} {timestamp} {is_empty}"
-        )
+        out.then(self.number)?;
+        out.then(self.gas_limit)?;
+        out.then(self.gas_used)?;
+        out.then(self.timestamp)?;
+        out.then(self.logs_bloom.0 == [0; 256])
     }
 }
 
@@ -67,7 +66,7 @@ fn tell_hashes(header: &Header, out: &mut Line) -> fmt::Result {
     tell_words(&words, out)
 }
 
-/// Tells the hexadecimal digits of each of these, with a blank between.
+/// Tells the hexadecimal digits of each of these byte strings, with a blank between two.
 pub(crate) fn tell_words(words: &[&[u8]], out: &mut Line) -> fmt::Result {
     let mut gap = "";
     for word in words {
@@ -78,7 +77,7 @@ pub(crate) fn tell_words(words: &[&[u8]], out: &mut Line) -> fmt::Result {
     Ok(())
 }
 
-/// Returns the bytes of a hash, or none.
+/// Returns the bytes of a hash, or no bytes.
 fn digits_of(hash: Option<&Hash>) -> &[u8] {
     match hash {
         Some(hash) => hash.0.as_slice(),
@@ -135,7 +134,7 @@ fn tell_amsterdam(fields: Option<&Amsterdam>, out: &mut Line) -> fmt::Result {
     }
 }
 
-/// Tells what the fault of the fields since London prints.
+/// Tells the printed text of the fault of the fields since London.
 pub(crate) fn london(alloc: Global, bytes: &[u8], out: &mut Line) -> fmt::Result {
     match rlp::decode_struct::<London>(alloc, &Rlp::new(bytes)) {
         Ok(_) => out.write_str("no fault"),
@@ -164,8 +163,8 @@ impl Told for Body {
     }
 }
 
-/// Tells the numbers of a transaction, or of one whose type isn't known the type and the number of
-/// bytes of its payload.
+/// Tells the numbers of a transaction, or for an unknown type the type and the number of bytes of
+/// the payload.
 fn tell_any(transaction: &AnyTransaction, out: &mut Line) -> fmt::Result {
     match transaction {
         AnyTransaction::Known(known) => tell_numbers(known, out),
@@ -256,7 +255,7 @@ fn tell_authorization(one: &SignedAuthorization, out: &mut Line) -> fmt::Result 
     out.then(one.v)
 }
 
-/// Tells the fields of a transaction by itself.
+/// Tells the fields of a standalone transaction.
 pub(crate) fn tell_typed(transaction: &Transaction, out: &mut Line) -> fmt::Result {
     match transaction {
         Transaction::Blob(tx) => tell_blob(tx, out),
@@ -312,5 +311,133 @@ impl Told for TypedReceipt {
 impl Told for AnyReceipt {
     fn tell(&self, _len: usize, out: &mut Line) -> fmt::Result {
         out.debug(self.transaction_type())
+    }
+}
+
+/// The number of a request, and the fields of its content.
+impl<T: Told> Told for WithRequestId<T> {
+    fn tell(&self, len: usize, out: &mut Line) -> fmt::Result {
+        out.debug(self.request_id)?;
+        out.write_str(":")?;
+        self.content.tell(len, out)
+    }
+}
+
+/// Returns the type, the nonce and the limit of gas of a transaction. One whose type isn't known
+/// has zeros.
+fn numbers(transaction: &AnyTransaction) -> (u8, u64, u64) {
+    match transaction {
+        AnyTransaction::Known(tx) => (tx.transaction_type(), tx.nonce(), tx.gas_limit()),
+        AnyTransaction::Other(tx) => (tx.transaction_type(), 0, 0),
+    }
+}
+
+/// The type, the nonce and the limit of gas of each transaction.
+impl Told for Transactions {
+    fn tell(&self, _len: usize, out: &mut Line) -> fmt::Result {
+        for transaction in self.0.iter() {
+            let (kind, nonce, gas) = numbers(transaction);
+            write!(out, "type {kind} {nonce} {gas}, ")?;
+        }
+        Ok(())
+    }
+}
+
+/// Returns the nonce of a transaction that is sent.
+fn nonce(transaction: &PooledTransaction) -> u64 {
+    match transaction {
+        PooledTransaction::Legacy(tx) => tx.payload.nonce,
+        PooledTransaction::AccessList(tx) => tx.payload.nonce,
+        PooledTransaction::FeeMarket(tx) => tx.payload.nonce,
+        PooledTransaction::Blob(tx) => tx.transaction().payload.nonce,
+        PooledTransaction::SetCode(tx) => tx.payload.nonce,
+    }
+}
+
+/// The nonces of the transactions.
+impl Told for PooledTransactions {
+    fn tell(&self, _len: usize, out: &mut Line) -> fmt::Result {
+        for transaction in self.0.iter() {
+            out.then(nonce(transaction))?;
+        }
+        Ok(())
+    }
+}
+
+/// The number of the headers.
+impl Told for BlockHeaders {
+    fn tell(&self, _len: usize, out: &mut Line) -> fmt::Result {
+        out.then(self.0.len())
+    }
+}
+
+/// How many transactions and ommers each body has.
+impl Told for BlockBodies {
+    fn tell(&self, _len: usize, out: &mut Line) -> fmt::Result {
+        for body in self.0.iter() {
+            out.then(body.transactions.len())?;
+            out.then(body.ommers.len())?;
+            out.write_str(";")?;
+        }
+        Ok(())
+    }
+}
+
+/// The version of `p2p`, the port and the number of further items of a greeting.
+impl Told for Hello {
+    fn tell(&self, _len: usize, out: &mut Line) -> fmt::Result {
+        out.debug(self.protocol_version)?;
+        out.then(self.listen_port)?;
+        out.then(self.further.len())
+    }
+}
+
+/// The form, the reason and the number of an end of a connection.
+impl Told for Disconnect {
+    fn tell(&self, _len: usize, out: &mut Line) -> fmt::Result {
+        out.write_str(match self {
+            Disconnect::Listed(_) => "Listed",
+            Disconnect::Bare(_) => "Bare",
+        })?;
+        let reason = self.reason();
+        let number = reason.number();
+        out.then(reason)?;
+        out.then(number)
+    }
+}
+
+/// The total difficulty of a new block.
+impl Told for NewBlock {
+    fn tell(&self, _len: usize, out: &mut Line) -> fmt::Result {
+        out.debug(Hex(self.total_difficulty.bytes.as_slice()))
+    }
+}
+
+/// The types of the receipts of each block.
+impl Told for Receipts {
+    fn tell(&self, _len: usize, out: &mut Line) -> fmt::Result {
+        for block in self.0.iter() {
+            for receipt in block.0.iter() {
+                out.then(receipt.transaction_type())?;
+            }
+            out.write_str(";")?;
+        }
+        Ok(())
+    }
+}
+
+/// Of each block the type, the gas and the number of logs of its receipts.
+impl Told for Receipts69 {
+    fn tell(&self, _len: usize, out: &mut Line) -> fmt::Result {
+        for block in self.0.iter() {
+            for receipt in block.0.iter() {
+                out.then(receipt.transaction_type)?;
+                out.then(receipt.cumulative_gas_used)?;
+                out.then(receipt.logs.len())?;
+                out.write_str(",")?;
+            }
+            out.write_str(";")?;
+        }
+        Ok(())
     }
 }

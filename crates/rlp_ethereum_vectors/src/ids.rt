@@ -1,12 +1,12 @@
-//! Messages with their ids. The ids are those of RLPx and of `eth`, by hand. The bodies of requests
-//! and their answers are the examples of EIP-2481, and other bodies are those of other tables.
+//! Messages with their ids. The ids were written by hand, as in RLPx and in `eth`. The bodies of
+//! requests and their answers are the examples of EIP-2481, and other bodies are from other tables.
 
-use crate::reading::{Reading, fault, ways};
+use crate::reading::{Reading, fault, ways, written};
 use bytes::BytesMut;
 use rlp::DecoderError;
 use rlp_messages::{Eth68Message, Eth69Message, Message, P2pMessage};
 use rlp_vectors::rows::Line;
-use std::alloc::{AllocError, Global};
+use std::alloc::Global;
 use std::fmt;
 use std::fmt::Write;
 use std::marker::PhantomData;
@@ -96,16 +96,8 @@ struct Sent<M, const FIRST: u8>(PhantomData<M>);
 
 impl<M: Message, const FIRST: u8> Reading for Sent<M, FIRST> {
     fn again(alloc: Global, bytes: &[u8]) -> Result<BytesMut, DecoderError> {
-        match M::from_message(alloc, FIRST, bytes) {
-            Ok(message) => written(message.to_message(alloc, FIRST)),
-            Err(found) => Err(found),
-        }
+        written(M::from_message(alloc, FIRST, bytes)?.to_message(alloc, FIRST))
     }
-}
-
-/// Returns what a message is written as.
-fn written(bytes: Result<BytesMut, AllocError>) -> Result<BytesMut, DecoderError> {
-    bytes.or(Err(DecoderError::OutOfMemory))
 }
 
 /// Returns the number of a message.

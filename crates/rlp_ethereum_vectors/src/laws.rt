@@ -1,7 +1,7 @@
 //! The laws of records and messages, called for several types. What a law says is proved.
 
+use crate::named::bytes_of;
 use crate::node_records::TEXTS;
-use crate::text::bytes_of;
 use rlp::StrictRead;
 use rlp_blocks::laws::no_content_is_signed_for_two_meanings;
 use rlp_headers::laws::bytes_tell_receipts;

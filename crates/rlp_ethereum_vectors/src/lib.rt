@@ -3,16 +3,14 @@
 //! has only tests.
 //!
 //! The tests are tables of text. A row of a table is a line with bars between its cells: the call,
-//! its bytes, and what it answers. A row with two cells answers `both ways`: the bytes are read as a
-//! value that is written as the same bytes, and they fail if the last byte is missing or another
-//! follows. For bytes, `=` stands for those of the row above, and in an answer `<00*32>` for `00` 32
+//! its bytes, and what it answers. A row with two cells answers `both ways`: the bytes are read as
+//! a value that is written as the same bytes, and they fail if the last byte is missing or another
+//! follows. For bytes, `=` means the bytes of the row above, and in an answer `<00*32>` for `00` 32
 //! times. A line with no bar is a comment.
 #![tactic(auto)]
 
 #[cfg(test)]
 mod addresses;
-#[cfg(test)]
-mod alone;
 #[cfg(test)]
 mod answers;
 #[cfg(test)]
@@ -27,14 +25,6 @@ mod hashes;
 mod ids;
 #[cfg(test)]
 mod laws;
-#[cfg(test)]
-mod message_answers;
-#[cfg(test)]
-mod message_bounds;
-#[cfg(test)]
-mod message_fields;
-#[cfg(test)]
-mod message_hashes;
 #[cfg(test)]
 mod messages;
 #[cfg(test)]
@@ -61,8 +51,6 @@ mod requests;
 mod rows;
 #[cfg(test)]
 mod signing;
-#[cfg(test)]
-mod text;
 #[cfg(test)]
 mod unsigned;
 #[cfg(test)]

@@ -134,7 +134,13 @@ fn three_transactions(alloc: Global) -> Result<NewPooledTransactionHashes, Alloc
 
 /// Returns the announcement of two blocks.
 fn two_blocks(alloc: Global) -> Result<NewBlockHashes, AllocError> {
-    Ok(NewBlockHashes(Vec::from_array(alloc, NEW_BLOCKS)?))
+    let (hash, other) = (Hash([8; 32]), Hash([9; 32]));
+    let first = NewBlockHash { hash, number: 1 };
+    let second = NewBlockHash {
+        hash: other,
+        number: u64::MAX,
+    };
+    Ok(NewBlockHashes(Vec::from_array(alloc, [first, second])?))
 }
 
 /// The hash of block 0 of Ethereum's main network.
@@ -182,20 +188,8 @@ const RANGE: BlockRangeUpdate = BlockRangeUpdate {
     latest_block_hash: Hash([8; 32]),
 };
 
-/// Two blocks.
-const NEW_BLOCKS: [NewBlockHash; 2] = [
-    NewBlockHash {
-        hash: Hash([8; 32]),
-        number: 1,
-    },
-    NewBlockHash {
-        hash: Hash([9; 32]),
-        number: u64::MAX,
-    },
-];
-
 /// Returns an identifier of forks.
-fn fork_id(fork_hash: [u8; 4], fork_next: u64) -> ForkId {
+fn fork(fork_hash: [u8; 4], fork_next: u64) -> ForkId {
     ForkId {
         fork_hash: ForkHash(fork_hash),
         fork_next,
@@ -226,14 +220,9 @@ pub(crate) fn tell(alloc: Global, name: &str, bytes: &[u8], out: &mut Line) -> f
 /// Tells what a call about a message that says what a client knows of the chain answers.
 fn tell_chain(alloc: Global, name: &str, bytes: &[u8], out: &mut Line) -> fmt::Result {
     match name {
-        "no fork" => made(alloc, &fork_id([0; 4], 0), bytes, out),
-        "fork of letters" => made(
-            alloc,
-            &fork_id([0xde, 0xad, 0xbe, 0xef], 0xbadd_cafe),
-            bytes,
-            out,
-        ),
-        "greatest fork" => made(alloc, &fork_id([0xff; 4], u64::MAX), bytes, out),
+        "no fork" => made(alloc, &fork([0; 4], 0), bytes, out),
+        "fork of letters" => made(alloc, &fork(*b"\xde\xad\xbe\xef", 0xbadd_cafe), bytes, out),
+        "greatest fork" => made(alloc, &fork([0xff; 4], u64::MAX), bytes, out),
         "status of eth/68" => made(alloc, &STATUS_68, bytes, out),
         "status of eth/69" => made(alloc, &STATUS_69, bytes, out),
         _ => made(alloc, &RANGE, bytes, out),

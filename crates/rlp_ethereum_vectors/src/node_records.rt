@@ -1,5 +1,4 @@
-//! Node records. The first record, its fields and its text are those that EIP-778 publishes as its
-//! example.
+//! Node records. The first record, its fields and its text are the example of EIP-778.
 
 use crate::reading::{Item, fault, ways};
 use rlp::{DecoderError, RawItem};
@@ -44,8 +43,7 @@ pub(crate) const ROWS: &str = "
     NodeRecord | f90129800162b90121+00*289+6105 | Custom(\"keys are not in order\")
 
     A record of 17 pairs.
-    NodeRecord | e68001+6180+6280+6380+6480+6580+6680+6780+6880+82696480+6a80+6b80+6c80+6d80+6e80+\
-     6f80+7080+7180
+    NodeRecord | e6800161806280638064806580668067806880826964806a806b806c806d806e806f8070807180
 
     A record with a key of these bytes before id: the longest one has 300 bytes. The order of the
     keys is tested before id is sought, and that before the length.

@@ -236,7 +236,7 @@ fn first_unnoticed(alloc: Global, bytes: &[u8]) -> Result<Option<usize>, AllocEr
     Ok(None)
 }
 
-/// Returns whether bytes are read as a node that is written as others.
+/// Returns whether bytes are read as a node that is written as other bytes.
 fn is_read_otherwise(alloc: Global, bytes: &[u8]) -> bool {
     match Item::<TrieNode>::again(alloc, bytes) {
         Ok(again) => again.as_slice() != bytes,

@@ -1,5 +1,5 @@
-//! The offsets of capabilities. The cases are those of RLPx's text, and those that go-ethereum tests
-//! its choice of protocols with.
+//! The offsets of capabilities. The cases are the examples of RLPx, and the tests of go-ethereum
+//! for its choice of protocols.
 
 use rlp_messages::{Capability, ETH_68, ETH_69, Hello, NodeId, Protocol};
 use std::alloc::{AllocError, Global};

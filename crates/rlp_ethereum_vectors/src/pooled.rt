@@ -1,8 +1,7 @@
 //! Transactions as they are sent: a transaction of type 3 has its blobs.
 
-use crate::alone::OfTypes;
 use crate::places::tell_placed;
-use crate::reading::{Alone, Item, digits, fault, ways};
+use crate::reading::{Item, OfTypes, digits, fault, ways};
 use rlp_records::Eip2718;
 use rlp_transactions::PooledTransaction;
 use rlp_vectors::rows::{Hex, Line};
@@ -96,7 +95,7 @@ pub(crate) const ROWS: &str = "
 /// Tells what a call about a transaction as it is sent answers.
 pub(crate) fn tell(alloc: Global, name: &str, bytes: &[u8], out: &mut Line) -> fmt::Result {
     match name {
-        "alone" => ways::<Alone<OfTypes<PooledTransaction>>>(alloc, bytes, out),
+        "alone" => ways::<OfTypes<PooledTransaction>>(alloc, bytes, out),
         "item" => ways::<Item<PooledTransaction>>(alloc, bytes, out),
         "place" => tell_place(alloc, bytes, out),
         _ => match PooledTransaction::from_bytes(alloc, bytes) {

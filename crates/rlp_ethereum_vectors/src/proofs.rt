@@ -1,6 +1,6 @@
 //! Proofs of what tries have, with the roots that public tests and blocks name.
 
-use crate::text::bytes_of;
+use crate::named::bytes_of;
 use rlp_records::Hash;
 use rlp_trie::verify_proof;
 use rlp_vectors::rows::{Hex, Line};
@@ -12,13 +12,14 @@ use std::test::Fail;
 /// Roots, keys and nodes as text, with blanks between, and what the trie has: a value after `=`, none,
 /// or the fault of the proof.
 ///
-/// First the keys of tries: in branches and leaves, also in nodes that are kept in their parents, and
-/// the first transaction of block 46147, under the root of its transactions. Then keys that a trie
-/// hasn't: where the way leaves an extension, ends in one, or ends at a branch without a value; where
-/// a branch has no child; where a leaf has another path; and in the empty trie. Then proofs that fail:
-/// nodes that end early, are in another order, belong to another trie, are no nodes, or are too many.
-/// Of the roots of what is no node, the first two are published, as the hashes of no bytes and of a
-/// block without ommers, and an independent program computed the others.
+/// First the keys of tries: in branches and leaves, also in nodes that are kept in their parents,
+/// and the first transaction of block 46147, under the root of its transactions. Then keys that a
+/// trie hasn't: where the way leaves an extension, ends in one, or ends at a branch without a
+/// value; where a branch has no child; where a leaf has another path; and in the empty trie. Then
+/// proofs that fail: nodes that end early, are in another order, belong to another trie, are no
+/// nodes, or are too many. Of the roots of what is no node, the first two are published, as the
+/// hashes of no bytes and of a block without ommers, and an independent program computed the
+/// remaining hashes.
 const ROWS: &str = "
     PUPPY 646f PUPPY_0 PUPPY_1 PUPPY_2 PUPPY_3 | = 76657262
     PUPPY 646f67 PUPPY_0 PUPPY_1 PUPPY_2 PUPPY_3 | = 7075707079

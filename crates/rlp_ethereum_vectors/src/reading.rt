@@ -2,6 +2,8 @@
 
 use bytes::BytesMut;
 use rlp::{Decodable, DecoderError, Encodable};
+use rlp_records::{Eip2718, Enveloped, KnownOrOther};
+use rlp_transactions::{FeeMarketTransaction, Signed, Tagged};
 use rlp_vectors::rows::{Hex, Line};
 use std::alloc::{AllocError, Global};
 use std::fmt;
@@ -24,6 +26,11 @@ pub(crate) fn fault(fault: &DecoderError, out: &mut Line) -> fmt::Result {
 pub(crate) trait Reading {
     /// Returns what the value that is read from the bytes is written as, or the fault.
     fn again(alloc: Global, bytes: &[u8]) -> Result<BytesMut, DecoderError>;
+}
+
+/// Returns what is written.
+pub(crate) fn written(bytes: Result<BytesMut, AllocError>) -> Result<BytesMut, DecoderError> {
+    bytes.or(Err(DecoderError::OutOfMemory))
 }
 
 /// Reads an item strictly. The fault is another if lenient reading gives something else, unless only
@@ -50,7 +57,7 @@ fn value<T: Encodable + Decodable>(
     read: Result<T, DecoderError>,
 ) -> Result<BytesMut, DecoderError> {
     match read {
-        Ok(value) => rlp::encode(alloc, &value).or(Err(DecoderError::OutOfMemory)),
+        Ok(value) => written(rlp::encode(alloc, &value)),
         Err(found) => Err(found),
     }
 }
@@ -67,24 +74,43 @@ fn is_same(
     }
 }
 
-/// What is read by itself, with no header around its envelope.
-pub(crate) trait Bare {
-    /// Reads a value from its bytes.
-    fn from(alloc: Global, bytes: &[u8]) -> Result<Self, DecoderError>;
+/// Reads a value of one of the types of EIP-2718 by itself, with no header around its envelope.
+pub(crate) struct OfTypes<T>(T);
 
-    /// Returns the bytes of the value.
-    fn to(&self, alloc: Global) -> Result<BytesMut, AllocError>;
+impl<T: Eip2718> Reading for OfTypes<T> {
+    fn again(alloc: Global, bytes: &[u8]) -> Result<BytesMut, DecoderError> {
+        written(T::from_bytes(alloc, bytes)?.to_bytes(alloc))
+    }
 }
 
-/// Reads a value by itself.
-pub(crate) struct Alone<T>(T);
-
-impl<T: Bare + Drop> Reading for Alone<T> {
+impl<T: Eip2718> Reading for KnownOrOther<T> {
     fn again(alloc: Global, bytes: &[u8]) -> Result<BytesMut, DecoderError> {
-        match T::from(alloc, bytes) {
-            Ok(value) => value.to(alloc).or(Err(DecoderError::OutOfMemory)),
-            Err(found) => Err(found),
-        }
+        written(KnownOrOther::<T>::from_bytes(alloc, bytes)?.to_bytes(alloc))
+    }
+}
+
+/// A transaction of type 2 in its envelope.
+impl Reading for Signed<FeeMarketTransaction> {
+    fn again(alloc: Global, bytes: &[u8]) -> Result<BytesMut, DecoderError> {
+        written(Signed::<FeeMarketTransaction>::from_bytes(alloc, bytes)?.to_bytes(alloc))
+    }
+}
+
+/// Reads what is signed of a payload, after the byte of its type.
+pub(crate) struct Payload<T>(T);
+
+impl<T: Tagged + Drop> Reading for Payload<T> {
+    fn again(alloc: Global, bytes: &[u8]) -> Result<BytesMut, DecoderError> {
+        written(T::from_signing_payload(alloc, bytes)?.signing_payload(alloc))
+    }
+}
+
+/// Reads a value that is sent after the byte of its type.
+pub(crate) struct Sent<T>(T);
+
+impl<T: Enveloped> Reading for Sent<T> {
+    fn again(alloc: Global, bytes: &[u8]) -> Result<BytesMut, DecoderError> {
+        written(T::from_bytes(alloc, bytes)?.to_bytes(alloc))
     }
 }
 
@@ -102,7 +128,7 @@ pub(crate) fn ways<R: Reading>(alloc: Global, bytes: &[u8], out: &mut Line) -> f
     }
 }
 
-/// Returns whether the bytes without the last fail, and those with one more.
+/// Returns whether reading fails without the last byte, and with one more byte.
 fn is_cut_noticed<R: Reading>(alloc: Global, bytes: &[u8]) -> Result<bool, AllocError> {
     let mut longer = Vec::from_slice(alloc, bytes)?;
     longer.push(0)?;

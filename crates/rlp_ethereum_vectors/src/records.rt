@@ -1,4 +1,4 @@
-//! Records by themselves: headers, blocks, receipts and their parts.
+//! Standalone records: headers, blocks, receipts and their parts.
 
 use crate::reading::{digits, made, made_of};
 use rlp::Uint;
@@ -340,7 +340,7 @@ fn receipt(alloc: Global) -> Result<Receipt, AllocError> {
     })
 }
 
-/// The hash whose digits stand in the row.
+/// The hash whose digits are in the row.
 const HASH: Hash = Hash(
     *b"\x28\xef\x61\x34\x0b\xd9\x39\xbc\x21\x95\xfe\x53\x75\x67\x86\x60\
     \x03\xe1\xa1\x5d\x3c\x71\xff\x63\xe1\x59\x06\x20\xaa\x63\x62\x76",
@@ -356,15 +356,10 @@ const SECOND: [u8; 20] =
 /// Returns the example of EIP-2930: an account with the keys 3 and 7, and another with
 /// none.
 fn access_list(alloc: Global) -> Result<AccessList, AllocError> {
+    let (three, seven) = (Uint::<32>::from(3).bytes, Uint::<32>::from(7).bytes);
     let first = AccessListItem {
         address: Address(FIRST),
-        storage_keys: Vec::from_array(
-            alloc,
-            [
-                Hash(Uint::<32>::from(3).bytes),
-                Hash(Uint::<32>::from(7).bytes),
-            ],
-        )?,
+        storage_keys: Vec::from_array(alloc, [Hash(three), Hash(seven)])?,
     };
     let second = AccessListItem {
         address: Address(SECOND),

@@ -100,12 +100,10 @@ pub(crate) const ROWS: &str = "
 
 /// Returns the request for five headers downwards, with seven blocks skipped before each next one.
 fn get_downwards() -> WithRequestId<GetBlockHeaders> {
-    with_id(GetBlockHeaders {
-        start_block: HashOrNumber::Number(9999),
-        limit: 5,
-        skip: 7,
-        reverse: true,
-    })
+    let mut request = get_headers(HashOrNumber::Number(9999));
+    request.content.skip = 7;
+    request.content.reverse = true;
+    request
 }
 
 /// Returns the request for headers from this block on.
@@ -131,7 +129,7 @@ const OTHER: Hash = Hash(
     *b"\0\0\0\0\0\0\0\0\0\0\0\0\0\0\0\0\0\0\0\0\0\0\0\0\0\0\0\0\xfe\xed\xbe\xef",
 );
 
-/// Returns both hashes.
+/// Returns the two hashes.
 fn hashes(alloc: Global) -> Result<Vec<Hash>, AllocError> {
     Ok(Vec::from_array(alloc, [HASH, OTHER])?)
 }

@@ -1,7 +1,7 @@
 //! The tests of the tables.
 
 use crate::answers::tell;
-use crate::text::bytes_of;
+use crate::named::bytes_of;
 use crate::{
     addresses, bounded, by_name, hashes, ids, messages, node_records, nodes, places, pooled,
     records, requests, signing, unsigned,

@@ -1,19 +1,17 @@
-//! Signatures of transactions, and transactions as they are sent with what isn't in a block.
+//! Signatures of transactions, and transactions with the parts that are sent but aren't in a block.
 
-use crate::reading::{Alone, Bare, digits, ways};
-use bytes::BytesMut;
-use rlp::DecoderError;
+use crate::reading::{Sent, digits, ways};
 use rlp_headers::DepositReceipt;
 use rlp_records::{Eip2718, Enveloped, Hash, keccak256};
 use rlp_transactions::{
     BlobTransactionWithCellProofs, BlobTransactionWithProofs, DepositTransaction, Transaction,
 };
 use rlp_vectors::rows::{Hex, Line};
-use std::alloc::{AllocError, Global};
+use std::alloc::Global;
 use std::fmt;
 use std::fmt::Write;
 
-/// Transactions with what is signed of them, and others in the forms that are sent.
+/// Transactions with the bytes that are signed, and transactions in the forms that are sent.
 pub(crate) const ROWS: &str = "
     The example of EIP-155. The hash of what is signed is daf5a779..8e53, and that of the
     transaction 33469b22..0788.
@@ -22,19 +20,14 @@ pub(crate) const ROWS: &str = "
     signing: fees | SIGNED | 0 Some(1) 8504a817c800 8504a817c800 true
     A transaction of type 1 of the tests of go-ethereum. The hash of what is signed is
     49b486f0..69f3.
-    Transaction alone | 01f8630103018261a894b94f5374fce5edbc8e2a8697c15331677e6ebf0b0a825544c001a0c\
-     9519f4f2b30335884581971573fadf60c6204f59a911df35ee8a540456b2660a032f1e8e2c5dd761f9e4f88f41c831\
-     0aeaba26a8bfcdacfedfa12ec3862d37521
+    Transaction alone | SENT_1
     signing: what is signed | = \
      | 01e00103018261a894b94f5374fce5edbc8e2a8697c15331677e6ebf0b0a825544c0
     signing: signature again | = | the same
     signing: fees | = | 1 Some(1) 01 01 true
     The transaction 0ec0b6a2..2ee0 of the main chain, of type 2. The hash of what is signed is
     0d5688ac..b682.
-    Transaction alone | 02f8b00142843b9aca008504a817c80082ad62946069a6c32cf691f5982febae4faf8a6f3ab\
-     2f0f680b844a22cb465+00*12+5eee75727d804a2b13038928d36f8b188945a57a+00*32+\
-     c080a0840cfc572845f5786e702984c2a582528cad4b49b2a10b9db1be7fca90058565a025e7109ceb98168d95b09b\
-     18bbf6b685130e0562f233877d492b94eee0c5b6d1
+    Transaction alone | SENT_2
     signing: what is signed | = | 02f86d0142843b9aca008504a817c80082ad62946069a6c32cf691f5982febae4\
      faf8a6f3ab2f0f680b844a22cb465<00*12>5eee75727d804a2b13038928d36f8b188945a57a<00*32>c0
     signing: signature again | = | the same
@@ -100,25 +93,18 @@ pub(crate) const ROWS: &str = "
     signing: low s | e98080808080801b01a07f+ff*15+5d576e7357a4501ddfe92f46681b20a1 | false
     signing: low s | 01cb+80*7+c0010102 | true
     With one blob of zeros, as in EIP-4844 and EIP-7594.
-    sent: with proofs | 03fa0200b1+f843018002030494+35*20+0780c008e1a001+00*31+800102+\
-     fa020004ba020000+00*131072+f1b0c0+00*47+f1b0c0+00*47
-    sent: with cell proofs | 03fa0200e4+f843018002030494+35*20+0780c008e1a001+00*31+800102+\
-     01fa020004ba020000+00*131072+f1b0c0+00*47+f862b0c0+00*47+b0c0+00*47
-    sent: with proofs | 03f848+f843018002030494+35*20+0780c008e1a001+00*31+800102+c0c0c0
-    sent: with cell proofs | 03f849+f843018002030494+35*20+0780c008e1a001+00*31+800102+01c0c0c0
-    sent: with cell proofs | 03f849+f843018002030494+35*20+0780c008e1a001+00*31+800102+02c0c0c0 \
-     | Custom(\"unknown wrapper version\")
-    sent: with cell proofs | 03f848+f843018002030494+35*20+0780c008e1a001+00*31+800102+c0c0c0 \
-     | RlpIncorrectListLen
-    sent: with proofs | 03f849+f843018002030494+35*20+0780c008e1a001+00*31+800102+01c0c0c0 \
-     | RlpIncorrectListLen
-    sent: with proofs | 03f843018002030494+35*20+0780c008e1a001+00*31+800102 | RlpIncorrectListLen
-    sent: with proofs | 02f848+f843018002030494+35*20+0780c008e1a001+00*31+800102+c0c0c0 \
-     | Custom(\"another type\")
-    sent: with proofs | 03fa02004e+f843018002030494+35*20+0780c008e1a001+00*31+800102+\
-     fa020003ba01ffff+00*131071+c0c0 | RlpIsTooShort
-    sent: with proofs | 03f84b+f843018002030494+35*20+0780c008e1a001+00*31+800102+c0c3820000c0 \
-     | RlpIsTooShort
+    sent: with proofs | 03fa0200b1+SENT_3+fa020004ba020000+00*131072+f1b0c0+00*47+f1b0c0+00*47
+    sent: with cell proofs | 03fa0200e4+SENT_3+01fa020004ba020000+00*131072+f1b0c0+00*47+\
+     f862b0c0+00*47+b0c0+00*47
+    sent: with proofs | 03f848+SENT_3+c0c0c0
+    sent: with cell proofs | 03f849+SENT_3+01c0c0c0
+    sent: with cell proofs | 03f849+SENT_3+02c0c0c0 | Custom(\"unknown wrapper version\")
+    sent: with cell proofs | 03f848+SENT_3+c0c0c0 | RlpIncorrectListLen
+    sent: with proofs | 03f849+SENT_3+01c0c0c0 | RlpIncorrectListLen
+    sent: with proofs | 03+SENT_3 | RlpIncorrectListLen
+    sent: with proofs | 02f848+SENT_3+c0c0c0 | Custom(\"another type\")
+    sent: with proofs | 03fa02004e+SENT_3+fa020003ba01ffff+00*131071+c0c0 | RlpIsTooShort
+    sent: with proofs | 03f84b+SENT_3+c0c3820000c0 | RlpIsTooShort
     A deposit of the OP stack: the attributes of a block. Its first field is the hash by the rule
     for such deposits: of 1 and of the hash of what its data names, a block and a number.
     sent: deposit | DEPOSIT
@@ -139,8 +125,7 @@ pub(crate) const ROWS: &str = "
     sent: since Regolith | 7ef9010c0182b741b90100+00*256+c0833d3bbf | 46913 Some(4012991) None
     sent: since Regolith | 7ef9010d0182b741b90100+00*256+c0833d3bbf01 | 46913 Some(4012991) Some(1)
     sent: since Regolith | 7ef901080182b741b90100+00*256+c0 | 46913 None None
-    Statuses of receipts, of which the third is in the trie of the receipts of block 46,147.
-    TypedReceipt | f9010801825208b90100+00*256+c0
+    Statuses of receipts, of which the second is in the trie of the receipts of block 46,147.
     TypedReceipt | f9010880825208b90100+00*256+c0
     TypedReceipt | f90128a096a8e009d2b88b1483e6941e6812e32263b05683fac202abc622a3e31aed1957825208b9\
      0100+00*256+c0
@@ -150,31 +135,15 @@ pub(crate) const ROWS: &str = "
     TypedReceipt | f90129a1+01*33+825208b90100+00*256+c0 | Custom(\"unknown receipt status\")
 ";
 
-/// A value that is sent after the byte of its type.
-#[derive(Drop)]
-struct Sent<T>(T);
-
-impl<T: Enveloped> Bare for Sent<T> {
-    fn from(alloc: Global, bytes: &[u8]) -> Result<Sent<T>, DecoderError> {
-        Ok(Sent(T::from_bytes(alloc, bytes)?))
-    }
-
-    fn to(&self, alloc: Global) -> Result<BytesMut, AllocError> {
-        self.0.to_bytes(alloc)
-    }
-}
-
 /// Tells what a call about a transaction answers that is sent with what isn't in a block.
 pub(crate) fn tell_sent(alloc: Global, name: &str, bytes: &[u8], out: &mut Line) -> fmt::Result {
     match name {
-        "with proofs" => ways::<Alone<Sent<BlobTransactionWithProofs>>>(alloc, bytes, out),
-        "with cell proofs" => {
-            ways::<Alone<Sent<BlobTransactionWithCellProofs>>>(alloc, bytes, out)
-        }
-        "deposit receipt" => ways::<Alone<Sent<DepositReceipt>>>(alloc, bytes, out),
+        "with proofs" => ways::<Sent<BlobTransactionWithProofs>>(alloc, bytes, out),
+        "with cell proofs" => ways::<Sent<BlobTransactionWithCellProofs>>(alloc, bytes, out),
+        "deposit receipt" => ways::<Sent<DepositReceipt>>(alloc, bytes, out),
         "since Regolith" => tell_regolith(alloc, bytes, out),
         "source of deposit" => tell_source(alloc, bytes, out),
-        _ => ways::<Alone<Sent<DepositTransaction>>>(alloc, bytes, out),
+        _ => ways::<Sent<DepositTransaction>>(alloc, bytes, out),
     }
 }
 
@@ -215,7 +184,7 @@ pub(crate) fn tell_payload(alloc: Global, signed: &Transaction, out: &mut Line) 
     }
 }
 
-/// Takes the signature off, and tells whether with it the transaction has these bytes again.
+/// Removes the signature, puts it back, and tells whether the transaction has the same bytes again.
 pub(crate) fn tell_again(
     alloc: Global,
     signed: Transaction,

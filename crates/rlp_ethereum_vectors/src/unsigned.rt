@@ -1,10 +1,9 @@
 //! Transactions of every type, and what is signed of them. An independent writer of the format, in
-//! Python, made the expected bytes from the values of the fields. Those of the example of EIP-155
-//! are in the EIP.
+//! Python, made the expected bytes from the values of the fields. The bytes of the example of
+//! EIP-155 are in the EIP.
 
-use crate::alone::OfTypes;
 use crate::fields::{second, tell_parts, tell_second, tell_typed};
-use crate::reading::{Alone, digits, fault, made, ways};
+use crate::reading::{OfTypes, digits, fault, made, ways};
 use crate::signing::{tell_again, tell_fees, tell_low, tell_parity, tell_payload};
 use rlp::Uint;
 use rlp_records::{Address, Eip2718};
@@ -83,8 +82,7 @@ pub(crate) const ROWS: &str = "
      | both ways, 293
     signed: payload, both ways | 04f901230180808080+94+35*20+80b90100+aa*256+c0c0800102 \
      | both ways, 292
-    signed: payload, both ways | 02fa01000f01808080808080ba010000+aa*65536+c0800102 \
-     | both ways, 65553
+    signed: payload, both ways | 02fa01000f01+80*6+ba010000+aa*65536+c0800102 | both ways, 65553
 
     Bytes that are no transaction by themselves.
     No bytes.
@@ -341,7 +339,7 @@ fn tell_unsigned(alloc: Global, unsigned: UnsignedTransaction, out: &mut Line) -
 /// Tells whether what is signed of a transaction goes both ways, and the number of its bytes.
 fn tell_ways(alloc: Global, unsigned: UnsignedTransaction, out: &mut Line) -> fmt::Result {
     let payload = unsigned.to_bytes(alloc)?;
-    ways::<Alone<OfTypes<UnsignedTransaction>>>(alloc, payload.as_slice(), out)?;
+    ways::<OfTypes<UnsignedTransaction>>(alloc, payload.as_slice(), out)?;
     out.write_str(",")?;
     out.then(payload.len())
 }

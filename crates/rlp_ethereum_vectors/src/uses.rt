@@ -1,6 +1,6 @@
-//! What a node does with the bytes of strangers.
+//! What a node does with untrusted bytes.
 
-use crate::text::bytes_of;
+use crate::named::bytes_of;
 use rlp::DecoderError;
 use rlp_records::{Hash, keccak256};
 use rlp_transactions::AnyTransaction;

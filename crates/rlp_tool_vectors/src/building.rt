@@ -1,10 +1,10 @@
-//! Calls that are read from lines, and the results of calls.
+//! Calls that are read from lines, the results of calls, and whether two lists of calls over one
+//! front finish as the same bytes.
 
-use crate::rows::Row;
 use bytes::BytesMut;
 use rlp::Encodable;
 use rlp_examples::{Pair, Refusing, Trio};
-use rlp_tool::{BuildFault, Built, StreamCall, build, read_calls};
+use rlp_tool::{BuildFault, Built, StreamCall, build, finish_alike, finished_buffer, read_calls};
 use rlp_vectors::rows::Line;
 use std::alloc::Global;
 use std::fmt;
@@ -32,44 +32,43 @@ fn tell_built<E: Encodable>(
     tell(&build(alloc, buffer, calls), out)
 }
 
-/// A script and its calls, or the place of its fault.
-const READ: [Row; 3] = [
-    ("d:2a r:3:0102", "Ok([Value([42]), Raw([1, 2], 3)])"),
-    ("", "Ok([])"),
-    ("d:2a d:2", "Err(Syntax(2))"),
-];
+/// Scripts with their calls, or the place of the fault, and with what their calls result in after
+/// the bytes of `junk`. Raw bytes that aren't items fail at their place, after raw bytes that are
+/// items. The front stays, and the result has the open lists. Then what calls of other values
+/// result in.
+const BUILT: &str = "
+    read | d:2a r:3:0102 | Ok([Value([42]), Raw([1, 2], 3)])
+    read |  | Ok([])
+    read | d:2a d:2 | Err(Syntax(2))
+    built | r:2:01c0 r:1:c100 | finished [106, 117, 110, 107, 1, 192, 193, 0]
+    built | r:2:01c0 r:1:c100 r:1:8105 | RawNotItems(3)
+    built | u d:01 | open 2 [106, 117, 110, 107, 0, 1]
+    pairs |  | finished [196, 194, 1, 2, 192]
+    a refused value |  | OutOfMemory
+";
 
-/// A script and what its calls result in after the bytes of `junk`. Raw bytes that aren't items fail
-/// at their place, after raw bytes that are items. The front stays, and the result has the open
-/// lists.
-const BUILT: [Row; 3] = [
-    (
-        "r:2:01c0 r:1:c100",
-        "finished [106, 117, 110, 107, 1, 192, 193, 0]",
-    ),
-    ("r:2:01c0 r:1:c100 r:1:8105", "RawNotItems(3)"),
-    ("u d:01", "open 2 [106, 117, 110, 107, 0, 1]"),
-];
+/// Scripts with their finished buffer over the bytes of `junk`, and whether two finish alike. The
+/// two describe equal items in other ways, or other items. A script that leaves a list open keeps
+/// the second from being tried, and a script that fails does too.
+const FINISHED: &str = "
+    finished | l:2 d:01 d:02 | Ok(Some(b\"junk\\xc2\\x01\\x02\"))
+    finished |  | Ok(Some(b\"junk\"))
+    finished | u d:01 | Ok(None)
+    finished | d:01 e | Err(NothingToFinish(2))
+    finished | u d:01 r:1:8105 | Err(RawNotItems(3))
 
-/// Notes the scripts that are read otherwise.
-fn check_read(alloc: Global, wrong: &mut Line) {
-    for (script, want) in &READ {
-        let mut said = Line::new();
-        let _ = said.debug(read_calls(alloc, script.as_bytes()));
-        wrong.note("read", script, said.as_str(), want);
-    }
-}
-
-/// Notes the scripts whose calls result in something else.
-fn check_built(alloc: Global, wrong: &mut Line) {
-    for (script, want) in &BUILT {
-        let mut said = Line::new();
-        if let Ok(calls) = read_calls(alloc, script.as_bytes()) {
-            let _ = tell_built(alloc, "junk", calls.as_slice(), &mut said);
-        }
-        wrong.note("built", script, said.as_str(), want);
-    }
-}
+    alike | l:2 d:01 d:02 / u d:01 d:02 e | Ok(Some(true))
+    alike | l:2 d:01 d:02 / r:1:c20102 | Ok(Some(true))
+    alike | l:2 d:01 d:02 / d:01 d:02 | Ok(Some(false))
+    alike | d:01 c /  | Ok(Some(true))
+    alike | l:2 d:01 / d:01 | Ok(None)
+    alike | d:01 / l:2 d:01 | Ok(None)
+    alike | l:2 d:01 / e | Ok(None)
+    alike | r:1:8105 / l:1 | Err(RawNotItems(1))
+    alike | r:1:8105 / d:01 e | Err(RawNotItems(1))
+    alike | d:01 / d:01 e | Err(NothingToFinish(2))
+    alike | d:01 / l:1 r:2:0102 | Err(TooManyItems(2))
+";
 
 /// Tells the result of a list of a value and of a list of no values.
 fn tell_pairs(alloc: Global, out: &mut Line) -> fmt::Result {
@@ -81,7 +80,7 @@ fn tell_pairs(alloc: Global, out: &mut Line) -> fmt::Result {
     tell_built(alloc, "", calls.as_slice(), out)
 }
 
-/// Tells the result of a list with a value that is refused.
+/// Tells the result of a list with a value whose writing fails.
 fn tell_refused(alloc: Global, out: &mut Line) -> fmt::Result {
     let calls = [
         StreamCall::Begin(1),
@@ -90,20 +89,47 @@ fn tell_refused(alloc: Global, out: &mut Line) -> fmt::Result {
     tell_built(alloc, "", calls.as_slice(), out)
 }
 
+/// Tells what a call of a row about a script, or two of them, answers.
+fn tell_script(alloc: Global, call: &str, script: &str, out: &mut Line) -> fmt::Result {
+    let (one, other) = script.split_once(" / ").unwrap_or((script, ""));
+    if call == "read" {
+        return out.debug(read_calls(alloc, one.as_bytes()));
+    }
+    if let Ok(calls) = read_calls(alloc, one.as_bytes())
+        && let Ok(second) = read_calls(alloc, other.as_bytes())
+    {
+        let (first, second) = (calls.as_slice(), second.as_slice());
+        return match call {
+            "built" => tell_built(alloc, "junk", first, out),
+            "finished" => out.debug(finished_buffer(alloc, b"junk", first)),
+            "alike" => out.debug(finish_alike(alloc, b"junk", first, second)),
+            "pairs" => tell_pairs(alloc, out),
+            _ => tell_refused(alloc, out),
+        };
+    }
+    Ok(())
+}
+
+/// Fails with the rows whose calls answer something else.
+fn check(alloc: Global, table: &str) -> Result<(), Fail> {
+    let mut wrong = Line::new();
+    for line in table.lines() {
+        if let Some((call, rest)) = line.trim().split_once(" | ") {
+            let (script, want) = rest.split_once(" | ").unwrap_or((rest, ""));
+            let mut said = Line::new();
+            let _ = tell_script(alloc, call, script, &mut said);
+            wrong.note(call, script, said.as_str(), want);
+        }
+    }
+    wrong.none_noted()
+}
+
 #[test]
 fn calls_are_read_and_built(rt: HostRuntime) -> Result<(), Fail> {
-    let (alloc, mut wrong) = (rt.alloc(), Line::new());
-    check_read(alloc, &mut wrong);
-    check_built(alloc, &mut wrong);
-    let (mut pairs, mut refused) = (Line::new(), Line::new());
-    let _ = tell_pairs(alloc, &mut pairs);
-    wrong.note(
-        "built",
-        "pairs",
-        pairs.as_str(),
-        "finished [196, 194, 1, 2, 192]",
-    );
-    let _ = tell_refused(alloc, &mut refused);
-    wrong.note("built", "a refused value", refused.as_str(), "OutOfMemory");
-    wrong.none_noted()
+    check(rt.alloc(), BUILT)
+}
+
+#[test]
+fn calls_finish_alike(rt: HostRuntime) -> Result<(), Fail> {
+    check(rt.alloc(), FINISHED)
 }

@@ -62,7 +62,7 @@ impl<'a> Read for Source<'a> {
 
 /// A writer that takes at most `most` bytes in each call and `room` bytes in all, and counts its
 /// calls. It keeps the number of bytes of the largest write. A write that fails, or has no room,
-/// gives `error`, or takes no byte if there is none.
+/// gives `error`, or takes no byte if no error is given.
 #[derive(Drop)]
 pub(crate) struct Sink {
     pub(crate) taken: Vec<u8>,
@@ -115,7 +115,7 @@ pub(crate) fn reader<'a>(bytes: &'a [u8], plan: &Plan) -> Noted<Source<'a>>
     })
 }
 
-/// Returns a writer that has room for the first 1,024 bytes without a request for memory.
+/// Returns a writer that has room for the first 1,024 bytes without an allocation.
 pub(crate) fn writer(alloc: Global, plan: &Plan) -> Result<Noted<Sink>, AllocError>
     ensures { IfOk result (λ sink. sink.failed ≡ false) }
 {

@@ -111,7 +111,7 @@ access_list c0
 /// What rows say.
 #[derive(Drop)]
 struct Told {
-    /// The bytes that they show, one after another.
+    /// The bytes that the rows show, one after another.
     bytes: Vec<u8>,
     /// The lines of the contents.
     lines: String,
@@ -166,14 +166,14 @@ fn add(alloc: Global, told: &mut Told, row: &str) -> Result<bool, AllocError> {
     Ok(number(place) == start && (is_payload || found == Some(header_len(*first))))
 }
 
-/// Returns whether lines are those of what EIP-155 signs, which has a chain and no `r`.
+/// Returns whether lines are the lines of what EIP-155 signs, which has a chain and no `r`.
 fn are_unsigned(lines: &str) -> bool {
     lines.contains("chain_id: ") && !lines.contains("r: 0x")
 }
 
-/// Returns whether these bytes, which rows show, are all bytes of a record with these lines. A whole
-/// empty list has no content, and of the empty trie only the kind is shown. Nor are the last two
-/// strings shown of what EIP-155 signs.
+/// Returns whether these bytes, which rows show, are all bytes of a record with these lines. A
+/// whole empty list has no content, and of the empty trie only the kind is shown. Of the bytes that
+/// EIP-155 signs the last two strings are not shown either.
 fn are_all(shown: &[u8], bytes: &[u8], lines: &str) -> bool {
     match bytes.get(shown.len()..) {
         Some([]) => bytes == shown,
@@ -254,9 +254,9 @@ fn place_and_name(row: &str) -> Option<(&str, &str)> {
     }
 }
 
-/// Notes the names of rows that the program doesn't give to the fault of a string in place of a list
-/// there, or of a list in place of a string. An item of any kind may be either, and a fault in it is
-/// that of the whole item.
+/// Notes the names of rows that aren't the names in the answer, if a list is put in place of a
+/// string there, or a string in place of a list. An item of any kind may be either, and a fault in
+/// it is a fault of the whole item.
 fn note_names(
     alloc: Global,
     kind: Kind,
@@ -281,5 +281,5 @@ fn note_names(
 
 #[test]
 fn rows_have_places_headers_and_payloads(rt: HostRuntime) -> Result<(), Fail> {
-    check_form(rt.alloc(), Form::Bytes, ROWS)
+    check_form(rt.alloc(), Some(Form::Bytes), ROWS)
 }

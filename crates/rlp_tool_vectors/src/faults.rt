@@ -1,7 +1,7 @@
 //! Bytes that aren't a record of the kind.
 //!
-//! Each is a record of which one item was changed by a Python script. The expected fault is that of
-//! the changed item.
+//! A Python script changed one item of each record. The expected fault is the fault of the changed
+//! item.
 
 use crate::support::check;
 use rlp_show::Kind;
@@ -52,8 +52,8 @@ block SHANGHAI: transactions.0 = b8b403f8b1010780843b9aca00830f4240808080<ACCESS
 block SHANGHAI: withdrawals.0 = d98001955df9b87991262f6ba471f09758cde1c0fc1de7340005 \
     | error field 3 (withdrawals[0].address): RlpIsTooBig";
 
-/// Messages with transactions of type 3 that have their blobs, and with a transaction of a type that
-/// isn't known.
+/// Messages with transactions of type 3 that have their blobs, and with a transaction of an unknown
+/// type.
 const POOLED_FAULTS: &str = "\
 pooled_transactions f85201f84fb84d03f84af843018002030494<35*20>0780c008e1a0010657f37554c781402a2291\
     7dee2f75def7ab966d7b770905398eba3c444014800102c28080c0c0 \
@@ -126,17 +126,14 @@ fn headers_have_the_fields_of_forks(rt: HostRuntime) -> Result<(), Fail> {
     check(rt.alloc(), NO_FORKS)
 }
 
-/// Returns whether these names are those of kinds.
-fn names_are_known() -> bool {
-    matches!(Kind::named("header"), Some(Kind::Header))
-        && matches!(Kind::named("transaction"), Some(Kind::Transaction))
-        && matches!(Kind::named("block"), Some(Kind::Block))
-        && matches!(Kind::named("node"), Some(Kind::Node))
-        && matches!(Kind::named("record"), Some(Kind::NodeRecord))
-}
-
 #[test]
 fn kinds_have_names(rt: HostRuntime) {
-    assert!(rt; names_are_known());
+    assert!(rt;
+        matches!(Kind::named("header"), Some(Kind::Header))
+            && matches!(Kind::named("transaction"), Some(Kind::Transaction))
+            && matches!(Kind::named("block"), Some(Kind::Block))
+            && matches!(Kind::named("node"), Some(Kind::Node))
+            && matches!(Kind::named("record"), Some(Kind::NodeRecord))
+    );
     assert!(rt; Kind::named("Header").is_none() && Kind::named("").is_none());
 }

@@ -3,13 +3,9 @@
 #![tactic(auto)]
 
 #[cfg(test)]
-mod alike;
-#[cfg(test)]
 mod blocks;
 #[cfg(test)]
 mod building;
-#[cfg(test)]
-mod chain;
 #[cfg(test)]
 mod devices;
 #[cfg(test)]
@@ -33,13 +29,9 @@ mod named;
 #[cfg(test)]
 mod never;
 #[cfg(test)]
-mod node_records;
-#[cfg(test)]
 mod nodes;
 #[cfg(test)]
 mod noted;
-#[cfg(test)]
-mod parts;
 #[cfg(test)]
 mod records;
 #[cfg(test)]

@@ -175,7 +175,7 @@ fn ran_over(alloc: Global, pieces: &str, most: usize) -> Result<Left, AllocError
     ran(alloc, input.as_bytes(), &Plan { most, ..SOUND })
 }
 
-/// Returns whether a run over pieces wrote the text of others.
+/// Returns whether a run over the pieces of `input` wrote the text of the pieces of `want`.
 fn answers(alloc: Global, input: &str, want: &str) -> Result<bool, AllocError> {
     let want = text_of(alloc, want)?;
     let left = ran_over(alloc, input, usize::MAX)?;

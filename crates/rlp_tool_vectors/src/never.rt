@@ -1,7 +1,7 @@
-//! A line with a fault of syntax, behind calls that lack memory.
+//! A line with a fault of syntax, after calls for which memory is refused.
 //!
-//! `tools/refusals/run` refuses every request after a signal. The signal is a request for `SIGNAL`
-//! bytes.
+//! `tools/refusals/run` refuses every allocation after a signal. The signal is an allocation of
+//! `SIGNAL` bytes.
 
 use crate::devices::{SOUND, writer};
 use rlp_tool::{Noted, run};
@@ -10,17 +10,17 @@ use std::io;
 use std::io::Read;
 use std::test::Fail;
 
-/// The number of bytes that is requested as the signal. The result of the request makes no
+/// The number of bytes that is requested as the signal. The result of the allocation makes no
 /// difference.
 const SIGNAL: usize = 77_777;
 
-/// A line that takes the memory of a run, and one that is answered after the signal.
+/// A line for which a run allocates, and a line that is answered after the signal.
 const LINES: [&[u8]; 2] = [
     b"+d:6161616161616161616161616161616161616161\n",
     b"+d:6161616161 d:626262 x\n",
 ];
 
-/// The answers to both.
+/// The answers to the two lines.
 const ANSWERS: &[u8] = b"out 946161616161616161616161616161616161616161\nerror syntax at 3\n";
 
 /// A reader that gives a line in each call, and the signal before the second.

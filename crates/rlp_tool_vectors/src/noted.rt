@@ -7,7 +7,7 @@ use rlp_tool::{RunFault, exit_status};
 use rlp_vectors::rows::{Line, number};
 use std::alloc::{AllocError, Global};
 use std::fmt::Write as _;
-use std::io::{Read, Write};
+use std::io::{ErrorKind, Read, Write};
 use std::test::Fail;
 use std::{fmt, io};
 
@@ -114,7 +114,7 @@ fn check(alloc: Global, device: &str, rows: &[Row], wrong: &mut Line) {
         let _ = match device {
             "reader" => tell_reads(&plan, calls, &mut said),
             "writer" => tell_writes(alloc, &plan, calls, &mut said),
-            _ => tell_run(alloc, &plan, calls.as_bytes(), &mut said),
+            _ => tell_run(alloc, plan, calls.as_bytes(), &mut said),
         };
         wrong.note(device, given, said.as_str(), want);
     }
@@ -128,67 +128,43 @@ fn noted_hands_each_failure_on_and_calls_once(rt: HostRuntime) -> Result<(), Fai
     wrong.none_noted()
 }
 
-/// The read, the write or the flush that fails, and would succeed the next time, and the input. Then
-/// the outcome, the number of flushes, whether the run ended at the first failure of its reader or
-/// writer, and what is written before. Each line is read by a call of its own.
+/// The read, the write or the flush that fails, and would succeed the next time, and the input.
+/// Then the outcome, the number of flushes, whether the run ended at the first failure of its
+/// reader or writer, and what is written before. Each call moves at most 3 bytes, so each line is
+/// read by a call of its own.
 const RUNS: [Row; 15] = [
+    ("reads 1 1: c0\nc0\nc0\n", "Err(Read) 0 true "),
+    ("reads 2 2: c0\nc0\nc0\n", "Err(Read) 0 true []\n"),
+    ("reads 3 3: c0\nc0\nc0\n", "Err(Read) 0 true []\n[]\n"),
+    ("reads 4 4: c0\nc0\nc0\n", "Err(Read) 0 true []\n[]\n[]\n"),
+    ("writes 1 1: c0\nc0\nc0\n", "Err(Write) 0 true "),
+    ("writes 2 2: c0\nc0\nc0\n", "Err(Write) 0 true []\n"),
+    ("writes 3 3: c0\nc0\nc0\n", "Err(Write) 0 true []\n[]\n"),
+    (": ", "Ok(()) 1 true "),
+    (": c0", "Ok(()) 1 true []\n"),
+    (": c0\n80\n", "Ok(()) 1 true []\n\"0x\"\n"),
     (
-        "most 3, reads 1 1, Interrupted: c0\nc0\nc0\n",
-        "Err(Read) 0 true ",
-    ),
-    (
-        "most 3, reads 2 2, Interrupted: c0\nc0\nc0\n",
-        "Err(Read) 0 true []\n",
-    ),
-    (
-        "most 3, reads 3 3, Interrupted: c0\nc0\nc0\n",
-        "Err(Read) 0 true []\n[]\n",
-    ),
-    (
-        "most 3, reads 4 4, Interrupted: c0\nc0\nc0\n",
-        "Err(Read) 0 true []\n[]\n[]\n",
-    ),
-    (
-        "most 3, writes 1 1, Interrupted: c0\nc0\nc0\n",
-        "Err(Write) 0 true ",
-    ),
-    (
-        "most 3, writes 2 2, Interrupted: c0\nc0\nc0\n",
-        "Err(Write) 0 true []\n",
-    ),
-    (
-        "most 3, writes 3 3, Interrupted: c0\nc0\nc0\n",
-        "Err(Write) 0 true []\n[]\n",
-    ),
-    ("most 3, Interrupted: ", "Ok(()) 1 true "),
-    ("most 3, Interrupted: c0", "Ok(()) 1 true []\n"),
-    (
-        "most 3, Interrupted: c0\n80\n",
-        "Ok(()) 1 true []\n\"0x\"\n",
-    ),
-    (
-        "most 3, Interrupted: +u d:01\n\n0g",
+        ": +u d:01\n\n0g",
         "Ok(()) 1 true open 2 0001\nnull\nerror hex\n",
     ),
-    ("most 3, flushes 1 1, Interrupted: ", "Err(Write) 1 true "),
+    ("flushes 1 1: ", "Err(Write) 1 true "),
+    ("flushes 1 1: c0", "Err(Write) 1 true []\n"),
+    ("flushes 1 1: c0\n80\n", "Err(Write) 1 true []\n\"0x\"\n"),
     (
-        "most 3, flushes 1 1, Interrupted: c0",
-        "Err(Write) 1 true []\n",
-    ),
-    (
-        "most 3, flushes 1 1, Interrupted: c0\n80\n",
-        "Err(Write) 1 true []\n\"0x\"\n",
-    ),
-    (
-        "most 3, flushes 1 1, Interrupted: +u d:01\n\n0g",
+        "flushes 1 1: +u d:01\n\n0g",
         "Err(Write) 1 true open 2 0001\nnull\nerror hex\n",
     ),
 ];
 
 /// Tells how a run ends.
-fn tell_run(alloc: Global, plan: &Plan, input: &[u8], out: &mut Line) -> fmt::Result {
-    let left = ran(alloc, input, plan)?;
-    let (reads, writes) = (plan.reads, plan.writes);
+fn tell_run(alloc: Global, plan: Plan, input: &[u8], out: &mut Line) -> fmt::Result {
+    let (reads, writes, error) = (plan.reads, plan.writes, Some(ErrorKind::Interrupted));
+    let plan = Plan {
+        most: 3,
+        error,
+        ..plan
+    };
+    let left = ran(alloc, input, &plan)?;
     let stops = (reads.0 > reads.1 || left.calls == reads.0)
         && (writes.0 > writes.1 || left.calls == writes.0 && left.writes == writes.0);
     let written = std::str::from_utf8(left.written.as_slice()).unwrap_or("no text");
@@ -202,7 +178,7 @@ fn run_ends_at_a_failure_that_would_pass(rt: HostRuntime) -> Result<(), Fail> {
     wrong.none_noted()
 }
 
-/// Tells the exit status of the program after a run, and that of the run's fault.
+/// Tells the exit status of the program after a run, and the exit status of the fault of the run.
 fn tell_status(outcome: &Result<(), RunFault>, out: &mut Line) {
     let of_fault = match outcome {
         Ok(()) => 0,
@@ -221,7 +197,7 @@ fn statuses() -> Line {
     told
 }
 
-/// The outputs that are right if memory is refused for some line or for none.
+/// The outputs that are right if memory is refused for some line or for no line.
 const WHOLE_ANSWERS: [&[u8]; 4] = [b"", b"[]\n", b"[]\nnull\n", b"[]\nnull\n\"0x80\"\n"];
 
 #[test]

@@ -1,6 +1,6 @@
 //! Calls as values, made in order, and lines. One call or line is refused memory.
 //!
-//! `tools/refusals/run` refuses each request of these tests in turn. A test then returns
+//! `tools/refusals/run` refuses each allocation of these tests in turn. A test then returns
 //! `AllocError`.
 
 use crate::devices::{SOUND, reader, writer};

@@ -8,9 +8,9 @@ use std::io::ErrorKind;
 /// What is given, and what follows.
 pub(crate) type Row = (&'static str, &'static str);
 
-/// Returns the plan that a text tells. `, ` stands between two settings. A setting is an error, or a
-/// name and a number, or two for the first and the last of the calls that fail. With one number, each
-/// call fails from that one on.
+/// Returns the plan of a text. `, ` separates two settings. A setting is an error, or a name with a
+/// number, or a name with two numbers for the first and the last call that fail. With one number,
+/// each call from that number on fails.
 pub(crate) fn plan_of(settings: &str) -> Plan {
     let mut plan = SOUND;
     for setting in settings.split(", ") {
@@ -40,9 +40,9 @@ fn calls_of(numbers: &str) -> Calls {
     (number(first), last)
 }
 
-/// Returns the text of pieces, with `|` between two. A piece is text, which `*` and the number of
-/// times may follow that it is repeated. `#` and digits stand for the digits of that many lists, one
-/// inside another, around these bytes.
+/// Returns the text of pieces, with `|` between two. A piece is text, after which `*` and a number
+/// may say how many times it is repeated. `#` and digits stand for the digits of that many lists,
+/// one inside another, around these bytes.
 pub(crate) fn text_of(alloc: Global, pieces: &str) -> Result<String, AllocError> {
     let mut text = String::new(alloc);
     for piece in pieces.split('|') {

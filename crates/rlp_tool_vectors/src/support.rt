@@ -1,12 +1,14 @@
 //! What the tests of the program that shows records share.
 //!
-//! A table is a text of rows. A row begins with the name of a kind, or `any` if it is guessed, and the
-//! text of a line. The answer stands behind ` | `, or, if an empty line ends it, in the lines below.
-//! `<` and `>` stand around a name of `NAMED`, or around what is repeated, as in `<00*32>`.
+//! A table is a text of rows. A row begins with the name of a kind, or `any` if it is guessed, and
+//! the text of a line. The answer stands behind ` | `, or, if an empty line ends it, in the lines
+//! below. In an answer `; ` stands between two lines, and `* ` behind what each line after it
+//! begins with: `to.* a; b` stands for `to.a` and `to.b`. `<` and `>` stand around a name of
+//! `NAMED`, or around what is repeated, as in `<00*32>`.
 //!
-//! A line may also be a record of `NAMED` with other items, as `header: number = 05; nonce = 80`: the name,
-//! `: `, and changes with `; ` between them. A change is the path of a field or of a number, ` = `, and
-//! what stands there instead: an item, several, or none.
+//! A line may also be a record of `NAMED` with other items, as `header: number = 05; nonce = 80`:
+//! the name, `: `, and changes with `; ` between them. A change is the path of a field or of a
+//! number, ` = `, and what replaces the field or the number: an item, several items, or no item.
 
 use crate::dumped::note_rows;
 use crate::named::NAMED;
@@ -45,7 +47,7 @@ fn places(alloc: Global, record: &str, path: &str) -> Result<Vec<usize>, AllocEr
     Ok(places)
 }
 
-/// Returns the bytes of digits, or none if they aren't digits.
+/// Returns the bytes of digits, or no bytes if they aren't digits.
 fn bytes_of(alloc: Global, digits: &str) -> Result<Vec<u8>, AllocError> {
     let digits = at_length(alloc, digits, NAMED)?;
     match hex::decode(alloc, digits.as_bytes()) {
@@ -74,6 +76,26 @@ pub(crate) fn line_of(alloc: Global, text: &str) -> Result<String, AllocError> {
         Some((record, changes)) => changed(alloc, record, changes),
         None => at_length(alloc, text, NAMED),
     }
+}
+
+/// Appends the lines that a line of an answer stands for.
+fn push_lines(line: &str, lines: &mut String) -> Result<(), AllocError> {
+    let (path, rest) = line.split_once("* ").unwrap_or(("", line));
+    for text in rest.split("; ") {
+        lines.push_str(path)?;
+        lines.push_str(text)?;
+        lines.push('\n')?;
+    }
+    Ok(())
+}
+
+/// Returns the lines that an answer of a row stands for.
+fn wanted(alloc: Global, answer: &str) -> Result<String, AllocError> {
+    let (short, mut lines) = (at_length(alloc, answer, NAMED)?, String::new(alloc));
+    for line in short.lines() {
+        push_lines(line, &mut lines)?;
+    }
+    Ok(lines)
 }
 
 /// Returns what the program answers to a line, or that it fails or tells wrongly whether the line
@@ -146,7 +168,7 @@ fn check_row(
     wrong: &mut Line,
 ) -> Result<(), AllocError> {
     let (name, text) = cut(given);
-    let (line, want) = (line_of(alloc, text)?, at_length(alloc, want, NAMED)?);
+    let (line, want) = (line_of(alloc, text)?, wanted(alloc, want)?);
     let row = Row {
         given,
         kind: Kind::named(name),
@@ -183,8 +205,10 @@ fn check_part(
     Ok(())
 }
 
-/// Fails with what is wrong with the parts of a table.
-fn check_parts(alloc: Global, form: Option<Form>, table: &str) -> Result<(), Fail> {
+/// Fails with the rows that aren't answered as expected in a form. With none, these are the rows
+/// that aren't so answered in text, the records whose rows don't show their bytes, and those that
+/// aren't guessed to be of their kind.
+pub(crate) fn check_form(alloc: Global, form: Option<Form>, table: &str) -> Result<(), Fail> {
     let mut wrong = Line::new();
     for part in table.split("\n\n") {
         check_part(alloc, form, part, &mut wrong)?;
@@ -192,13 +216,7 @@ fn check_parts(alloc: Global, form: Option<Form>, table: &str) -> Result<(), Fai
     wrong.none_noted()
 }
 
-/// Fails with the rows that aren't answered as expected in text, the records whose rows don't show
-/// their bytes, and those that aren't guessed to be of their kind.
+/// Fails with what is wrong with a table in no form.
 pub(crate) fn check(alloc: Global, table: &str) -> Result<(), Fail> {
-    check_parts(alloc, None, table)
-}
-
-/// Fails with the rows that aren't answered as expected in a form.
-pub(crate) fn check_form(alloc: Global, form: Form, table: &str) -> Result<(), Fail> {
-    check_parts(alloc, Some(form), table)
+    check_form(alloc, None, table)
 }

@@ -122,8 +122,9 @@ fn every_call_of_a_device_fails_in_turn(rt: HostRuntime) -> Result<(), Fail> {
 }
 
 /// How the devices behave, and the input in pieces. Then the result of the run, whether the reader
-/// and the writer failed, and what is written. A device that is `cut` fails at the end of the input,
-/// one with a number takes that many bytes in all, and one that is `unflushed` fails at a flush.
+/// and the writer failed, and what is written. A device that is `cut` fails at the end of the
+/// input, a device with a number takes that many bytes in all, and an `unflushed` device fails at a
+/// flush.
 const ROWS: [Row; 12] = [
     ("cut|c0\n80\nc2", "Err(Read) true false []\n\"0x\"\n"),
     ("|c0\n80", "Ok(()) false false []\n\"0x\"\n"),

@@ -1,4 +1,4 @@
-//! Values that are appended, or that are refused.
+//! Values that are appended, or whose writing fails.
 
 ghost use Rattle.std.specs.Prelude.{⊤, []};
 ghost use Rattle.rlp_format.specs.Format.Encoding.{string};
@@ -24,7 +24,7 @@ impl Encodable for Wrapper {
     }
 }
 
-/// An empty string that is refused each time. It counts how often it is written.
+/// An empty string whose writing fails each time. It counts how often it is written.
 #[derive(Drop)]
 pub(crate) struct Counted<'a>(pub(crate) &'a Cell<usize>);
 

@@ -1,4 +1,4 @@
-//! Tests that the Rust crate has too. They keep its names.
+//! Tests that the Rust crate has too, under the same names.
 
 mod lists;
 mod streams;

@@ -9,44 +9,34 @@ use std::fmt::Write;
 
 /// Rows of the fields of lists.
 pub(crate) const ROWS: &str = "
-    Lists for views of both kinds, by `fields` and by `fields_of`.
-    lenient fields, lenient fields_of, strict fields, strict fields_of:
+    lenient fields, lenient fields_of, strict fields, strict fields_of: Lists for views of both
+    kinds, by `fields` and by `fields_of`.
     c0 0 vv | Err(RlpIsTooShort) Err(RlpIsTooShort) Ok(())
     c80583636174c20102 3 vvvvv | Ok(05) Ok(83636174) Ok(c20102) Err(RlpIsTooShort) Err(RlpIsTooShor\
      t) Ok(())
     c3810580 2 vvvv | Ok(8105) Ok(80) Err(RlpIsTooShort) Err(RlpIsTooShort) Ok(())
-
-    Lists for lenient views only.
-    lenient fields, lenient fields_of:
+    lenient fields, lenient fields_of: Lists for lenient views only.
     c5 0 vv | Err(RlpIsTooShort) Err(RlpIsTooShort) Ok(())
     c10102 1 vvv | Ok(01) Err(RlpIsTooShort) Err(RlpIsTooShort) Ok(())
     c3058200 1 vvv | Ok(05) Err(RlpIsTooShort) Err(RlpIsTooShort) Ok(())
     c305b800 1 vvv | Ok(05) Err(RlpDataLenWithZeroPrefix) Err(RlpDataLenWithZeroPrefix) Ok(())
-
-    Views that have no fields.
-    lenient fields, lenient fields_of:
+    lenient fields, lenient fields_of: Views that have no fields.
     none 1 | RlpExpectedToBeList
     05 1 | RlpExpectedToBeList
     83636174 1 | RlpExpectedToBeList
-
-    Strict views that have no fields.
-    strict fields, strict fields_of:
+    strict fields, strict fields_of: Strict views that have no fields.
     none 1 | RlpExpectedToBeList
     05 1 | RlpExpectedToBeList
     c5 1 | RlpIsTooShort
     c10102 1 | RlpIsTooBig
     c3058200 1 | RlpIsTooShort
     c305b800 1 | RlpDataLenWithZeroPrefix
-
-    A list of three numbers, of which some are taken.
-    lenient fields, strict fields:
+    lenient fields, strict fields: A list of three numbers, of which some are taken.
     c3050607 3 | Err(RlpIncorrectListLen)
     c3050607 3 v | Ok(05) Err(RlpIncorrectListLen)
     c3050607 3 vv | Ok(05) Ok(06) Err(RlpIncorrectListLen)
     c3050607 3 vvv | Ok(05) Ok(06) Ok(07) Ok(())
-
-    Numbers that aren't the number of items.
-    lenient fields_of:
+    lenient fields_of: Numbers that aren't the number of items.
     c20506 0 | RlpIncorrectListLen
     c20506 1 | RlpIncorrectListLen
     c20506 3 | RlpIncorrectListLen
@@ -54,35 +44,26 @@ pub(crate) const ROWS: &str = "
     c5 1 | RlpIncorrectListLen
     c10102 2 | RlpIncorrectListLen
     c3058200 2 | RlpIncorrectListLen
-
-    Numbers that aren't the number of items, for strict views.
-    strict fields_of:
+    strict fields_of: Numbers that aren't the number of items, for strict views.
     c20506 1 | RlpIncorrectListLen
     c20506 3 | RlpIncorrectListLen
     c0 18446744073709551615 | RlpIncorrectListLen
-
-    A list of 5, \"cat\", and a list of 1 and 2. Reading a value or a list after its end takes
-    no item.
-    lenient fields_of, strict fields_of:
+    lenient fields_of, strict fields_of: A list of 5, \"cat\", and a list of 1 and 2. Reading a
+    value or a list after its end takes no item.
     c80583636174c20102 3 ntlnl | Ok(5) Ok(\"cat\") Ok([1, 2]) Err(RlpIsTooShort) Err(RlpIsTooShort\
      ) Ok(())
-
-    Lists of 5, an item that is read as a number of one byte, and 7.
-    lenient fields_of, strict fields_of:
+    lenient fields_of, strict fields_of: Lists of 5, an item that is read as a number of one byte,
+    and 7.
     c405810507 3 nnn | Ok(5) Err(RlpInvalidIndirection) Ok(7) Ok(())
     c3050607 3 nnn | Ok(5) Ok(6) Ok(7) Ok(())
     c405c10607 3 nnn | Ok(5) Err(RlpExpectedToBeData) Ok(7) Ok(())
     c605c301810507 3 nnn | Ok(5) Err(RlpExpectedToBeData) Ok(7) Ok(())
-
-    The same lists, whose item is read as a list of such numbers.
-    lenient fields:
+    lenient fields: The same lists, whose item is read as a list of such numbers.
     c405810507 3 nln | Ok(5) Ok([]) Ok(7) Ok(())
     c3050607 3 nln | Ok(5) Ok([]) Ok(7) Ok(())
     c405c10607 3 nln | Ok(5) Ok([6]) Ok(7) Ok(())
     c605c301810507 3 nln | Ok(5) Err(RlpInvalidIndirection) Ok(7) Ok(())
-
-    The same lists, whose item is read so from a strict view.
-    strict fields:
+    strict fields: The same lists, whose item is read so from a strict view.
     c405810507 3 nln | Ok(5) Err(RlpExpectedToBeList) Ok(7) Ok(())
     c3050607 3 nln | Ok(5) Err(RlpExpectedToBeList) Ok(7) Ok(())
     c405c10607 3 nln | Ok(5) Ok([6]) Ok(7) Ok(())

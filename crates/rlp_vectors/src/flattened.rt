@@ -8,8 +8,7 @@ use std::fmt::Write;
 
 /// Rows of trees: bytes and the greatest depth.
 pub(crate) const ROWS: &str = "
-    Bytes and the greatest depth, and the items of their tree.
-    lenient tree:
+    lenient tree: Bytes and the greatest depth, and the items of their tree.
     05 0 | string 0+0+1 in 0;
     80 0 | string 0+1+0 in 0;
     83636174 0 | string 0+1+3 in 0;

@@ -16,14 +16,6 @@ pub(crate) fn takes_items(s: &RlpStream, items: usize) -> bool
     }
 }
 
-/// Begins a list that awaits this number of items, or any.
-pub(crate) fn begin(s: &mut RlpStream, items: Option<usize>) -> Result<bool, AllocError> {
-    match items {
-        Some(items) => s.begin_list(items).and(Ok(true)),
-        None => s.begin_unbounded_list().and(Ok(true)),
-    }
-}
-
 /// Appends raw bytes. Returns `false` if the innermost open list awaits fewer items.
 pub(crate) fn put_raw(s: &mut RlpStream, bytes: &[u8], items: usize) -> Result<bool, AllocError> {
     if !takes_items(s, items) {

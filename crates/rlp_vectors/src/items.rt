@@ -8,8 +8,8 @@ use std::fmt::Write;
 
 /// Rows of items and values.
 pub(crate) const ROWS: &str = "
-    Items are found up to the first that isn't framed. Past them is the fault of what follows.
-    lenient item:
+    lenient item: Items are found up to the first that isn't framed. Past them is the fault of what
+    follows.
     c983636174c20102c103 2 | Ok(c103) Ok(c103) 8
     c10102 0 | Ok(01) Ok(01) 1
     none 0 | Err(RlpExpectedToBeList) RlpExpectedToBeList
@@ -20,9 +20,7 @@ pub(crate) const ROWS: &str = "
     c3058200 1 | Err(RlpIsTooShort) RlpIsTooShort
     c305b800 1 | Err(RlpDataLenWithZeroPrefix) RlpDataLenWithZeroPrefix
     c305b800 2 | Err(RlpDataLenWithZeroPrefix) RlpDataLenWithZeroPrefix
-
-    The framed items are counted.
-    lenient count:
+    lenient count: The framed items are counted.
     c88363617483646f67 | 2 2
     c983636174c20102c103 | 3 3
     c4c2010203 | 2 2
@@ -34,50 +32,37 @@ pub(crate) const ROWS: &str = "
     c5 | 0 0
     none | RlpExpectedToBeList
     05 | RlpExpectedToBeList
-
-    An iterator gives the framed items.
-    lenient iterated:
+    lenient iterated: An iterator gives the framed items.
     c5 | 0 (0, Some(0)); 0 (0, Some(0));
     05 | 0 (0, Some(0)); 0 (0, Some(0));
-
-    A value may be followed by other bytes, and needn't be canonical.
-    lenient payload:
+    lenient payload: A value may be followed by other bytes, and needn't be canonical.
     c88363617483646f67 | 1 8 8363617483646f67 of Ok(c88363617483646f67)
     c3830102 | 1 3 830102 of Ok(c3830102)
     0506 | 0 1 05 of Ok(0506)
     8105 | 1 1 05 of Ok(8105)
-
-    A strict view has items only if it is exactly one list of framed items, and they are strict.
-    strict item:
+    strict item: A strict view has items only if it is exactly one list of framed items, and they
+    are strict.
     c101 0 | Ok(01) Ok(01) 1
     c10102 0 | Err(RlpIsTooBig) RlpIsTooBig
     c10102 1 | Err(RlpIsTooBig) RlpIsTooBig
     c3058200 0 | Err(RlpIsTooShort) RlpIsTooShort
     c305b800 0 | Err(RlpDataLenWithZeroPrefix) RlpDataLenWithZeroPrefix
     c101 1 | Err(RlpIsTooShort) RlpIsTooShort
-
-    So does a strict view count items.
-    strict count:
+    strict count: So does a strict view count items.
     c10102 | RlpIsTooBig
     c3058200 | RlpIsTooShort
     c28105 | 1 1
-
-    An iterator of a strict view gives them.
-    strict iterated:
+    strict iterated: An iterator of a strict view gives them.
     c101 | 1 (1, Some(1)) Ok(01); 0 (0, Some(0)); 0 (0, Some(0));
-
-    Bytes after the value of a strict view are too much.
-    strict payload:
+    strict payload: Bytes after the value of a strict view are too much.
     8105 | 1 1 05 of Ok(8105)
     810500 | Some(RlpIsTooBig) Some(RlpIsTooBig)
-
-    An item stays after the view that it is taken from.
-    lenient taken:
+    lenient taken: An item stays after the view that it is taken from.
     c88363617483646f67 | Ok(83636174)
 ";
 
-/// Tells what a view answers about its items and its value. After the call stand the numbers of the
-/// items that it is asked for.
+/// Tells what a view answers about its items and its value. After the name of the call come the
+/// numbers of the items that it is asked for.
 pub(crate) fn tell_items(view: Rlp<'_>, call: &str, given: &str, out: &mut Line) -> fmt::Result {
     let strict = view.is_strict();
     match call {
@@ -117,32 +102,28 @@ fn text_at<'a>(view: &Rlp<'a>, index: usize) -> Result<&'a str, DecoderError> {
 /// places.
 fn tell_places(view: &Rlp<'_>, strict: bool, numbers: &str, out: &mut Line) -> fmt::Result {
     for index in numbers.split_whitespace() {
-        match view.at_with_offset(number(index)) {
-            Ok((item, place)) => {
-                out.debug(raw(Ok(item), strict))?;
-                out.then(place)?;
-            }
-            Err(fault) => out.debug(fault)?,
-        }
+        tell_place(view, strict, number(index), out)?;
         out.write_str("; ")?;
     }
     Ok(())
 }
 
-/// Tells the item of a number, by `at`, and by `at_with_offset` with its place.
-fn tell_item(view: &Rlp<'_>, strict: bool, index: usize, out: &mut Line) -> fmt::Result {
-    let item = raw(view.at(index), strict);
+/// Tells the item of a number by `at_with_offset`, with its place.
+fn tell_place(view: &Rlp<'_>, strict: bool, index: usize, out: &mut Line) -> fmt::Result {
     match view.at_with_offset(index) {
-        Ok((same, place)) => {
-            out.debug(item)?;
-            out.then(raw(Ok(same), strict))?;
+        Ok((item, place)) => {
+            out.debug(raw(Ok(item), strict))?;
             out.then(place)
         }
-        Err(fault) => {
-            out.debug(item)?;
-            out.then(fault)
-        }
+        Err(fault) => out.debug(fault),
     }
+}
+
+/// Tells the item of a number, by `at`, and by `at_with_offset` with its place.
+fn tell_item(view: &Rlp<'_>, strict: bool, index: usize, out: &mut Line) -> fmt::Result {
+    out.debug(raw(view.at(index), strict))?;
+    out.write_str(" ")?;
+    tell_place(view, strict, index, out)
 }
 
 /// Tells the number of items, and how many an iterator gives.

@@ -39,8 +39,8 @@ fn gives_ones(alloc: Global, view: &Rlp<'_>, len: usize) -> bool {
     }
 }
 
-/// Returns lists, one inside another. If they have siblings, each but the outermost stands between
-/// the empty string and the empty list. The bytes are written from the end.
+/// Returns lists, one inside another. If the lists have siblings, each list but the outermost is
+/// between the empty string and the empty list. The bytes are written from the end.
 pub(crate) fn nested(alloc: Global, levels: usize, siblings: bool) -> Result<Vec<u8>, AllocError> {
     let mut backwards = Vec::from_slice(alloc, &[0xc0])?;
     for _ in 1..levels {
@@ -101,18 +101,13 @@ const ONES: [(&str, &str); 2] = [
     ("fa0f4240+01*1000000", "1000000"),
 ];
 
-/// Notes the lists that are read or printed otherwise.
+/// Notes the lists for which another number is read or another text is printed.
 fn check_ones(alloc: Global, wrong: &mut Line) -> Result<(), AllocError> {
     for (text, len) in &ONES {
         let (bytes, mut said) = (bytes_of(alloc, text)?, Line::new());
         let place = bytes.len().saturating_sub(1);
-        let _ = tell_ones(
-            alloc,
-            &Rlp::new(bytes.as_slice()),
-            number(len),
-            place,
-            &mut said,
-        );
+        let view = Rlp::new(bytes.as_slice());
+        let _ = tell_ones(alloc, &view, number(len), place, &mut said);
         wrong.note("list", text, said.as_str(), "true Ok(true) true Ok(true)");
     }
     Ok(())

@@ -1,7 +1,6 @@
 //! Calls each law of `rlp::laws` once, to show that it can be called. What a law says is proved.
 
-use rlp::{Rlp, Uint, laws};
-use std::alloc::Global;
+use rlp::{DecoderError, Rlp, Uint, laws};
 
 /// The encoding of the list of 1 and 2.
 const LIST: [u8; 3] = [0xc2, 0x01, 0x02];
@@ -83,27 +82,13 @@ fn laws_of_streams() {
     laws::finished_buffers_tell_items(&LIST, &LIST);
 }
 
-/// Returns whether the first of two items is split off.
-fn item_is_split_off() -> bool {
-    match laws::joined_items_are_split_off(&LIST[1..]) {
-        Ok((item, rest)) => item.as_raw() == [0x01].as_slice() && rest == [0x02].as_slice(),
-        Err(_) => false,
-    }
-}
-
-/// Returns whether a list of numbers is read.
-fn list_is_read(alloc: Global) -> bool {
-    match laws::list_is_decoded::<u64>(alloc, &LIST) {
-        Ok(list) => list.as_slice() == [1, 2].as_slice(),
-        Err(_) => false,
-    }
-}
-
 #[test]
-fn laws_that_read(rt: HostRuntime) {
-    let number = laws::encoding_is_decoded::<u64>(rt.alloc(), &LIST[1..]);
-    let scalar = laws::scalar_is_decoded::<u64>(rt.alloc(), &LIST[1..]);
-    let are_read = number == Ok(1) && scalar == Ok(1);
-    let lists = item_is_split_off() && list_is_read(rt.alloc());
-    assert!(rt; are_read && lists);
+fn laws_that_read(rt: HostRuntime) -> Result<(), DecoderError> {
+    let alloc = rt.alloc();
+    let (item, rest) = laws::joined_items_are_split_off(&LIST[1..])?;
+    assert!(rt; item.as_raw() == [0x01].as_slice() && rest == [0x02].as_slice());
+    assert!(rt; laws::list_is_decoded::<u64>(alloc, &LIST)?.as_slice() == [1, 2].as_slice());
+    assert!(rt; laws::encoding_is_decoded::<u64>(alloc, &LIST[1..])? == 1);
+    assert!(rt; laws::scalar_is_decoded::<u64>(alloc, &LIST[1..])? == 1);
+    Ok(())
 }

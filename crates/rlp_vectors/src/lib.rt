@@ -1,6 +1,6 @@
-//! Tests of `rlp`: of values that are written and read, of streams, of headers and views, of all inputs
-//! of two bytes and of large ones, without memory too, and calls of each law. Besides tests, the crate
-//! has [`rows`], which reads the rows of tests.
+//! Tests of `rlp`: of values that are written and read, of streams, of headers and views, of all
+//! inputs of two bytes and of large inputs, also with all memory refused, and calls of each law.
+//! Besides tests, the crate has [`rows`], which reads the rows of tests.
 #![tactic(auto)]
 
 #[cfg(test)]

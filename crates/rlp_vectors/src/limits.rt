@@ -1,9 +1,8 @@
 //! Raw bytes that are appended within a limit, for limits below and above the resulting closed
 //! size.
 
-use crate::guarded::{begin, is_as, put_raw, put_raw_within};
 use crate::rows::{cut, number};
-use bytes::BytesMut;
+use crate::script::is_met;
 use rlp_write::RlpStream;
 use std::alloc::{AllocError, Global};
 use std::test::Fail;
@@ -44,6 +43,17 @@ const ROWS: &str = "\
 100 65237 1 65538
 100 65238 1 65540";
 
+/// How the outer lists are begun, and the innermost, and what that awaits behind the bytes that are
+/// appended: any number of items, more items, or no more.
+const LISTS: [[&str; 3]; 3] = [
+    ["unbounded", "unbounded", "any"],
+    ["begin 3", "begin 3", "1"],
+    ["begin 1", "begin 2", "done"],
+];
+
+/// Bytes that are handed in: none, and `what was handed in`; and their numbers.
+const FRONTS: [(&str, usize); 2] = [("'", 0), ("776861742077617320+'handed+20+'in", 18)];
+
 /// Returns the four numbers of a row.
 fn numbers_of(row: &str) -> (usize, usize, usize, usize) {
     let (lists, more) = cut(row);
@@ -52,74 +62,39 @@ fn numbers_of(row: &str) -> (usize, usize, usize, usize) {
     (number(lists), number(held), number(added), number(size))
 }
 
-/// Returns how many items the outer lists await, and the innermost: any number (`any`), more items
-/// than are appended (`more`), or exactly these (`these`).
-fn awaits(awaited: &str) -> (Option<usize>, Option<usize>) {
-    match awaited {
-        "any" => (None, None),
-        "more" => (Some(3), Some(3)),
-        _ => (Some(1), Some(2)),
-    }
-}
-
-/// Opens lists, and appends the bytes in the innermost as one item. If the lists await exactly the
-/// items that are appended, the last of them closes each list.
-fn open(s: &mut RlpStream, lists: usize, awaited: &str, bytes: &[u8]) -> Result<bool, AllocError> {
-    let (outer, innermost) = awaits(awaited);
-    for _ in 1..lists {
-        begin(s, outer)?;
-    }
-    if lists > 0 {
-        begin(s, innermost)?;
-    }
-    put_raw(s, bytes, 1)
-}
-
-/// Returns whether the bytes of a row are appended if and only if the resulting closed size is
-/// within the limit, and else leave the stream as it was. The lists are opened by `open`. All bytes
-/// are taken from `zeros`.
-fn is_answered(
+/// Returns a script for a row, with how its lists are begun: its bytes are appended if and only if
+/// the resulting closed size is within the limit. An open list holds a byte 00 in the place of its
+/// header.
+fn script_of(
     alloc: Global,
-    front: &[u8],
-    zeros: &[u8],
     row: &str,
-    awaited: &str,
+    begun: [&str; 3],
+    front: (&str, usize),
     limit: usize,
-) -> Result<bool, AllocError> {
+) -> Result<String, AllocError> {
     let (lists, held, added, size) = numbers_of(row);
-    let mut buffer = BytesMut::new(alloc);
-    buffer.extend_from_slice(front)?;
-    let mut s = RlpStream::new_with_buffer(alloc, buffer);
-    let opened = open(&mut s, lists, awaited, zeros.get(..held).unwrap_or(&[]))?;
-    let raw = Vec::from_slice(alloc, s.as_raw())?;
-    let (len, items, any) = (s.len(), s.items_awaited(), s.can_finalize());
-    if !put_raw_within(&mut s, zeros.get(..added).unwrap_or(&[]), 1, limit)? {
-        return Ok(opened && limit < size && is_as(&s, raw.as_slice(), len, items, any));
+    let ([outer, innermost, left], (front, len)) = (begun, front);
+    let (before, last) = (lists.saturating_sub(1), usize::from(lists > 0));
+    let open = format!(in alloc;
+        "over {front}; {before} times {outer}; {last} times {innermost}; raw 1 00*{held}"
+    )?;
+    let zeros = lists.saturating_add(held).saturating_add(added);
+    let within = limit >= size;
+    if lists > 0 && !within {
+        return format!(in alloc; "{open}; !within {limit} 00*{added} = open");
     }
-    let written = if s.is_finished() {
-        front.len().saturating_add(size)
-    } else {
-        raw.len().saturating_add(added)
-    };
-    let left = if awaited == "more" && lists > 0 {
-        Some(1)
-    } else {
-        None
-    };
-    Ok(
-        opened
-            && limit >= size
-            && s.as_raw().starts_with(front)
-            && s.as_raw().len() == written
-            && s.len() == size
-            && s.items_awaited() == left,
-    )
+    if lists > 0 && left != "done" {
+        let is = format!(in alloc; "is {size} {left} {front}+00*{zeros} = open")?;
+        return format!(in alloc; "{open}; within {limit} 00*{added}; {is}");
+    }
+    let (sign, size) = if within { ("", size) } else { ("!", held) };
+    let len = len.saturating_add(size);
+    format!(in alloc; "{open}; {sign}within {limit} 00*{added}; size {size} = {len} begins {front}")
 }
 
-/// Fails with the first row that is wrong with one of these limits: 0, around the size, around the
-/// size with nine bytes for each header, or the greatest `usize`.
-fn all_answered(alloc: Global, front: &[u8], awaited: &str) -> Result<(), Fail> {
-    let zeros = vec![in alloc; 0u8; 65_536]?;
+/// Fails with the first script that isn't met, for one of these limits: 0, around the size, around
+/// the size with nine bytes for each header, or the greatest `usize`.
+fn all_answered(alloc: Global, begun: [&str; 3], front: (&str, usize)) -> Result<(), Fail> {
     for row in ROWS.lines() {
         let (lists, held, added, size) = numbers_of(row);
         let most = lists
@@ -129,8 +104,9 @@ fn all_answered(alloc: Global, front: &[u8], awaited: &str) -> Result<(), Fail> 
         let (below, above) = (size.saturating_sub(1), size.saturating_add(1));
         let almost = most.saturating_sub(1);
         for limit in [0, below, size, above, almost, most, usize::MAX] {
-            if !is_answered(alloc, front, zeros.as_slice(), row, awaited, limit)? {
-                return Err(Fail::new(row));
+            let script = script_of(alloc, row, begun, front, limit)?;
+            if !is_met(alloc, RlpStream::new(alloc)?, script.as_str())? {
+                return Err(Fail::new(script.as_str()));
             }
         }
     }
@@ -139,9 +115,9 @@ fn all_answered(alloc: Global, front: &[u8], awaited: &str) -> Result<(), Fail> 
 
 #[test]
 fn limits(rt: HostRuntime) -> Result<(), Fail> {
-    for awaited in ["any", "more", "these"] {
-        for front in [b"".as_slice(), b"what was handed in".as_slice()] {
-            all_answered(rt.alloc(), front, awaited)?;
+    for begun in LISTS {
+        for front in FRONTS {
+            all_answered(rt.alloc(), begun, front)?;
         }
     }
     Ok(())

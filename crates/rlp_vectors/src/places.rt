@@ -12,7 +12,7 @@ use std::test::Fail;
 /// spelling, a number that begins with a zero, a note that is a list, weights that are a string,
 /// parcels of two items and of five, a string in the place of a parcel, a second item after the
 /// list, and no list. A pair whose second number has a longer spelling. Messages with a number of
-/// two bytes, of a kind that isn't known, with a list as their content, and of one item. And an even
+/// two bytes, of an unknown kind, with a list as their content, and of one item. And an even
 /// number.
 ///
 /// A row is a type, bytes, and behind ` = ` the path and the fault.
@@ -45,7 +45,7 @@ fn tell_place<T: DecodePlaced>(alloc: Global, bytes: &[u8], out: &mut Line) -> f
     }
 }
 
-/// Tells it of a value of this type.
+/// Tells where and why a value of this type can't be read.
 fn tell(alloc: Global, name: &str, bytes: &[u8], out: &mut Line) -> fmt::Result {
     match name {
         "message" => tell_place::<Message>(alloc, bytes, out),

@@ -1,11 +1,11 @@
 //! Raw items. The expected bytes were worked out by hand.
 
-use crate::compare::{is_again, is_read, put};
+use crate::compare::{is_again, is_read};
 use crate::guarded::finishes_as;
 use crate::large::nested;
 use crate::rows::bytes_of;
 use bytes::BytesMut;
-use rlp::{DecoderError, RawItem, Rlp, RlpStream};
+use rlp::{RawItem, Rlp, RlpStream};
 use std::alloc::{AllocError, Global};
 use std::test::Fail;
 
@@ -27,32 +27,23 @@ c28105 = Custom(\"item is not canonical\")
 c181 = Custom(\"item is not canonical\")
 c2c181 = Custom(\"item is not canonical\")";
 
-/// Returns whether a raw item of these bytes shows them.
-fn is_shown(alloc: Global, bytes: &[u8]) -> bool {
-    match RawItem::new(alloc, bytes) {
-        Ok(item) => item.as_bytes() == bytes && item.rlp().as_raw() == bytes,
-        Err(_) => false,
-    }
-}
-
-/// Returns whether an item is read from bytes, and from a longer input but not strictly. It is written as
-/// the bytes.
-fn goes_both_ways(alloc: Global, bytes: &[u8], longer: &[u8]) -> bool {
-    is_shown(alloc, bytes)
-        && is_again(alloc, rlp::decode_strict::<RawItem>(alloc, bytes), bytes)
-        && is_again(alloc, rlp::decode::<RawItem>(alloc, longer), bytes)
-        && is_read(
-            alloc,
-            rlp::decode_strict::<RawItem>(alloc, longer),
-            "RlpIsTooBig",
-        )
-}
-
-/// Returns these bytes and one more.
-fn with_one_more(alloc: Global, bytes: &[u8]) -> Result<Vec<u8>, AllocError> {
+/// Returns whether an item of these bytes shows them, and is read from them, and from a longer
+/// input but not strictly. It is written as the bytes.
+fn goes_both_ways(alloc: Global, bytes: &[u8]) -> Result<bool, AllocError> {
     let mut longer = Vec::from_slice(alloc, bytes)?;
     longer.push(0xff)?;
-    Ok(longer)
+    let longer = longer.as_slice();
+    let is_shown = match RawItem::new(alloc, bytes) {
+        Ok(item) => item.as_bytes() == bytes && item.rlp().as_raw() == bytes,
+        Err(_) => false,
+    };
+    let too_long = rlp::decode_strict::<RawItem>(alloc, longer);
+    Ok(
+        is_shown
+            && is_again(alloc, rlp::decode_strict::<RawItem>(alloc, bytes), bytes)?
+            && is_again(alloc, rlp::decode::<RawItem>(alloc, longer), bytes)?
+            && is_read(alloc, too_long, "RlpIsTooBig")?,
+    )
 }
 
 /// Fails with the first row that isn't met.
@@ -60,15 +51,11 @@ fn all_met(alloc: Global) -> Result<(), Fail> {
     for row in ROWS.lines() {
         let (text, fault) = row.split_once(" = ").unwrap_or((row, ""));
         let bytes = bytes_of(alloc, text)?;
-        let longer = with_one_more(alloc, bytes.as_slice())?;
         let is_met = if fault.is_empty() {
-            goes_both_ways(alloc, bytes.as_slice(), longer.as_slice())
+            goes_both_ways(alloc, bytes.as_slice())?
         } else {
-            is_read(
-                alloc,
-                rlp::decode::<RawItem>(alloc, bytes.as_slice()),
-                fault,
-            )
+            let read = rlp::decode::<RawItem>(alloc, bytes.as_slice());
+            is_read(alloc, read, fault)?
         };
         if !is_met {
             return Err(Fail::new(row));
@@ -80,36 +67,20 @@ fn all_met(alloc: Global) -> Result<(), Fail> {
 /// Returns whether raw items nest to a depth of 256, and no deeper.
 fn nest_to_256(alloc: Global) -> Result<bool, AllocError> {
     let (deep, deeper) = (nested(alloc, 256, false)?, nested(alloc, 257, false)?);
-    let longer = with_one_more(alloc, deep.as_slice())?;
     let read = rlp::decode::<RawItem>(alloc, deeper.as_slice());
     Ok(
-        goes_both_ways(alloc, deep.as_slice(), longer.as_slice())
-            && is_read(alloc, read, "Custom(\"item nests too deep\")"),
+        goes_both_ways(alloc, deep.as_slice())?
+            && is_read(alloc, read, "Custom(\"item nests too deep\")")?,
     )
 }
 
 /// Appends raw items to a stream. Returns whether they are items of its lists.
-fn are_items(alloc: Global, mut s: RlpStream) -> Result<bool, DecoderError> {
+fn are_items(alloc: Global, mut s: RlpStream) -> Result<bool, Fail> {
     let cat = RawItem::new(alloc, b"\x83cat")?;
     let none = RawItem::new(alloc, b"\xc0")?;
-    let appended = append(&mut s, &cat, &none).is_ok();
-    Ok(appended && finishes_as(s, b"\xca\x83cat\xc0\xc4\x83cat"))
-}
-
-/// Appends a list of two items, and of a list of the first.
-fn append(s: &mut RlpStream, first: &RawItem, second: &RawItem) -> Result<(), AllocError> {
-    s.begin_list(3)?;
-    put(s, first)?;
-    put(s, second)?;
-    s.begin_list(1)?;
-    put(s, first)
-}
-
-/// Returns whether raw items are items of a new stream, and of one over a buffer.
-fn are_items_of_both(alloc: Global) -> Result<bool, AllocError> {
-    let narrow = RlpStream::new_with_buffer(alloc, BytesMut::new(alloc));
-    let roomy = RlpStream::new(alloc)?;
-    Ok(are_items(alloc, roomy) == Ok(true) && are_items(alloc, narrow) == Ok(true))
+    s.begin_list(3)?.append(&cat)?.append(&none)?;
+    s.begin_list(1)?.append(&cat)?;
+    Ok(finishes_as(s, b"\xca\x83cat\xc0\xc4\x83cat"))
 }
 
 #[test]
@@ -117,7 +88,13 @@ fn raw_items_go_both_ways(rt: HostRuntime) -> Result<(), Fail> {
     let alloc = rt.alloc();
     all_met(alloc)?;
     assert!(rt; nest_to_256(alloc)?);
-    assert!(rt; are_items_of_both(alloc)?);
+    assert!(rt; are_items(alloc, RlpStream::new(alloc)?)?);
+    assert!(rt;
+        are_items(
+            alloc,
+            RlpStream::new_with_buffer(alloc, BytesMut::new(alloc))
+        )?
+    );
     assert!(rt; Rlp::new(b"\xca\x83cat\xc0\xc4\x83cat").is_canonical(2));
     Ok(())
 }

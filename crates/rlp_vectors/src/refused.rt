@@ -1,17 +1,17 @@
 //! New streams and encoded values, one of which is refused memory.
 //!
-//! `tools/refusals/run` refuses each request of these tests in turn. A test returns `AllocError` if
-//! nothing else was lost.
+//! `tools/refusals/run` refuses each allocation of these tests in turn. A test returns `AllocError`
+//! if nothing else was lost.
 
 mod streams;
 
+use crate::compare::{is_listed, is_written};
 use bytes::BytesMut;
-use rlp::{Encodable, RlpStream, Uint};
+use rlp::{RlpStream, Uint};
 use rlp_examples::Pair;
 use std::alloc::{AllocError, Global};
 
-/// Returns whether the given buffer is the front of a new list, or is returned if the call is
-/// refused.
+/// Returns whether the given buffer is the front of a new list, or is returned if the call fails.
 fn buffer_comes_back(alloc: Global) -> Result<bool, AllocError> {
     let mut junk = BytesMut::new(alloc);
     junk.extend_from_slice(b"junk")?;
@@ -30,23 +30,13 @@ fn streams_are_new(alloc: Global) -> Result<bool, AllocError> {
     )
 }
 
-/// Returns whether a value is encoded as these bytes, by both functions for it.
-fn is_encoded<E: Encodable>(alloc: Global, value: &E, want: &[u8]) -> Result<bool, AllocError> {
-    Ok(rlp::encode(alloc, value)?.as_slice() == want && value.rlp_bytes(alloc)?.as_slice() == want)
-}
-
-/// Returns whether a list of values is encoded as these bytes.
-fn is_listed<E: Encodable>(alloc: Global, values: &[E], want: &[u8]) -> Result<bool, AllocError> {
-    Ok(rlp::encode_list(alloc, values)?.as_slice() == want)
-}
-
 #[test]
 fn what_is_made(rt: HostRuntime) -> Result<(), AllocError> {
     let alloc = rt.alloc();
     let pairs = [Pair(1, 2), Pair(3, 4)];
     assert!(rt; buffer_comes_back(alloc)?);
     assert!(rt; streams_are_new(alloc)?);
-    assert!(rt; is_encoded(alloc, &"Lorem ipsum", b"\x8bLorem ipsum")?);
+    assert!(rt; is_written(alloc, &"Lorem ipsum", b"\x8bLorem ipsum")?);
     assert!(rt; is_listed(alloc, &pairs, b"\xc6\xc2\x01\x02\xc2\x03\x04")?);
     Ok(())
 }
@@ -57,7 +47,7 @@ fn numbers_are_listed(alloc: Global) -> Result<bool, AllocError> {
     Ok(rlp::encode_list(alloc, numbers.as_slice())?.len() == 4_503)
 }
 
-// Strings, each of one request, and an option.
+// Strings, each of one allocation, and an option.
 #[test]
 fn what_is_encoded(rt: HostRuntime) -> Result<(), AllocError> {
     let alloc = rt.alloc();

@@ -1,125 +1,45 @@
 //! Values that are read, one of which is refused memory.
 //!
-//! `tools/refusals/run` refuses each request of these tests in turn. A test returns `OutOfMemory`
-//! if nothing else was lost.
+//! `tools/refusals/run` refuses each allocation of these tests in turn. A test returns
+//! `OutOfMemory` if nothing else was lost.
 
-use bytes::{Bytes, BytesMut};
-use rlp::{Decodable, DecoderError, Rlp};
-use std::alloc::Global;
+use crate::rows::Line;
+use crate::tables::check;
+use rlp::DecoderError;
 
-/// Returns the value of a view. If memory is refused, reads it again and sets `refused`.
-fn read_again<T: Decodable>(
-    alloc: Global,
-    bytes: &[u8],
-    refused: &mut bool,
-) -> Result<T, DecoderError> {
-    let view = Rlp::new(bytes);
-    let first = view.as_val::<T>(alloc);
-    if let Err(DecoderError::OutOfMemory) = &first {
-        *refused = true;
-        return view.as_val::<T>(alloc);
-    }
-    first
-}
+/// Rows of values and lists that take memory. Most have a byte after them.
+const ROWS: &str = "
+    lenient value String:
+    8363617400 | Ok(\"cat\")
+    lenient value Vec:
+    8363617400 | Ok([99, 97, 116])
+    lenient value Bytes, lenient value BytesMut:
+    8363617400 | Ok(b\"cat\")
+    lenient value Box u8:
+    05 | Ok(5)
+    lenient value Option String: A list of a text.
+    c48363617400 | Ok(Some(\"cat\"))
+    lenient list u64: A list of two numbers.
+    c2010200 | Ok([1, 2])
+    lenient list_at String: A list of a list of two texts.
+    c9c88363617483646f6700 0 | Ok([\"cat\", \"dog\"])
+";
 
-/// A call that reads a list.
-enum ListCall {
-    AsList,
-    DecodeList,
-    FirstAsList,
-}
-
-/// Returns the values of a list.
-fn list<T: Decodable>(
-    alloc: Global,
-    bytes: &[u8],
-    call: &ListCall,
-) -> Result<Vec<T>, DecoderError> {
-    match call {
-        ListCall::AsList => Rlp::new(bytes).as_list::<T>(alloc),
-        ListCall::DecodeList => rlp::decode_list::<T>(alloc, bytes),
-        ListCall::FirstAsList => Rlp::new(bytes).list_at::<T>(alloc, 0),
-    }
-}
-
-/// Returns the values of a list. If memory is refused, reads them again and sets `refused`.
-fn list_again<T: Decodable>(
-    alloc: Global,
-    bytes: &[u8],
-    call: &ListCall,
-    refused: &mut bool,
-) -> Result<Vec<T>, DecoderError> {
-    let first = list::<T>(alloc, bytes, call);
-    if let Err(DecoderError::OutOfMemory) = &first {
-        *refused = true;
-        return list::<T>(alloc, bytes, call);
-    }
-    first
-}
-
-/// A string, a list of it, and a list of a list of two texts, each with bytes after it.
-const TEXT: &[u8] = b"\x83cat\x00";
-
-const LISTED_TEXT: &[u8] = b"\xc4\x83cat\x00";
-
-const TEXTS: &[u8] = b"\xc9\xc8\x83cat\x83dog\x00";
-
-/// A list of two numbers, with a byte after it.
-const NUMBERS: &[u8] = &[0xc2, 0x01, 0x02, 0x00];
-
-fn owned_strings_are_read(alloc: Global, refused: &mut bool) -> bool {
-    let text = read_again::<String>(alloc, TEXT, refused);
-    let vector = read_again::<Vec<u8>>(alloc, TEXT, refused);
-    matches!(&text, Ok(text) if text.as_str() == "cat")
-        && matches!(&vector, Ok(vector) if vector.as_slice() == b"cat".as_slice())
-}
-
-fn buffers_are_read(alloc: Global, refused: &mut bool) -> bool {
-    let shared = read_again::<Bytes>(alloc, TEXT, refused);
-    let buffer = read_again::<BytesMut>(alloc, TEXT, refused);
-    matches!(&shared, Ok(shared) if shared.as_slice() == b"cat".as_slice())
-        && matches!(&buffer, Ok(buffer) if buffer.as_slice() == b"cat".as_slice())
-}
-
-fn boxes_and_options_are_read(alloc: Global, refused: &mut bool) -> bool {
-    let boxed = read_again::<Box<u8>>(alloc, &[0x05], refused);
-    let listed = read_again::<Option<String>>(alloc, LISTED_TEXT, refused);
-    matches!(&boxed, Ok(boxed) if **boxed == 5)
-        && matches!(&listed, Ok(Some(listed)) if listed.as_str() == "cat")
-}
-
-fn numbers_are_read(alloc: Global, call: &ListCall, refused: &mut bool) -> bool {
-    let numbers = list_again::<u64>(alloc, NUMBERS, call, refused);
-    matches!(&numbers, Ok(numbers) if numbers.as_slice() == [1, 2].as_slice())
-}
-
-fn texts_are_read(alloc: Global, refused: &mut bool) -> bool {
-    match list_again::<String>(alloc, TEXTS, &ListCall::FirstAsList, refused) {
-        Ok(texts) => match texts.as_slice() {
-            [first, second] => first.as_str() == "cat" && second.as_str() == "dog",
-            _ => false,
-        },
-        Err(_) => false,
-    }
-}
-
-/// Returns whether all values are read.
-fn all_are_read(alloc: Global, refused: &mut bool) -> bool {
-    owned_strings_are_read(alloc, refused)
-        && buffers_are_read(alloc, refused)
-        && boxes_and_options_are_read(alloc, refused)
-        && numbers_are_read(alloc, &ListCall::AsList, refused)
-        && numbers_are_read(alloc, &ListCall::DecodeList, refused)
-        && texts_are_read(alloc, refused)
-}
-
+// After a refusal all rows are read again. One answer of the first time is `OutOfMemory`.
 #[test]
 fn values_and_lists_of_a_view(rt: HostRuntime) -> Result<(), DecoderError> {
-    let mut refused = false;
-    let are_read = all_are_read(rt.alloc(), &mut refused);
-    assert!(rt; are_read);
-    if refused {
-        return Err(DecoderError::OutOfMemory);
+    let (mut first, mut again) = (Line::new(), Line::new());
+    check(rt.alloc(), ROWS, &mut first);
+    if first.as_str().is_empty() {
+        return Ok(());
     }
-    Ok(())
+    check(rt.alloc(), ROWS, &mut again);
+    assert!(rt; again.as_str().is_empty(), "{}", again.as_str());
+    let answers = first.as_str().split(", and not ").count();
+    assert!(rt;
+        answers == 2 && first.as_str().contains("OutOfMemory"),
+        "{}",
+        first.as_str()
+    );
+    Err(DecoderError::OutOfMemory)
 }

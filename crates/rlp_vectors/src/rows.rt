@@ -89,7 +89,7 @@ fn push_digits(alloc: Global, part: &str, bytes: &mut Vec<u8>) -> Result<(), All
     Ok(())
 }
 
-/// The number with these digits, or 0 if they aren't those of a `usize`.
+/// The number with these digits, or 0 if they aren't the digits of a `usize`.
 pub fn number(digits: &str) -> usize {
     digits.parse::<usize>().unwrap_or(0)
 }

@@ -1,18 +1,18 @@
 //! Scripts: calls on a stream, as text. `; ` stands between two calls. A call is its name and its
 //! arguments, with spaces between them. Bytes are written as `bytes_of` reads them.
 //!
-//! Behind the calls of a row stands ` = ` and the finished bytes: all of them; or their number,
-//! `begins`, and the first bytes; or `open`, if a list is open then. A row without ` = ` finishes with
-//! no bytes.
+//! After the calls of a row come ` = ` and the finished bytes: all bytes; or the number of bytes,
+//! `begins`, and the first bytes; or `open`, if a list is open at the end. A row without ` = `
+//! finishes with no bytes.
 //!
-//! `!` stands before a call that isn't admitted, and `N times` before one that is made N times.
+//! `!` comes before a call that isn't admitted, and `N times` before a call that is made N times.
 //! `list`, `over` and `list_over` begin a new stream: a list, over bytes, and a list over bytes.
-//! `refused` appends a list of three items that is refused after the first, and `direct` calls the list's
-//! own `rlp_append`. `counted` appends a value that is refused and counts how often it is written.
-//! `chain_lists`, `chain_items` and `chain_raw BYTES` make several calls in one chain.
-//! `raw N BYTES` appends N items, and `within N BYTES` one item within the limit N.
-//! `finalize_up_to N M` closes at most N lists, and M in fact. `is SIZE AWAITED BYTES`, `size SIZE`
-//! and `estimate MORE SIZE` compare the stream.
+//! `refused` appends a list of three items whose writing fails after the first, and `direct` calls
+//! the `rlp_append` of that list. `counted` appends a value whose writing fails, and which counts
+//! how often it is written. `chain_lists`, `chain_items` and `chain_raw BYTES` make several calls
+//! in one chain. `raw N BYTES` appends N items, and `within N BYTES` one item within the limit N.
+//! `finalize_up_to N M` closes at most N lists, and must close M. `is SIZE AWAITED BYTES`,
+//! `size SIZE` and `estimate MORE SIZE` compare the stream.
 
 use crate::appended::{Counted, Wrapper};
 use crate::guarded::{
@@ -44,10 +44,12 @@ fn make(alloc: Global, s: &mut RlpStream, call: &str) -> Result<bool, AllocError
         "size" => Ok(s.len() == number(first) && estimates(s, 0, Some(number(first)))),
         "estimate" => Ok(estimates(s, number(first), second.parse::<usize>().ok())),
         "text" => put(s, "string", arguments.as_bytes(), 0),
-        "raw" | "within" => put_bytes(alloc, s, name, second, number(first)),
+        "raw" | "within" => put(s, name, bytes_of(alloc, second)?.as_slice(), number(first)),
         "chain_lists" => chain_lists(s),
         "chain_items" => chain_items(s),
-        "refused" | "refused_internal" | "refused_list" => Ok(!refuse(s, name)),
+        "refused" | "refused_internal" | "refused_list" => {
+            Ok(!refuse(s, name, &[Trio(1, Refusing, 3)]))
+        }
         "counted" | "counted_internal" | "counted_list" => Ok(!refuse_counted(s, name)),
         "direct" => Ok(Trio(1, Refusing, 3).rlp_append(s).is_err()),
         _ => make_other(alloc, s, name, first, second),
@@ -64,7 +66,7 @@ fn make_other(
 ) -> Result<bool, AllocError> {
     match name {
         "small" | "smalls" | "string" | "iter" | "undotted" | "encode" | "encode_undotted" => {
-            put_bytes(alloc, s, name, first, 0)
+            put(s, name, bytes_of(alloc, first)?.as_slice(), 0)
         }
         "begin" | "unbounded" | "finalize" | "finalize_up_to" | "clear" => {
             go_on(s, name, number(first), number(second))
@@ -74,7 +76,7 @@ fn make_other(
     }
 }
 
-/// Returns a new stream: a list, one over bytes, or a list over bytes.
+/// Returns a new stream: a list, a stream over bytes, or a list over bytes.
 fn begun(alloc: Global, name: &str, first: &str, second: &str) -> Result<RlpStream, AllocError> {
     match name {
         "list" => RlpStream::new_list(alloc, number(first)),
@@ -146,43 +148,24 @@ fn chain_raw(s: &mut RlpStream, bytes: &[u8]) -> Result<bool, AllocError> {
     Ok(true)
 }
 
-/// Makes a call that appends a list whose second item is refused. Returns whether the call is refused.
-fn refuse(s: &mut RlpStream, name: &str) -> bool {
-    let values = [Trio(1, Refusing, 3)];
+/// Makes a call that appends a value that is refused. Returns whether the call is refused.
+fn refuse<E: Encodable>(s: &mut RlpStream, name: &str, values: &[E; 1]) -> bool {
     match name {
-        "refused" => s.append(&values[0]).is_err(),
-        "refused_internal" => s.append_internal(&values[0]).is_err(),
-        _ => s.append_list(&values).is_err(),
+        "refused" | "counted" => s.append(&values[0]).is_err(),
+        "refused_internal" | "counted_internal" => s.append_internal(&values[0]).is_err(),
+        _ => s.append_list(values).is_err(),
     }
 }
 
-/// Makes a call that appends a refused value. Returns whether it is refused, after the value was
-/// written once.
+/// Makes a call that appends a value whose writing fails. Returns whether the call fails, after the
+/// value was written once.
 fn refuse_counted(s: &mut RlpStream, name: &str) -> bool {
     let calls = Cell::new(0usize);
-    let values = [Counted(&calls)];
-    let refused = match name {
-        "counted" => s.append(&values[0]).is_err(),
-        "counted_internal" => s.append_internal(&values[0]).is_err(),
-        _ => s.append_list(&values).is_err(),
-    };
-    refused && calls.get() == 1
+    refuse(s, name, &[Counted(&calls)]) && calls.get() == 1
 }
 
-/// Makes a call that puts the bytes of a text.
-fn put_bytes(
-    alloc: Global,
-    s: &mut RlpStream,
-    name: &str,
-    text: &str,
-    number: usize,
-) -> Result<bool, AllocError> {
-    let bytes = bytes_of(alloc, text)?;
-    put(s, name, bytes.as_slice(), number)
-}
-
-/// Makes a call that puts bytes. Returns `false` if it isn't admitted. The number is that of the
-/// items of `raw`, or the limit of `within`.
+/// Makes a call that puts bytes. Returns `false` if it isn't admitted. The number is the number of
+/// the items of `raw`, or the limit of `within`.
 fn put(s: &mut RlpStream, name: &str, bytes: &[u8], number: usize) -> Result<bool, AllocError> {
     match name {
         "raw" => put_raw(s, bytes, number),
@@ -244,7 +227,7 @@ fn make_again(
 /// The greatest number of times that a call is repeated with a comparison each time.
 const COMPARED: usize = 100;
 
-/// Makes a call as many times as is said before it.
+/// Makes a call as many times as the text before it says.
 fn repeat(
     alloc: Global,
     s: &mut RlpStream,
@@ -268,7 +251,7 @@ fn repeat(
 
 /// Makes the calls of a row's script. Returns whether all are as wanted, and the finished bytes are.
 /// Returns `AllocError` instead of `true` if a call was refused memory.
-fn is_met(alloc: Global, mut s: RlpStream, row: &str) -> Result<bool, AllocError> {
+pub(crate) fn is_met(alloc: Global, mut s: RlpStream, row: &str) -> Result<bool, AllocError> {
     let (script, want) = halves(row);
     let mut refused = false;
     for call in script.split("; ") {
@@ -307,13 +290,11 @@ fn is_met_twice(alloc: Global, row: &str) -> Result<bool, AllocError> {
     Ok(is_met(alloc, RlpStream::new(alloc)?, row)? && is_met(alloc, narrow, row)?)
 }
 
-/// Fails with the first row of some tables that isn't met. A table has a row on each line.
-pub(crate) fn all_met(alloc: Global, tables: &[&str]) -> Result<(), Fail> {
-    for table in tables {
-        for row in table.lines() {
-            if !is_met_twice(alloc, row)? {
-                return Err(Fail::new(row));
-            }
+/// Fails with the first row of a table that isn't met. A line that begins with `//` is a comment.
+pub(crate) fn all_met(alloc: Global, table: &str) -> Result<(), Fail> {
+    for row in table.lines() {
+        if !row.starts_with("//") && !is_met_twice(alloc, row)? {
+            return Err(Fail::new(row));
         }
     }
     Ok(())

@@ -9,8 +9,7 @@ use std::fmt::Write;
 
 /// Rows of items that are split off.
 pub(crate) const ROWS: &str = "
-    Bytes that consist of items, and bytes that don't begin with one.
-    lenient split:
+    lenient split: Bytes that consist of items, and bytes that don't begin with one.
     none | RlpIsTooShort
     05 | Ok(05) RlpIsTooShort
     c106 | Ok(c106) RlpIsTooShort
@@ -23,9 +22,8 @@ pub(crate) const ROWS: &str = "
     b83800 | RlpIsTooShort b83800
     b80005 | RlpDataLenWithZeroPrefix b80005
     f80005 | RlpListLenWithZeroPrefix f80005
-
-    A strict view is split only if it is one item. If it isn't framed, this fault comes first.
-    strict split:
+    strict split: A strict view is split only if it is one item. If it isn't framed, this fault
+    comes first.
     none | RlpIsTooShort
     c106 | Ok(c106) RlpIsTooShort
     8105 | Ok(8105) RlpIsTooShort
@@ -33,15 +31,11 @@ pub(crate) const ROWS: &str = "
     8363617480 | RlpIsTooBig 8363617480
     c505 | RlpIsTooShort c505
     b80005 | RlpDataLenWithZeroPrefix b80005
-
-    Items that are framed but not canonical, with an empty list after them.
-    lenient first:
+    lenient first: Items that are framed but not canonical, with an empty list after them.
     8105c0 | false Some(RlpInvalidIndirection) c0
     c28105c0 | false Some(RlpInvalidIndirection) c0
     c3058200c0 | false None c0
-
-    The same items alone, as strict views.
-    strict first:
+    strict first: The same items alone, as strict views.
     8105 | false Some(RlpInvalidIndirection)
     c28105 | false Some(RlpInvalidIndirection)
     c3058200 | false Some(RlpIsTooShort)

@@ -8,24 +8,18 @@ use std::fmt::Write;
 
 /// Rows of strict values.
 pub(crate) const ROWS: &str = "
-    Bytes after a text are too much, but a fault of its header comes first.
-    strict value String:
+    strict value String: Bytes after a text are too much, but a fault of its header comes first.
     83636174 | Ok(\"cat\")
     8363617400 | Err(RlpIsTooBig)
     b802616200 | Err(RlpInvalidIndirection)
-
-    Bytes after a number are too much, also after one with a leading zero.
-    strict value u16:
+    strict value u16: Bytes after a number are too much, also after one with a leading zero.
     820100 | Ok(256)
     82000100 | Err(RlpIsTooBig)
     820001 | Err(RlpInvalidIndirection)
-
-    No bytes are too few.
-    strict value u8:
+    strict value u8: No bytes are too few.
     none | Err(RlpIsTooShort)
-
-    A list or an item that isn't framed is too short, and two items are a wrong number.
-    strict value Option u8:
+    strict value Option u8: A list or an item that isn't framed is too short, and two items are a
+    wrong number.
     c105 | Ok(Some(5))
     c0 | Ok(None)
     c5 | Err(RlpIsTooShort)
@@ -34,9 +28,7 @@ pub(crate) const ROWS: &str = "
     c305b800 | Err(RlpDataLenWithZeroPrefix)
     c20506 | Err(RlpIncorrectListLen)
     c3810506 | Err(RlpIncorrectListLen)
-
-    A list is read only if it is exactly one list of framed items.
-    strict list u8:
+    strict list u8: A list is read only if it is exactly one list of framed items.
     c20506 | Ok([5, 6])
     none | Err(RlpExpectedToBeList)
     05 | Err(RlpExpectedToBeList)
@@ -44,25 +36,18 @@ pub(crate) const ROWS: &str = "
     c10102 | Err(RlpIsTooBig)
     c3058200 | Err(RlpIsTooShort)
     c305b800 | Err(RlpDataLenWithZeroPrefix)
-
-    The item of a strict view is read strictly.
-    strict list_at u8:
+    strict list_at u8: The item of a strict view is read strictly.
     c101 0 | Err(RlpExpectedToBeList)
-
-    A number, and one with a byte after it.
-    strict whole:
+    strict whole: A number, and one with a byte after it.
     820100 | Ok(256)
     0506 | Err(RlpIsTooBig)
-
-    A list of numbers.
-    strict whole_list:
+    strict whole_list: A list of numbers.
     c20506 | Ok([5, 6])
 ";
 
 /// Rows of the invalid encodings.
 pub(crate) const INVALID: &str = "
-    Bytes that the public standard lists as invalid encodings.
-    strict invalid:
+    strict invalid: Bytes that the public standard lists as invalid encodings.
     bf0f000000000000021111 | false Some(RlpInconsistentLengthAndData)
     ff0f000000000000021111 | false Some(RlpIsTooShort)
     f80180 | false Some(RlpInvalidIndirection)
@@ -89,8 +74,8 @@ pub(crate) const INVALID: &str = "
     0000 | false Some(RlpIsTooBig)
 ";
 
-/// Tells whether the bytes are canonical, and the fault of reading them strictly: as a list if they
-/// begin as one, else as a string.
+/// Tells whether the bytes are canonical, and the fault of reading them strictly: as a list if the
+/// bytes begin a list, else as a string.
 pub(crate) fn tell_invalid(alloc: Global, bytes: &[u8], out: &mut Line) -> fmt::Result {
     let view = Rlp::new_strict(bytes);
     let fault = if view.is_list() {
@@ -100,14 +85,4 @@ pub(crate) fn tell_invalid(alloc: Global, bytes: &[u8], out: &mut Line) -> fmt::
     };
     out.debug(Rlp::new(bytes).is_canonical(9))?;
     out.then(fault)
-}
-
-/// Tells what is read as a number from bytes that are to be whole.
-pub(crate) fn tell_whole(alloc: Global, bytes: &[u8], out: &mut Line) -> fmt::Result {
-    out.debug(rlp::decode_whole::<u64>(alloc, bytes))
-}
-
-/// Tells what is read as a list of numbers from bytes that are to be whole.
-pub(crate) fn tell_whole_list(alloc: Global, bytes: &[u8], out: &mut Line) -> fmt::Result {
-    out.debug(rlp::decode_list_whole::<u64>(alloc, bytes))
 }

@@ -3,12 +3,12 @@
 use crate::fields::tell_fields;
 use crate::flattened::tell_tree;
 use crate::items::{tell_items, tell_taken};
-use crate::lists::{tell_list, tell_list_at, tell_third, tell_value_at};
+use crate::lists::tell_third;
 use crate::rows::{Hex, Line, bytes_in, cut, number};
 use crate::splitting::{tell_first, tell_split};
-use crate::strict::{tell_invalid, tell_whole, tell_whole_list};
+use crate::strict::tell_invalid;
 use crate::texts::{tell_fault, tell_flagged};
-use crate::values::{tell_first_byte, tell_value};
+use crate::values::{tell_first_byte, tell_read};
 use crate::views::{tell_header, tell_view};
 use crate::{fields, flattened, items, lists, splitting, strict, texts, values, views};
 use rlp::{DecoderError, Rlp};
@@ -17,10 +17,7 @@ use std::fmt;
 use std::fmt::Write;
 use std::test::Fail;
 
-/// The tables whose calls take no memory.
-const WITHOUT_MEMORY: [&str; 2] = [items::ROWS, views::ROWS];
-
-/// The other tables.
+/// The tables whose calls may take memory.
 const WITH_MEMORY: [&str; 9] = [
     fields::ROWS,
     flattened::ROWS,
@@ -33,18 +30,19 @@ const WITH_MEMORY: [&str; 9] = [
     values::OTHERS,
 ];
 
-/// Tries the rows of a table, and notes those that have another answer. A blank line stands between
-/// two parts of a table. The line that ends with a colon has the calls of the rows below it, and the
-/// lines above it are comments. `strict` or `lenient` stands before a call, and a type or what is
-/// asked of a view may stand after it. A row has what a call is given, which begins with bytes as
-/// hexadecimal digits or with `none`, and what it answers.
+/// Tries the rows of a table, and notes those that have another answer. A row has what a call is
+/// given, which begins with bytes as hexadecimal digits or with `none`, ` | `, and what it
+/// answers. A line with a colon has the calls of the rows below it, and a comment. `strict` or
+/// `lenient` stands before a call, and a type or what is asked of a view may stand after it. Other
+/// lines go on with a comment.
 pub(crate) fn check(alloc: Global, table: &str, wrong: &mut Line) {
-    for part in table.split("\n\n") {
-        let (head, rows) = part.split_once(":\n").unwrap_or(("", part));
-        let (_, calls) = head.rsplit_once('\n').unwrap_or(("", head));
-        for row in rows.lines() {
-            let (given, want) = row.trim().split_once(" | ").unwrap_or((row, ""));
-            check_row(alloc, calls.trim(), given, want, wrong);
+    let mut calls = Line::new();
+    for line in table.lines() {
+        if let Some((given, want)) = line.trim().split_once(" | ") {
+            check_row(alloc, calls.as_str(), given, want, wrong);
+        } else if let Some((head, _)) = line.trim().split_once(':') {
+            calls = Line::new();
+            let _ = calls.write_str(head);
         }
     }
 }
@@ -58,33 +56,25 @@ pub(crate) fn check_row(alloc: Global, calls: &str, given: &str, want: &str, wro
     }
 }
 
-/// Tries rows of calls. A row has what a call is given, and what it answers, as those of a table.
-pub(crate) fn check_rows(alloc: Global, calls: &str, rows: &[&str]) -> Result<(), Fail> {
+/// Fails with the rows of a table that have another answer.
+pub(crate) fn check_rows(alloc: Global, table: &str) -> Result<(), Fail> {
     let mut wrong = Line::new();
-    for row in rows {
-        let (given, want) = row.split_once(" | ").unwrap_or((row, ""));
-        check_row(alloc, calls, given, want, &mut wrong);
-    }
-    wrong.none_noted()
-}
-
-/// Tries the rows of tables.
-fn check_all(alloc: Global, tables: &[&str]) -> Result<(), Fail> {
-    let mut wrong = Line::new();
-    for table in tables {
-        check(alloc, table, &mut wrong);
-    }
+    check(alloc, table, &mut wrong);
     wrong.none_noted()
 }
 
 #[test]
 fn without_memory(rt: HostRuntime) -> Result<(), Fail> {
-    check_all(rt.alloc(), &WITHOUT_MEMORY)
+    check_rows(rt.alloc(), items::ROWS)?;
+    check_rows(rt.alloc(), views::ROWS)
 }
 
 #[test]
 fn with_memory(rt: HostRuntime) -> Result<(), Fail> {
-    check_all(rt.alloc(), &WITH_MEMORY)
+    for table in WITH_MEMORY {
+        check_rows(rt.alloc(), table)?;
+    }
+    Ok(())
 }
 
 /// Writes what a call answers.
@@ -98,12 +88,11 @@ fn tell(alloc: Global, call: &str, given: &str, out: &mut Line) -> fmt::Result {
     match call {
         "fault" => tell_fault(alloc, digits, out),
         "view" => tell_view(&view_of(bytes, strict), of, number(rest), out),
-        "value" => tell_value(alloc, bytes, strict, of, out),
-        "list" => tell_list(alloc, bytes, strict, of, out),
+        "value" | "list" | "value_at" | "list_at" => {
+            tell_read(alloc, bytes, strict, call, of, number(rest), out)
+        }
         "fields" => tell_fields(alloc, view_of(bytes, strict), false, rest, out),
         "fields_of" => tell_fields(alloc, view_of(bytes, strict), true, rest, out),
-        "value_at" => tell_value_at(alloc, &view_of(bytes, strict), of, number(rest), out),
-        "list_at" => tell_list_at(alloc, &view_of(bytes, strict), of, number(rest), out),
         "split" => tell_split(bytes, strict, out),
         "first" => tell_first(alloc, bytes, strict, out),
         "item" | "at" | "at_with_offset" | "count" | "iterated" | "payload" => {
@@ -113,7 +102,7 @@ fn tell(alloc: Global, call: &str, given: &str, out: &mut Line) -> fmt::Result {
     }
 }
 
-/// Writes what a call answers that is made in one way only.
+/// Writes the answer of a call that is made in one way only.
 fn tell_other(
     alloc: Global,
     bytes: &[u8],
@@ -128,14 +117,14 @@ fn tell_other(
         "tree" => tell_tree(alloc, bytes, number, out),
         "first_byte" => tell_first_byte(bytes, out),
         "third" => tell_third(alloc, &Rlp::new(bytes), out),
-        "whole" => tell_whole(alloc, bytes, out),
-        "whole_list" => tell_whole_list(alloc, bytes, out),
+        "whole" => out.debug(rlp::decode_whole::<u64>(alloc, bytes)),
+        "whole_list" => out.debug(rlp::decode_list_whole::<u64>(alloc, bytes)),
         "invalid" => tell_invalid(alloc, bytes, out),
         _ => Err(fmt::Error),
     }
 }
 
-/// Tells what is read in one way, and by a view if that is something else.
+/// Tells what is read in one way, and what is read by a view if that differs.
 pub(crate) fn tell_same<T: fmt::Debug + PartialEq>(
     read: &Result<T, DecoderError>,
     viewed: &Result<T, DecoderError>,

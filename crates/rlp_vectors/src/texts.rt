@@ -11,8 +11,8 @@ use std::test::Fail;
 
 /// Rows of texts.
 pub(crate) const ROWS: &str = "
-    A string prints as its bytes, a list as its framed items, and other bytes as a fault.
-    lenient view text:
+    lenient view text: A string prints as its bytes, a list as its framed items, and other bytes as
+    a fault.
     none | null
     c0 | []
     80 | \"0x\"
@@ -25,9 +25,7 @@ pub(crate) const ROWS: &str = "
     f800 | RlpListLenWithZeroPrefix
     c3830102 | []
     8105 | \"0x05\"
-
-    The faults, with their texts, which are their names, of each and of its clone.
-    lenient fault:
+    lenient fault: The faults, with their texts, which are their names, of each and of its clone.
     RlpIsTooBig | RlpIsTooBig RlpIsTooBig true
     RlpIsTooShort | RlpIsTooShort RlpIsTooShort true
     RlpExpectedToBeList | RlpExpectedToBeList RlpExpectedToBeList true
@@ -40,9 +38,7 @@ pub(crate) const ROWS: &str = "
     RlpInvalidLength | RlpInvalidLength RlpInvalidLength true
     Custom | Custom(\"text\") Custom(\"text\") true
     OutOfMemory | OutOfMemory OutOfMemory true
-
-    A view and a fault, whatever the flags.
-    lenient flags:
+    lenient flags: A view and a fault, whatever the flags.
     none | [\"0x05\", \"0x06\"]|Custom(\"a \"b\"\")|Custom(\"a \"b\"\")
 ";
 

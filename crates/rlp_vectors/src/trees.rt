@@ -12,30 +12,20 @@ use std::test::Fail;
 /// of the 93 trees of depth at most 2.
 const TREES: usize = 2 + 1 + 93 + 93 * 93;
 
-/// The rows of two strings: the empty one, and that of a byte 80.
+/// The rows of two strings: the empty string, and the string of a byte 80.
 const STRINGS: &str = "empty = 80\nstring 80 = 8180\n";
 
 /// The row of no item.
 const NONE: &str = "raw 0 = ";
 
 /// How a list of no item, of one, or of two begins, and how it ends.
-#[derive(Clone, Copy)]
-struct Ways {
-    begins: [&'static str; 3],
-    ends: &'static str,
-}
+type Ways = [&'static str; 4];
 
 /// Lists that announce their number of items.
-const ANNOUNCED: Ways = Ways {
-    begins: ["begin 0", "begin 1", "begin 2"],
-    ends: "",
-};
+const ANNOUNCED: Ways = ["begin 0", "begin 1", "begin 2", ""];
 
 /// Unbounded lists.
-const UNBOUNDED: Ways = Ways {
-    begins: ["unbounded", "unbounded", "unbounded"],
-    ends: "; finalize",
-};
+const UNBOUNDED: Ways = ["unbounded", "unbounded", "unbounded", "; finalize"];
 
 /// Writes the row of a list of the items of two rows. Its payload has fewer than 56 bytes, so its
 /// header has one byte.
@@ -57,12 +47,12 @@ fn push_list(
     )
 }
 
-/// Writes the rows of the lists of one item or two, the first of which has this row.
+/// Writes the rows of the lists of one or two items whose first item has this row.
 fn push_lists(trees: &mut String, ways: Ways, first: &str, rows: &str) -> Result<(), AllocError> {
-    let [_, one, two] = ways.begins;
-    push_list(trees, one, ways.ends, first, NONE)?;
+    let [_, one, two, ends] = ways;
+    push_list(trees, one, ends, first, NONE)?;
     for second in rows.lines() {
-        push_list(trees, two, ways.ends, first, second)?;
+        push_list(trees, two, ends, first, second)?;
     }
     Ok(())
 }
@@ -70,9 +60,9 @@ fn push_lists(trees: &mut String, ways: Ways, first: &str, rows: &str) -> Result
 /// Returns rows of the two strings, of the empty list, and of the lists of one or two of the items of
 /// these rows.
 fn trees_over(alloc: Global, rows: &str, ways: Ways) -> Result<String, AllocError> {
-    let [none, _, _] = ways.begins;
+    let [none, _, _, ends] = ways;
     let mut trees = String::from_str(alloc, STRINGS)?;
-    push_list(&mut trees, none, ways.ends, NONE, NONE)?;
+    push_list(&mut trees, none, ends, NONE, NONE)?;
     for first in rows.lines() {
         push_lists(&mut trees, ways, first, rows)?;
     }
@@ -87,7 +77,7 @@ fn trees_are_written(alloc: Global, ways: Ways) -> Result<(), Fail> {
     if deep.as_str().lines().count() != TREES {
         return Err(Fail::new("another number of trees"));
     }
-    all_met(alloc, &[deep.as_str()])
+    all_met(alloc, deep.as_str())
 }
 
 /// Writes the string of this payload of fewer than 2^24 bytes.
@@ -103,8 +93,8 @@ fn write(bytes: &mut Vec<u8>, payload: &[u8]) -> Result<(), AllocError> {
     bytes.extend_from_slice(payload)
 }
 
-/// Returns the first length, of those around headers that get longer and of others, at which a string
-/// of bytes 00 isn't written as the rules say.
+/// Returns the first length, of lengths around those at which headers get longer and of other
+/// lengths, at which a string of bytes 00 isn't written as the rules say.
 fn first_wrong_len(alloc: Global) -> Result<Option<usize>, AllocError> {
     for len in 0usize..70_001 {
         if len < 301 || (len + 2) % 1_000 < 3 || (len + 10) % 512 < 20 {

@@ -13,8 +13,8 @@ use std::test::Fail;
 /// in which the faults are declared, and then the sum of what the results measure.
 type Tally = [usize; 14];
 
-/// What a call gives for an input: the place in a tally, and what its result measures.
-type Answer = (usize, usize);
+/// What a call gives for an input: what its result measures, or a fault.
+type Answer = Result<usize, DecoderError>;
 
 /// Returns the place of a fault in a tally.
 fn place_of(fault: &DecoderError) -> usize {
@@ -34,14 +34,6 @@ fn place_of(fault: &DecoderError) -> usize {
     }
 }
 
-/// Returns the place of a result in a tally.
-fn place<T>(answer: &Result<T, DecoderError>) -> usize {
-    match answer {
-        Ok(_) => 0,
-        Err(fault) => place_of(fault),
-    }
-}
-
 /// Adds to a number of a tally.
 fn add(tally: &mut Tally, place: usize, more: usize) {
     if let Some(count) = tally.get_mut(place) {
@@ -53,9 +45,13 @@ fn add(tally: &mut Tally, place: usize, more: usize) {
 fn counted(alloc: Global, call: &str) -> Tally {
     let mut tally = [0; 14];
     for word in 0..=u16::MAX {
-        let (place, measure) = answered(alloc, &word.to_be_bytes(), call);
-        add(&mut tally, place, 1);
-        add(&mut tally, 13, measure);
+        match answered(alloc, &word.to_be_bytes(), call) {
+            Ok(measure) => {
+                add(&mut tally, 0, 1);
+                add(&mut tally, 13, measure);
+            }
+            Err(fault) => add(&mut tally, place_of(&fault), 1),
+        }
     }
     tally
 }
@@ -97,46 +93,28 @@ fn check(alloc: Global, table: &str) -> Result<(), Fail> {
 fn answered(alloc: Global, bytes: &[u8], call: &str) -> Answer {
     let (kind, call) = cut(call);
     match kind {
-        "header" => of_header(PayloadInfo::from(bytes)),
+        "header" => Ok(PayloadInfo::from(bytes)?.checked_total().unwrap_or(0)),
         "lenient" => of_view(&Rlp::new(bytes), call),
         "strict" => of_view(&Rlp::new_strict(bytes), call),
-        "decoded" => (decoded(alloc, bytes, call), 0),
-        "listed" => (listed(alloc, &Rlp::new(bytes), call), 0),
-        "decoder" => of_length(BasicDecoder::new(bytes).decode_value(length)),
-        _ => of_length(Rlp::new(bytes).decoder().decode_value(length)),
+        "decoded" => decoded(alloc, bytes, call),
+        "listed" => listed(alloc, &Rlp::new(bytes), call),
+        "decoder" => BasicDecoder::new(bytes).decode_value(length),
+        _ => Rlp::new(bytes).decoder().decode_value(length),
     }
 }
 
-/// Returns what a call of a view gives.
+/// Returns what a call of a view gives. A header measures the lengths of header and value together,
+/// and an item its place.
 fn of_view(view: &Rlp<'_>, call: &str) -> Answer {
     match call {
-        "payload_info" => of_header(view.payload_info()),
-        "data" => match view.data() {
-            Ok(data) => (0, data.len()),
-            Err(fault) => (place_of(&fault), 0),
-        },
-        "item_count" => (place(&view.item_count()), 0),
-        "at 0" => (place(&view.at(0)), 0),
-        "at 1" => (place(&view.at(1)), 0),
-        "item 0" => of_item(view.at_with_offset(0)),
-        "item 1" => of_item(view.at_with_offset(1)),
-        _ => of_item(view.at_with_offset(usize::MAX)),
-    }
-}
-
-/// Returns what a header gives, which measures the lengths of header and value together.
-fn of_header(info: Result<PayloadInfo, DecoderError>) -> Answer {
-    match info {
-        Ok(info) => (0, info.checked_total().unwrap_or(0)),
-        Err(fault) => (place_of(&fault), 0),
-    }
-}
-
-/// Returns what an item gives, which measures its place.
-fn of_item(item: Result<(Rlp<'_>, usize), DecoderError>) -> Answer {
-    match item {
-        Ok((_, place)) => (0, place),
-        Err(fault) => (place_of(&fault), 0),
+        "payload_info" => Ok(view.payload_info()?.checked_total().unwrap_or(0)),
+        "data" => Ok(view.data()?.len()),
+        "item_count" => view.item_count().and(Ok(0)),
+        "at 0" => view.at(0).and(Ok(0)),
+        "at 1" => view.at(1).and(Ok(0)),
+        "item 0" => Ok(view.at_with_offset(0)?.1),
+        "item 1" => Ok(view.at_with_offset(1)?.1),
+        _ => Ok(view.at_with_offset(usize::MAX)?.1),
     }
 }
 
@@ -284,43 +262,35 @@ fn views_of_two_bytes(rt: HostRuntime) -> Result<(), Fail> {
     check(rt.alloc(), VIEWS)
 }
 
-/// Returns the place of what reading an input as a `T` gives.
-fn place_as<T: Decodable>(alloc: Global, bytes: &[u8]) -> usize {
-    place(&rlp::decode::<T>(alloc, bytes))
+/// Returns what reading an input as a `T` gives.
+fn read<T: Decodable>(alloc: Global, bytes: &[u8]) -> Answer {
+    rlp::decode::<T>(alloc, bytes).and(Ok(0))
 }
 
-/// Returns the place of what reading an input as a value of a type gives.
-fn decoded(alloc: Global, bytes: &[u8], of: &str) -> usize {
+/// Returns what reading an input as a value of a type gives.
+fn decoded(alloc: Global, bytes: &[u8], of: &str) -> Answer {
     match of {
-        "u8" => place_as::<u8>(alloc, bytes),
-        "u16" => place_as::<u16>(alloc, bytes),
-        "u32" => place_as::<u32>(alloc, bytes),
-        "u64" => place_as::<u64>(alloc, bytes),
-        "u128" => place_as::<u128>(alloc, bytes),
-        "usize" => place_as::<usize>(alloc, bytes),
-        "Uint" => place_as::<Uint<2>>(alloc, bytes),
-        "bool" => place_as::<bool>(alloc, bytes),
-        "Vec" => place_as::<Vec<u8>>(alloc, bytes),
-        "Bytes" => place_as::<Bytes>(alloc, bytes),
-        "BytesMut" => place_as::<BytesMut>(alloc, bytes),
-        "[u8; 1]" => place_as::<[u8; 1]>(alloc, bytes),
-        "String" => place_as::<String>(alloc, bytes),
-        "Box" => place_as::<Box<u8>>(alloc, bytes),
-        _ => place_as::<Option<u8>>(alloc, bytes),
+        "u8" => read::<u8>(alloc, bytes),
+        "u16" => read::<u16>(alloc, bytes),
+        "u32" => read::<u32>(alloc, bytes),
+        "u64" => read::<u64>(alloc, bytes),
+        "u128" => read::<u128>(alloc, bytes),
+        "usize" => read::<usize>(alloc, bytes),
+        "Uint" => read::<Uint<2>>(alloc, bytes),
+        "bool" => read::<bool>(alloc, bytes),
+        "Vec" => read::<Vec<u8>>(alloc, bytes),
+        "Bytes" => read::<Bytes>(alloc, bytes),
+        "BytesMut" => read::<BytesMut>(alloc, bytes),
+        "[u8; 1]" => read::<[u8; 1]>(alloc, bytes),
+        "String" => read::<String>(alloc, bytes),
+        "Box" => read::<Box<u8>>(alloc, bytes),
+        _ => read::<Option<u8>>(alloc, bytes),
     }
 }
 
 /// Returns the length of a string.
-fn length(string: &[u8]) -> Result<usize, DecoderError> {
+fn length(string: &[u8]) -> Answer {
     Ok(string.len())
-}
-
-/// Returns what `decode_value` gives, which measures the length that its closure returned.
-fn of_length(len: Result<usize, DecoderError>) -> Answer {
-    match len {
-        Ok(len) => (0, len),
-        Err(fault) => (place_of(&fault), 0),
-    }
 }
 
 /// Rows of numbers.
@@ -347,13 +317,13 @@ fn numbers_of_two_bytes(rt: HostRuntime) -> Result<(), Fail> {
     check(rt.alloc(), NUMBERS)
 }
 
-/// Returns the place of what reading an input as a list of `u8` gives, its first item as a `u8`, or
-/// its first item as a list of `u8`.
-fn listed(alloc: Global, view: &Rlp<'_>, call: &str) -> usize {
+/// Returns what reading an input as a list of `u8` gives, its first item as a `u8`, or its first
+/// item as a list of `u8`.
+fn listed(alloc: Global, view: &Rlp<'_>, call: &str) -> Answer {
     match call {
-        "as_list" => place(&view.as_list::<u8>(alloc)),
-        "val_at" => place(&view.val_at::<u8>(alloc, 0)),
-        _ => place(&view.list_at::<u8>(alloc, 0)),
+        "as_list" => view.as_list::<u8>(alloc).and(Ok(0)),
+        "val_at" => view.val_at::<u8>(alloc, 0).and(Ok(0)),
+        _ => view.list_at::<u8>(alloc, 0).and(Ok(0)),
     }
 }
 

@@ -1,4 +1,4 @@
-//! Numbers of 256 bits: their order, and what prints of them. The texts are Python's.
+//! Numbers of 256 bits: their order, and their printed texts. The texts are Python's.
 
 use crate::rows::{Line, bytes_of, cut};
 use rlp::Uint;
@@ -34,22 +34,6 @@ fn number(alloc: Global, encoded: &str) -> Result<Uint<32>, Fail> {
     Ok(rlp::decode_strict::<Uint<32>>(alloc, bytes.as_slice())?)
 }
 
-/// Returns whether a number is that of its `u64` if it has one.
-fn is_of(read: Uint<32>, decimal: &str) -> bool {
-    match decimal.parse::<u64>() {
-        Ok(small) => Uint::<32>::from(small) == read,
-        Err(_) => true,
-    }
-}
-
-/// Returns whether a number is above the last one, if there is one.
-fn rises(last: Option<Uint<32>>, read: Uint<32>) -> bool {
-    match last {
-        Some(last) => last < read,
-        None => true,
-    }
-}
-
 #[test]
 fn numbers_print_and_rise(rt: HostRuntime) -> Result<(), Fail> {
     let (mut wrong, mut last) = (Line::new(), None::<Uint<32>>);
@@ -60,7 +44,12 @@ fn numbers_print_and_rise(rt: HostRuntime) -> Result<(), Fail> {
         let _ = said.write_str(" ");
         let _ = said.display(Hexadecimal(read));
         wrong.note("number", encoded, said.as_str(), texts);
-        assert!(rt; is_of(read, cut(texts).0) && rises(last, read), "{encoded}");
+        let small = cut(texts).0.parse::<u64>();
+        assert!(rt;
+            !matches!(small, Ok(small) if Uint::<32>::from(small) != read),
+            "{encoded}"
+        );
+        assert!(rt; !matches!(last, Some(last) if last >= read), "{encoded}");
         last = Some(read);
     }
     wrong.none_noted()

@@ -7,8 +7,7 @@ use std::fmt::Write;
 
 /// Rows of headers and views.
 pub(crate) const ROWS: &str = "
-    The first bytes of strings, at the least and the greatest length of each form.
-    lenient header:
+    lenient header: The first bytes of strings, at the least and the greatest length of each form.
     00 | 0 + 1 = Some(1)
     7f | 0 + 1 = Some(1)
     80 | 1 + 0 = Some(1)
@@ -27,9 +26,7 @@ pub(crate) const ROWS: &str = "
     05ff | 0 + 1 = Some(1)
     bffffffffffffffff6 | 9 + 18446744073709551606 = Some(18446744073709551615)
     bffffffffffffffff7 | 9 + 18446744073709551607 = None
-
-    The first bytes of lists, at the least and the greatest length of each form.
-    lenient header:
+    lenient header: The first bytes of lists, at the least and the greatest length of each form.
     c0 | 1 + 0 = Some(1)
     c1 | 1 + 1 = Some(2)
     f7 | 1 + 55 = Some(56)
@@ -44,9 +41,7 @@ pub(crate) const ROWS: &str = "
     fc0100000000 | 6 + 4294967296 = Some(4294967302)
     ffffffffffffffffff | 9 + 18446744073709551615 = None
     c001 | 1 + 0 = Some(1)
-
-    Bytes that don't begin with a header.
-    lenient header:
+    lenient header: Bytes that don't begin with a header.
     none | RlpIsTooShort
     b8 | RlpIsTooShort
     f8 | RlpIsTooShort
@@ -57,18 +52,14 @@ pub(crate) const ROWS: &str = "
     f900 | RlpListLenWithZeroPrefix
     f801 | RlpInvalidIndirection
     b837 | RlpInvalidIndirection
-
-    A view that is null, empty, a list or a string.
-    lenient view kinds:
+    lenient view kinds: A view that is null, empty, a list or a string.
     none | true false false false
     80 | false true false true
     c0 | false true true false
     05 | false false false true
     c105 | false false true false
     c88363617483646f67 | false false true false
-
-    Numbers at the front, and others.
-    lenient view int:
+    lenient view int: Numbers at the front, and others.
     none | false
     81 | false
     8100 | false
@@ -77,32 +68,25 @@ pub(crate) const ROWS: &str = "
     b838 | false
     b83805 | true
     c0 | false
-
-    Lists, and the limit within which they nest.
-    lenient view nested:
+    lenient view nested: Lists, and the limit within which they nest.
     80 0 | true
     c0 0 | false
     c0 1 | true
     c2c105 1 | false
     c2c105 2 | true
     c5 0 | true
-
-    Prototypes and sizes.
-    lenient view sizes:
+    lenient view sizes: Prototypes and sizes.
     none | Ok(Null) 0
     84636174 | Ok(Data(0)) 0
     8363617400 | Ok(Data(3)) 3
     05 | Ok(Data(1)) 1
     c5 | Ok(List(0)) 0
     c88363617483646f67 | Ok(List(2)) 0
-
-    The prototype of a strict view counts the items as that of a lenient view does.
-    strict view sizes:
+    strict view sizes: The prototype of a strict view counts the items as that of a lenient view
+    does.
     c10102 | Ok(List(1)) 0
-
-    Encodings and other bytes, and a depth, for views of both kinds. The last two are a list of
-    56 numbers 1, whose header has two bytes.
-    lenient view canonical, strict view canonical:
+    lenient view canonical, strict view canonical: Encodings and other bytes, and a depth, for views
+    of both kinds. The last two are a list of 56 numbers 1, whose header has two bytes.
     none 5 | false
     8105 5 | false
     c28105 5 | false
@@ -119,7 +103,7 @@ pub(crate) const ROWS: &str = "
      101010101010101010101 0 | false
 ";
 
-/// Tells the lengths of a header and of its value, and both together if a `usize` can hold it.
+/// Tells the lengths of a header and of its value, and their sum if a `usize` can hold it.
 pub(crate) fn tell_header(bytes: &[u8], out: &mut Line) -> fmt::Result {
     match PayloadInfo::from(bytes) {
         Ok(info) => {
@@ -147,7 +131,7 @@ pub(crate) fn tell_view(view: &Rlp<'_>, of: &str, limit: usize, out: &mut Line) 
     }
 }
 
-/// Tells of which kinds a view is.
+/// Tells whether a view is null, empty, a list and a string.
 fn tell_kinds(view: &Rlp<'_>, out: &mut Line) -> fmt::Result {
     out.debug(view.is_null())?;
     out.then(view.is_empty())?;

@@ -59,25 +59,12 @@ get_block_headers ca820458c682270f070880
 {'getBlockHeaders':{'requestId':'0x458','content':{'startBlock':'0x270f','limit':'0x7','skip':'0x8',
 'reverse':'0x0'}}}
 
-new_block f90273f9026af901fba0<a1*32>a0<a2*32>94<a3*20>a0<a4*32>a0<a5*32>a0<a6*32>b901<00*8>72\
-    <00*248>8503ff800000821388832fefd8808455ba422580a0<a7*32>88b1b2b3b4b5b6b7b8f869<FIRST>c08504000\
-    00000
-{'newBlock':{'block':{'hash':'0x573c20bff4f4a0755b9a8740d13a3fa0b59ba1b5208a32fba07eb3a5a4102cfa',
-'parentHash':'0x<a1*32>','sha3Uncles':'0x<a2*32>','miner':'0x<a3*20>','stateRoot':'0x<a4*32>',
-'transactionsRoot':'0x<a5*32>','receiptsRoot':'0x<a6*32>','logsBloom':'0x<00*7>72<00*248>',
-'difficulty':'0x3ff800000','number':'0x1388','gasLimit':'0x2fefd8','gasUsed':'0x0',
-'timestamp':'0x55ba4225','extraData':'0x','mixHash':'0x<a7*32>','nonce':'0xb1b2b3b4b5b6b7b8',
-'transactions':[{<MEMBERS>}],'ommers':[],'uncles':[],'size':'0x26d'},
-'totalDifficulty':'0x400000000'}}
+new_block f90273f9026a<OMMER>f869<FIRST>c0850400000000
+{'newBlock':{'block':{<MEMBERS_OMMER>,'transactions':[{<MEMBERS>}],'ommers':[],'uncles':[],
+'size':'0x26d'},'totalDifficulty':'0x400000000'}}
 
-block_headers f9020202f901fef901fba0<a1*32>a0<a2*32>94<a3*20>a0<a4*32>a0<a5*32>a0<a6*32>b901<00*8>7\
-    2<00*248>8503ff800000821388832fefd8808455ba422580a0<a7*32>88b1b2b3b4b5b6b7b8
-{'blockHeaders':{'requestId':'0x2',
-'content':[{'hash':'0x573c20bff4f4a0755b9a8740d13a3fa0b59ba1b5208a32fba07eb3a5a4102cfa',
-'parentHash':'0x<a1*32>','sha3Uncles':'0x<a2*32>','miner':'0x<a3*20>','stateRoot':'0x<a4*32>',
-'transactionsRoot':'0x<a5*32>','receiptsRoot':'0x<a6*32>','logsBloom':'0x<00*7>72<00*248>',
-'difficulty':'0x3ff800000','number':'0x1388','gasLimit':'0x2fefd8','gasUsed':'0x0',
-'timestamp':'0x55ba4225','extraData':'0x','mixHash':'0x<a7*32>','nonce':'0xb1b2b3b4b5b6b7b8'}]}}
+block_headers f9020202f901fe<OMMER>
+{'blockHeaders':{'requestId':'0x2','content':[{<MEMBERS_OMMER>}]}}
 
 get_block_bodies f84503f842a0<01*32>a0<02*32>
 {'getBlockBodies':{'requestId':'0x3','content':['0x<01*32>','0x<02*32>']}}
@@ -90,14 +77,9 @@ block_bodies e604e4e0c0c0dddc8203e98207d194<7b*20>80c2c0c0
 get_pooled_transactions e305e1a0<03*32>
 {'getPooledTransactions':{'requestId':'0x5','content':['0x<03*32>']}}
 
-pooled_transactions fa06039106fa06038cba0401c403fa0401bff8e983aa36a70304820100830186a094<3a*20>8180\
-    3bf838f794<3c*20>e1a0<3d*32>843b9aca01f842a001<3e*31>a001<3f*31>019f1b05cae7fa573d4ea363e3992ff\
-    634c1a2fddbb1e1152057d1b57afb1080c99feb4e81cedb3c5b1e3a5e990a429c6b675d734dd32d7281e0a9a91cf3f2\
-    28b3fa040008ba020000<b1*131072>ba020000<b2*131072>f862b0<c1*48>b0<c2*48>f862b0<d1*48>b0<d2*48>b\
-    a0201c003fa0201bbf8e983aa36a70304820100830186a094<3a*20>81803bf838f794<3c*20>e1a0<3d*32>843b9ac\
-    a01f842a001<3e*31>a001<3f*31>019f1b05cae7fa573d4ea363e3992ff634c1a2fddbb1e1152057d1b57afb1080c9\
-    9feb4e81cedb3c5b1e3a5e990a429c6b675d734dd32d7281e0a9a91cf3f228b301fa020004ba020000<b1*131072>f1\
-    b0<c1*48>f893b0<e1*48>b0<e2*48>b0<e3*48>
+pooled_transactions fa06039106fa06038cba0401c403fa0401bf<PAYLOAD_3>fa040008ba020000<b1*131072>ba020\
+    000<b2*131072>f862b0<c1*48>b0<c2*48>f862b0<d1*48>b0<d2*48>ba0201c003fa0201bb<PAYLOAD_3>01fa0200\
+    04ba020000<b1*131072>f1b0<c1*48>f893b0<e1*48>b0<e2*48>b0<e3*48>
 {'pooledTransactions':{'requestId':'0x6','content':[{<MEMBERS_3>,'blobs':['0x<b1*131072>',
 '0x<b2*131072>'],'commitments':['0x<c1*48>','0x<c2*48>'],'proofs':['0x<d1*48>','0x<d2*48>']},
 {<MEMBERS_3>,'wrapperVersion':'0x1','blobs':['0x<b1*131072>'],'commitments':['0x<c1*48>'],

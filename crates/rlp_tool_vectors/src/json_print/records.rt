@@ -7,9 +7,8 @@ block f9092df9026ea0<61*32>a0a680b5075dbf74738ea82949d38faae7370c7f038780d7d7002
     786726574682f76a0<67*32>88<00*8>07a0<68*32>83080000830a0000a0<69*32>a0<6b*32>f90474<EIP_155>b8e\
     8<SENT_1>b86d<SENT_2>b8ec<SENT_3>b90131<SENT_4>b88902f8860e0f121315801683600180f838f794<2d*20>e\
     1a0<2e*32>019f6675607a922dd659c8bd544c7057badd4be690154316bcf4e255506262e2999f3e55e4100663d71e5\
-    23b2dbb76024223fb38a45976ede61b73d12a03bed5e2f901fef901fba0<a1*32>a0<a2*32>94<a3*20>a0<a4*32>a0\
-    <a5*32>a0<a6*32>b901<00*8>72<00*248>8503ff800000821388832fefd8808455ba422580a0<a7*32>88b1b2b3b4\
-    b5b6b7b8f842e48203e88207d094<7a*20>88<ff*8>dc8203e98207d194<7b*20>80
+    23b2dbb76024223fb38a45976ede61b73d12a03bed5e2f901fe<OMMER>f842e48203e88207d094<7a*20>88<ff*8>dc\
+    8203e98207d194<7b*20>80
 {'block':{'hash':'0x11101acfbe8cc4633f375b6443e6cec66743d6bc3f1f8e73bbbd9da00a4c028d',
 'parentHash':'0x<61*32>',
 'sha3Uncles':'0xa680b5075dbf74738ea82949d38faae7370c7f038780d7d70029612eae6154c4',
@@ -33,13 +32,9 @@ block f9092df9026ea0<61*32>a0a680b5075dbf74738ea82949d38faae7370c7f038780d7d7002
 'r':'0x6675607a922dd659c8bd544c7057badd4be690154316bcf4e255506262e299',
 's':'0x3e55e4100663d71e523b2dbb76024223fb38a45976ede61b73d12a03bed5e2',
 'signingHash':'0x2718838fddaceef31aa33bec1a35a8027d321ecf7addf3c33fa686611ba70492'}],
-'ommers':[{'hash':'0x573c20bff4f4a0755b9a8740d13a3fa0b59ba1b5208a32fba07eb3a5a4102cfa',
-'parentHash':'0x<a1*32>','sha3Uncles':'0x<a2*32>','miner':'0x<a3*20>','stateRoot':'0x<a4*32>',
-'transactionsRoot':'0x<a5*32>','receiptsRoot':'0x<a6*32>','logsBloom':'0x<00*7>72<00*248>',
-'difficulty':'0x3ff800000','number':'0x1388','gasLimit':'0x2fefd8','gasUsed':'0x0',
-'timestamp':'0x55ba4225','extraData':'0x','mixHash':'0x<a7*32>','nonce':'0xb1b2b3b4b5b6b7b8'}],
-'withdrawals':[{'index':'0x3e8','validatorIndex':'0x7d0','address':'0x<7a*20>','amount':'0x<ff*8>'},
-{'index':'0x3e9','validatorIndex':'0x7d1','address':'0x<7b*20>','amount':'0x0'}],
+'ommers':[{<MEMBERS_OMMER>}],'withdrawals':[{'index':'0x3e8','validatorIndex':'0x7d0',
+'address':'0x<7a*20>','amount':'0x<ff*8>'},{'index':'0x3e9','validatorIndex':'0x7d1',
+'address':'0x<7b*20>','amount':'0x0'}],
 'uncles':['0x573c20bff4f4a0755b9a8740d13a3fa0b59ba1b5208a32fba07eb3a5a4102cfa'],'size':'0x930'}}";
 
 /// Records.

@@ -77,16 +77,12 @@ transaction 02f40a0b0c0d0e94<2b*20>0f10d7d694<2c*20>c0
 'signingHash':'0xf08a34565a79d7bea3037f9db17fe80d293cee8702383f7c7b5fc83c64d03c8f'}}
 
 # Transactions with their blobs.
-with_proofs 03fa0401bff8e983aa36a70304820100830186a094<3a*20>81803bf838f794<3c*20>e1a0<3d*32>843b9a\
-    ca01f842a001<3e*31>a001<3f*31>019f1b05cae7fa573d4ea363e3992ff634c1a2fddbb1e1152057d1b57afb1080c\
-    99feb4e81cedb3c5b1e3a5e990a429c6b675d734dd32d7281e0a9a91cf3f228b3fa040008ba020000<b1*131072>ba0\
-    20000<b2*131072>f862b0<c1*48>b0<c2*48>f862b0<d1*48>b0<d2*48>
+with_proofs 03fa0401bf<PAYLOAD_3>fa040008ba020000<b1*131072>ba020000<b2*131072>f862b0<c1*48>b0\
+    <c2*48>f862b0<d1*48>b0<d2*48>
 {<MEMBERS_3>,'blobs':['0x<b1*131072>','0x<b2*131072>'],'commitments':['0x<c1*48>','0x<c2*48>'],
 'proofs':['0x<d1*48>','0x<d2*48>']}
 
-with_cell_proofs 03fa0201bbf8e983aa36a70304820100830186a094<3a*20>81803bf838f794<3c*20>e1a0<3d*32>8\
-    43b9aca01f842a001<3e*31>a001<3f*31>019f1b05cae7fa573d4ea363e3992ff634c1a2fddbb1e1152057d1b57afb\
-    1080c99feb4e81cedb3c5b1e3a5e990a429c6b675d734dd32d7281e0a9a91cf3f228b301fa020004ba020000\
-    <b1*131072>f1b0<c1*48>f893b0<e1*48>b0<e2*48>b0<e3*48>
+with_cell_proofs 03fa0201bb<PAYLOAD_3>01fa020004ba020000<b1*131072>f1b0<c1*48>f893b0<e1*48>b0\
+    <e2*48>b0<e3*48>
 {<MEMBERS_3>,'wrapperVersion':'0x1','blobs':['0x<b1*131072>'],'commitments':['0x<c1*48>'],
 'proofs':['0x<e1*48>','0x<e2*48>','0x<e3*48>']}";

@@ -1,4 +1,4 @@
-//! Tests that the Rust crate has too. They keep its names.
+//! Tests that the Rust crate has too, under the same names.
 
 use crate::script::{all_met, all_met_to, buffer_of};
 use crate::streams::FULL;
@@ -7,8 +7,8 @@ use rlp_write::RlpStream;
 use std::alloc::{AllocError, Global};
 use std::test::Fail;
 
-/// Appends bytes and the encoding of a text, by a stream over the bytes. They stand in the second part of
-/// the split buffer, and then the parts are joined again.
+/// Appends bytes and the encoding of a text, by a stream over the bytes. The bytes are in the
+/// second part of the split buffer, and then the two parts are joined again.
 fn append_by_stream(
     alloc: Global,
     buffer: &mut BytesMut,
@@ -39,15 +39,13 @@ fn encode_into_existing_buffer(rt: HostRuntime) -> Result<(), Fail> {
 
 #[test]
 fn clear(rt: HostRuntime) -> Result<(), Fail> {
-    all_met(
-        rt.alloc(),
-        &["over 'junk; text parrot; clear; is 0 done 'junk; text cat = 6a756e6b83636174"],
-    )
+    let row = "over 'junk; text parrot; clear; is 0 done 'junk; text cat = 6a756e6b83636174";
+    all_met(rt.alloc(), row)
 }
 
 #[test]
 fn test_rlp_nested_empty_list_encode(rt: HostRuntime) -> Result<(), Fail> {
-    all_met(rt.alloc(), &["list 2; no_u32s; u32 40 = c2c028"])
+    all_met(rt.alloc(), "list 2; no_u32s; u32 40 = c2c028")
 }
 
 #[test]
@@ -60,6 +58,6 @@ fn test_rlp_stream_size_limit(rt: HostRuntime) -> Result<(), Fail> {
 fn test_rlp_stream_unbounded_list(rt: HostRuntime) -> Result<(), Fail> {
     all_met(
         rt.alloc(),
-        &["unbounded; number 40; number 41; is 3 any 002829; finalize = c22829"],
+        "unbounded; number 40; number 41; is 3 any 002829; finalize = c22829",
     )
 }

@@ -1,4 +1,4 @@
-//! Headers and items of views. None of the calls takes memory.
+//! Headers and items of views. None of the calls allocates.
 
 use crate::rows::Line;
 use crate::tables::{check_row, check_rows};
@@ -31,65 +31,41 @@ fn test_rlp_display(rt: HostRuntime) -> Result<(), Fail> {
 // The first item is asked for again.
 #[test]
 fn rlp_at(rt: HostRuntime) -> Result<(), Fail> {
-    check_rows(
-        rt.alloc(),
-        "lenient at",
-        &[
-            "c88363617483646f67 0 1 0 \
-            | Ok(83636174) Ok(\"cat\"); Ok(83646f67) Ok(\"dog\"); Ok(83636174) Ok(\"cat\");",
-        ],
-    )
+    let table = "lenient at:
+        c88363617483646f67 0 1 0 \
+        | Ok(83636174) Ok(\"cat\"); Ok(83646f67) Ok(\"dog\"); Ok(83636174) Ok(\"cat\");";
+    check_rows(rt.alloc(), table)
 }
 
-// The number of items that are left stands before each, and the first item is asked for at the end.
+// Before each item comes the number of items that are left, and the first item is asked for at the
+// end.
 #[test]
 fn rlp_iter(rt: HostRuntime) -> Result<(), Fail> {
-    check_rows(
-        rt.alloc(),
-        "lenient iterated",
-        &[
-            "c88363617483646f67 0 | 2 (2, Some(2)) Ok(83636174); 1 (1, Some(1)) Ok(83646f67); \
-            0 (0, Some(0)); 0 (0, Some(0)); Ok(83636174) Ok(\"cat\");",
-        ],
-    )
+    let table = "lenient iterated:
+        c88363617483646f67 0 | 2 (2, Some(2)) Ok(83636174); 1 (1, Some(1)) Ok(83646f67); \
+        0 (0, Some(0)); 0 (0, Some(0)); Ok(83636174) Ok(\"cat\");";
+    check_rows(rt.alloc(), table)
 }
 
 #[test]
 fn rlp_at_with_offset(rt: HostRuntime) -> Result<(), Fail> {
-    check_rows(
-        rt.alloc(),
-        "lenient at_with_offset",
-        &["c88363617483646f67 0 1 0 | Ok(83636174) 1; Ok(83646f67) 5; Ok(83636174) 1;"],
-    )
+    let table = "lenient at_with_offset:
+        c88363617483646f67 0 1 0 | Ok(83636174) 1; Ok(83646f67) 5; Ok(83636174) 1;";
+    check_rows(rt.alloc(), table)
 }
 
 #[test]
 fn rlp_at_err(rt: HostRuntime) -> Result<(), Fail> {
-    check_rows(
-        rt.alloc(),
-        "lenient item",
-        &[
-            "c88363617483646f 0 | Err(RlpIsTooShort) RlpIsTooShort",
-            "c88363617483646f 1 | Err(RlpIsTooShort) RlpIsTooShort",
-        ],
-    )
+    let table = "lenient item:
+        c88363617483646f 0 | Err(RlpIsTooShort) RlpIsTooShort
+        c88363617483646f 1 | Err(RlpIsTooShort) RlpIsTooShort";
+    check_rows(rt.alloc(), table)
 }
 
 // The first bytes of the long headers of strings, without other bytes.
 #[test]
 fn test_rlp_is_int(rt: HostRuntime) -> Result<(), Fail> {
-    check_rows(
-        rt.alloc(),
-        "lenient view int",
-        &[
-            "b8 | false",
-            "b9 | false",
-            "ba | false",
-            "bb | false",
-            "bc | false",
-            "bd | false",
-            "be | false",
-            "bf | false",
-        ],
-    )
+    let table = "lenient view int:\nb8 | false\nb9 | false\nba | false\nbb | false\nbc | false
+        bd | false\nbe | false\nbf | false";
+    check_rows(rt.alloc(), table)
 }

@@ -1,4 +1,4 @@
-//! Calls on streams that take no memory.
+//! Calls on streams that don't allocate.
 
 use super::refuse_from_here;
 use crate::guarded::{estimates, finishes_as, is_as, put_raw, put_raw_within, put_undotted};
@@ -25,7 +25,7 @@ fn room_is_used(mut s: RlpStream) -> Result<bool, AllocError> {
     Ok(put && refused && s.len() == 1004 && s.as_raw().ends_with(b"rlp\x80"))
 }
 
-/// Returns whether a list and a stream with room need no memory.
+/// Returns whether a list and a stream with room don't allocate.
 fn streams_answer(alloc: Global) -> Result<bool, AllocError> {
     let mut list = RlpStream::new_list(alloc, 3)?;
     list.append(&"cat")?;

@@ -1,8 +1,8 @@
-//! Calls on streams, one of which is refused memory. That call leaves the stream as it was, and can
-//! be made again.
+//! Calls on streams, of which one is refused memory. That call fails, leaves the stream as it was,
+//! and can be made again.
 //!
-//! `tools/refusals/run` refuses each request of these tests in turn. A test returns `AllocError` if
-//! the refused call left the stream as it was.
+//! `tools/refusals/run` refuses each allocation of these tests in turn. A test returns `AllocError`
+//! if the call that failed left the stream as it was.
 
 use crate::script::all_met;
 use std::test::Fail;
@@ -52,5 +52,6 @@ unbounded; is 1 any 00*1; unbounded; is 2 any 00*2; unbounded; is 3 any 00*3; un
 
 #[test]
 fn calls_are_made_again(rt: HostRuntime) -> Result<(), Fail> {
-    all_met(rt.alloc(), &[ITEMS, LISTS])
+    all_met(rt.alloc(), ITEMS)?;
+    all_met(rt.alloc(), LISTS)
 }

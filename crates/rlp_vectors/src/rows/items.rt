@@ -1,4 +1,4 @@
-//! Bytes that differ from others in one item.
+//! Bytes that differ from given bytes in one item.
 
 use crate::rows::push_header;
 use rlp::{DecoderError, Rlp};
@@ -7,8 +7,8 @@ use std::alloc::{AllocError, Global};
 /// Returns the bytes of a record with `item` in place of one of its items. The header of each list
 /// around it is made anew.
 ///
-/// The path has the place of the item in each list, from the outermost. The item may be any bytes, so
-/// several items or none may stand there, and behind the last item of a list others may be added. A
+/// The path has the place of the item in each list, from the outermost. The item may be any bytes,
+/// so it may be several items or none, and items may be added behind the last item of a list. A
 /// byte below 80 before a list is the type of an envelope, and stays.
 ///
 /// # Errors

@@ -1,4 +1,4 @@
-//! Texts and bytes that take no memory, and what is wrong with the rows of a table.
+//! Texts and bytes that don't allocate, and what is wrong with the rows of a table.
 
 use std::alloc::AllocError;
 use std::fmt;
@@ -45,7 +45,7 @@ impl Line {
         write!(self, "{value}")
     }
 
-    /// Fails with the text of rows that are noted, if there are any.
+    /// Fails with the text of the rows that were noted, if rows were noted.
     pub fn none_noted(&self) -> Result<(), Fail> {
         if self.len == 0 {
             Ok(())
@@ -95,8 +95,8 @@ fn front(text: &str) -> &str {
     text.get(..200).unwrap_or(text)
 }
 
-/// The bytes of hexadecimal digits, in a buffer. There are none if the text has another form, or if
-/// the buffer is too short.
+/// The bytes of hexadecimal digits, in a buffer. No bytes if the text has another form, or if the
+/// buffer is too short.
 pub fn bytes_in<'a>(digits: &str, buffer: &'a mut [u8]) -> &'a [u8] {
     match buffer.get_mut(..digits.len() / 2) {
         Some(bytes) => match hex::decode_to_slice(digits, bytes) {
