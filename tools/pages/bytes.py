@@ -27,8 +27,8 @@ TOLD = (
     "the inner awaits 1, the outer 1",
     "the inner list closes, and then the outer",
 )
-# The test whose rows of `rlp_show --bytes` are drawn, and what they are of.
-ROWS, KIND = ROOT / "crates" / "rlp_tool_vectors" / "src" / "dumped.rt", "transaction <EIP_155>"
+# The rows of `rlp_show --bytes` that are drawn, and what they are of.
+ROWS, KIND = ROOT / "crates" / "rlp_tool_vectors" / "data" / "show_bytes.txt", "transaction <EIP_155>"
 
 
 def spaced(digits):

@@ -4,10 +4,9 @@ use Rattle.std.proofs.lemmas.List.{length-map}
 use Rattle.std.specs.List.{slice_get}
 use Rattle.rlp_reading.specs.{declared.error.DecoderError.DecoderError, declared.error.DecoderError.TheVariants.RlpIncorrectListLen}
 use Rattle.rlp_reading.specs.{Format.Framing.items, Views.View.{View, item_count, item_views}}
-use Rattle.rlp_reading.specs.Form.{Fault, Faults, FieldsReading, Gives, Path, all_taken, and_then, fault_of, incorrect_list_len, items_of, map_value, path_by, read_struct, seen_fault, struct_reading, take_all}
+use Rattle.rlp_reading.specs.Form.{Fault, Faults, FieldsReading, Gives, Path, all_taken, and_then, fault_of, incorrect_list_len, items_of, struct_reading, take_all}
 use Rattle.rlp_reading.specs.Laws.{TakePossible}
-use Rattle.rlp_reading.proofs.{Lemmas.Numbered.item_count-told, Views.InOrder.counted_told, ListLaws.items_told}
-use Rattle.rlp_reading.proofs.StructLaws.{other_number, struct_given, this_number}
+use Rattle.rlp_reading.proofs.{Lemmas.Numbered.{item_count-told, counted_told}, ListLaws.items_told, StructLaws.{other_number, struct_given, this_number}}
 use Rattle.rlp.specs.Left.{AreFaulty}
 
 module _ {P : Type 0} (r : FieldsReading P) (v : View) where
@@ -42,15 +41,6 @@ module _ {P : Type 0} (r : FieldsReading P) (v : View) where
   -- the items of a list that has a number of items
   pub listed : (n : ℕ) → item_count v ≡ Ok n → items_of v ≡ Ok (item_views v)
   listed n count = items_told v (counted_told v n count)
-
-  -- there is no number of items
-  pub count_failed : (e : DecoderError) → item_count v ≡ Err e → FailsAsList (fault_of e)
-  count_failed e count =
-      let items : items_of v ≡ Err (fault_of e) = ap (λ r. map_value (λ (n : ℕ). item_views v) (seen_fault r)) count in
-      record {
-        fault = ap (λ i. and_then i (λ vs. (read_struct r.accepts r.read vs).result)) items;
-        place = ap (λ i. slice_get (path_by i [] (λ vs. (read_struct r.accepts r.read vs).path)) 0) items;
-      }
 
   -- the items give the fields, and nothing is left
   pub fields_given : (vs rest : List View) (x : P) → TakePossible r → items_of v ≡ Ok vs → (r.read vs).result ≡ Ok (r.seen x, rest) → rest ≡ [] → Gives (struct_reading r) v x

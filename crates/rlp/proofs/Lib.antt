@@ -6,8 +6,6 @@ pub mod Streams
 pub mod Readers
 -- what a struct gives, by the number of its items
 pub mod Counting
--- the first item of a view
-mod Splitting
 -- what is written for raw items
 pub mod RawWriting
 -- for authors of types: the rules for bodies that write and that read

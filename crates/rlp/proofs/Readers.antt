@@ -3,13 +3,15 @@ use Rattle.std.proofs.Common.{◌≡◌, ℕ, ◌≤◌, ◌↔◌, Option, IsTr
 use Rattle.std.proofs.{lemmas.Bool.{cond-true, cond-false}, lemmas.List.length-map}
 use Rattle.rlp_reading.specs.{declared.error.DecoderError.DecoderError, declared.error.DecoderError.TheVariants.RlpExpectedToBeList}
 use Rattle.rlp_reading.specs.declared.header.PayloadInfo.{PayloadInfo}
-use Rattle.rlp_reading.specs.Format.Framing.{fault, framing, map_ok, value, begins_as_list, items, payload, payload_in, split, after_items, fault_of_some, strict_fault, strict_list_fault}
-use Rattle.rlp_reading.specs.Views.View.{View, item_at, item_count, item_views, items_fault, list_fault}
+use Rattle.rlp_reading.specs.Format.Framing.{fault, frame, framing, unless, map_ok, value, begins_as_list, items, payload, payload_in, split, after_items, fault_of_some, strict_fault, strict_list_fault}
+use Rattle.rlp_reading.specs.Values.RawItem.{view_frame}
+use Rattle.rlp_reading.specs.Views.View.{View, view_header, item_at, item_count, item_views, items_fault, list_fault}
 use Rattle.rlp_reading.specs.Form.{fault_of, items_of, list_of_views, map_value, seen_fault}
-use Rattle.rlp_reading.proofs.Lemmas.Numbered.{item_count-fault, item_count-told, payload-fault, told_begins}
-use Rattle.rlp_reading.proofs.Format.Splits.{length-split, split-nil}
-use Rattle.rlp_reading.proofs.Format.StrictLists.{after_items-next, after_items-nil, after_items-none, strict_counted, strict_not_whole, strict_whole, value-items}
-use Rattle.rlp_reading.proofs.Views.InOrder.{counted_told, framed_place, unframed_place}
+use Rattle.rlp_reading.proofs.Lemmas.Numbered.{item_count-fault, item_count-told, payload-fault, told_begins, length-split, split-nil, strict_whole}
+use Rattle.rlp_reading.proofs.Lemmas.Numbered.{after_items-next, after_items-nil, after_items-none, strict_counted, strict_not_begun, strict_not_whole}
+use Rattle.rlp_reading.proofs.Lemmas.Numbered.{value-items, counted_told, framed_place, unframed_place}
+use Rattle.rlp_reading.proofs.Lemmas.Texts.{depth-followed, depth-fault, shallow-other}
+use Rattle.rlp_reading.proofs.Lemmas.Fronts.{faulty_front, front_frame_fault}
 use Rattle.rlp.specs.Left.{ItemsLeft, after_next}
 
 no_items : (b : List ℕ) → payload b ≡ [] → items b ≡ []
@@ -32,12 +34,9 @@ none_of_unframed b e kind framed none = none ∙ sym (no_items b (payload-fault 
 pub items_of_framed : (b p : List ℕ) → begins_as_list b ≡ true → value b ≡ Ok p → split p ≡ items b
 items_of_framed b p kind is = value-items b p (sym kind) is
 
-clash : (v : View) (i : ℕ) (e : DecoderError) → begins_as_list v.bytes ≡ false → items_fault v ≡ None → item_at v i ≡ Err e
-clash v i e kind told = let no : true ≡ false = sym (told_begins v told) ∙ kind in absurd (let never : ⊥ = cc in never)
-
 -- there is no number of items of anything but a list
 pub past_other : (v : View) (p : List ℕ) (i : ℕ) → begins_as_list v.bytes ≡ false → items_fault v ≡ None → item_at v i ≡ Err (fault (after_items p))
-past_other v p i kind told = clash v i (fault (after_items p)) kind told
+past_other v p i kind told = let no : true ≡ false = sym (told_begins v told) ∙ kind in absurd (let never : ⊥ = cc in never)
 
 -- past the last item of a framed list
 pub past_framed : (v : View) (q : PayloadInfo) (p : List ℕ) (i : ℕ) → items_fault v ≡ None → framing v.bytes ≡ Ok q → value v.bytes ≡ Ok p
@@ -207,3 +206,18 @@ map-none f (x ∷ xs) none = absurd (let no : ⊥ = cc in no)
 -- where nothing is left, there are no bytes
 pub no_bytes_left : (strict : Bool) (b : List ℕ) → (left_in strict b).views ≡ [] → after_items b ≡ [] → b ≡ []
 no_bytes_left strict b none ended = sym (after_items-none b (map-none _ (split b) none)) ∙ ended
+
+-- ---- the faults of a view whose bytes aren't framed
+
+pub faulty_view : (b : List ℕ) (strict : Bool) (e : DecoderError) → framing b ≡ Err e
+    → (view_frame (record { bytes = b; is_strict = strict }) ≡ Err e) × (view_header (record { bytes = b; is_strict = strict }) ≡ Err e)
+faulty_view b false e is = (front_frame_fault b e is, is)
+faulty_view b true e is =
+    let fault : strict_fault b ≡ Some e = faulty_front b e is in
+    (ap (λ f. unless f (frame b)) fault, ap (λ f. unless f (framing b)) fault)
+
+-- ---- for the calls and the laws of a view
+
+pub ruleset nested = (depth-followed, depth-fault, shallow-other)
+
+pub ruleset strict_lists = (strict_not_begun, strict_not_whole, strict_whole, value-items)

@@ -6,7 +6,7 @@ use Rattle.rlp_reading.specs.Laws.{AreLawful, CasesAreLawful, IsLawful, IsReadBa
 use Rattle.rlp_reading.specs.Form as form
 use Rattle.rlp_reading.specs.Sums as sums
 use Rattle.rlp_reading.proofs.StringLaws.{ReadsStrings, array_lawful, bytes_lawful, number_lawful, string_lawful, text_lawful, truth_lawful}
-use Rattle.rlp_reading.proofs.{ListLaws.{holding_lawful, list_lawful, newtype_lawful, option_lawful, read_back}, RawLaws.raw_lawful}
+use Rattle.rlp_reading.proofs.{ListLaws.{list_lawful, option_lawful, read_back, value_lawful}, RawLaws.raw_lawful}
 use Rattle.rlp_reading.proofs.FieldLaws.{each_lawful, end_lawful, field_lawful, group_lawful, optional_group_lawful, optional_lawful}
 use Rattle.rlp_reading.proofs.{StructLaws.struct_lawful, SumLaws.{and_case_lawful, either_lawful, enveloped_lawful, last_case_lawful, tagged_lawful}}
 use Rattle.rlp_reading.proofs.GroupLaws.{groups_lawful}
@@ -85,7 +85,7 @@ option c = lawful (form.option (plain c)) (option_lawful (plain c) c.reads_stric
 
 -- a type that holds a value of another type, and allocates no memory for the value
 abbrev pub newtype : {A B : Type 0} → (B → A) → Codec A → Codec B
-newtype value c = lawful (form.newtype value (plain c)) (newtype_lawful (plain c) value c.reads_strictly)
+newtype value c = lawful (form.newtype value (plain c)) (value_lawful (plain c) value (plain c).reading.takes_memory c.reads_strictly)
 
 -- a type of exactly n bytes
 abbrev pub fixed_bytes : {B : Type 0} → ℕ → (B → List ℕ) → Codec B
@@ -93,7 +93,7 @@ fixed_bytes n bytes = newtype bytes (byte_array n)
 
 -- a type that holds a value of another type in memory of its own, such as a box
 abbrev pub holding : {A B : Type 0} → (B → A) → Codec A → Codec B
-holding value c = lawful (form.holding value (plain c)) (holding_lawful (plain c) value c.reads_strictly)
+holding value c = lawful (form.holding value (plain c)) (value_lawful (plain c) value true c.reads_strictly)
 
 -- a type that contracts see as lists of values
 abbrev pub list_type : {A B : Type 0} → (B → List A) → Codec A → Codec B

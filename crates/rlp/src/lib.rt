@@ -38,7 +38,7 @@ pub use structs::{
     OptionalField, OptionalGroup, decode_struct, put_path_of,
 };
 pub use traits::{
-    Decodable, DecodePlaced, PlacedFault, RoundTrip, Scalar, StrictRead, decode_placed,
+    Decodable, DecodePlaced, PlacedFault, Record, RoundTrip, Scalar, StrictRead, decode_placed,
     put_list_path,
 };
 

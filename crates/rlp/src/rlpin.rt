@@ -7,7 +7,6 @@ mod envelope;
 mod fields;
 mod iter;
 mod rlp;
-mod splitting;
 
 pub use counted_fields::CountedFields;
 pub use decoder::BasicDecoder;

@@ -9,14 +9,12 @@ ghost use Rattle.rlp.specs.Left.{AreFaulty};
 
 mod groups;
 mod optional;
-mod parts;
 mod placed;
 
 use crate::rlpin::{Fields, Rlp};
 use crate::traits::Decodable;
-pub use groups::{FixedFields, Groups};
+pub use groups::{FixedFields, Groups, Joined};
 pub use optional::{OptionalField, OptionalGroup};
-pub use parts::Joined;
 pub use placed::{DecodeFieldsPlaced, put_path_of};
 use rlp_reading::error::DecoderError;
 use std::alloc::Global;

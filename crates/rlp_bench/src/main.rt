@@ -24,6 +24,17 @@ fn tell_day(rt: &HostRuntime) -> io::Result<()> {
     println!(rt; "{blocks} {transactions} {receipts} {logs} {nodes} {bytes} {hashes}")
 }
 
+/// Sums what an operation returns in each turn.
+fn summed<F: FnMut(usize) -> Option<usize>>(times: usize, mut operation: F) -> Option<usize>
+    requires { F.IsAlwaysCallable operation }
+{
+    let mut sum: usize = 0;
+    for turn in 0..times {
+        sum = sum.wrapping_add(operation(turn)?);
+    }
+    Some(sum)
+}
+
 /// Runs an operation on the inputs that are the same each time.
 fn run(alloc: Global, operation: &str, times: usize) -> Option<usize> {
     let inputs = Inputs::new(alloc)?;

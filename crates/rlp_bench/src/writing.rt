@@ -1,7 +1,8 @@
 //! Operations that write.
 
 use crate::inputs::Inputs;
-use rlp::{Encodable, RlpStream, encode, encode_list};
+use crate::summed;
+use rlp::{RlpStream, encode, encode_list};
 use std::alloc::Global;
 
 /// Runs an operation that writes, and returns the sum of the lengths that it wrote.
@@ -11,109 +12,83 @@ pub(crate) fn run(alloc: Global, inputs: &Inputs, operation: &str, times: usize)
         "encode_number" => encode_numbers(alloc, inputs, u64::MAX, times),
         "encode_32_bytes" => encode_text(alloc, inputs, 32, times),
         "encode_1000_bytes" => encode_text(alloc, inputs, 1000, times),
-        "encode_transaction" => encode_value(alloc, &inputs.transaction, times),
-        "encode_block" => encode_block(alloc, inputs, times),
-        "encode_unbounded_list" => encode_unbounded(alloc, inputs, times),
-        "encode_list" => encode_numbers_list(alloc, inputs, times),
-        "append_raw" => append_raw(alloc, inputs, times),
-        "close_nested" => close_nested(alloc, times),
+        "encode_transaction" => summed(times, |_| {
+            Some(encode(alloc, &inputs.transaction).ok()?.as_slice().len())
+        }),
+        "encode_block" => summed(times, |_| block(alloc, inputs)),
+        "encode_unbounded_list" => summed(times, |_| unbounded_list(alloc, inputs)),
+        "encode_list" => summed(times, |_| {
+            Some(
+                encode_list(alloc, inputs.numbers.as_slice())
+                    .ok()?
+                    .as_slice()
+                    .len(),
+            )
+        }),
+        "append_raw" => {
+            let transaction = encode(alloc, &inputs.transaction).ok()?;
+            summed(times, |_| raw_block(alloc, transaction.as_slice()))
+        }
+        "close_nested" => summed(times, |_| Some(closed_at_once(alloc, 200)?.as_raw().len())),
         _ => None,
     }
 }
 
 fn encode_numbers(alloc: Global, inputs: &Inputs, mask: u64, times: usize) -> Option<usize> {
-    let mut sum: usize = 0;
     let numbers = inputs.numbers.as_slice();
-    for turn in 0..times {
+    summed(times, |turn| {
         let number = *numbers.get(turn % 1000)? & mask;
-        sum = sum.wrapping_add(encode(alloc, &number).ok()?.as_slice().len());
-    }
-    Some(sum)
+        Some(encode(alloc, &number).ok()?.as_slice().len())
+    })
 }
 
 fn encode_text(alloc: Global, inputs: &Inputs, len: usize, times: usize) -> Option<usize> {
-    let mut sum: usize = 0;
     let text = inputs.text.as_str().as_bytes();
-    for turn in 0..times {
+    summed(times, |turn| {
         let bytes = text.get(turn % 2..len)?;
-        sum = sum.wrapping_add(encode(alloc, &bytes).ok()?.as_slice().len());
-    }
-    Some(sum)
+        Some(encode(alloc, &bytes).ok()?.as_slice().len())
+    })
 }
 
-fn encode_value<E: Encodable>(alloc: Global, value: &E, times: usize) -> Option<usize> {
-    let mut sum: usize = 0;
-    for _ in 0..times {
-        sum = sum.wrapping_add(encode(alloc, value).ok()?.as_slice().len());
+fn block(alloc: Global, inputs: &Inputs) -> Option<usize> {
+    let mut stream = RlpStream::new_list(alloc, 100).ok()?;
+    for _ in 0..100 {
+        stream.append(&inputs.transaction).ok()?;
     }
-    Some(sum)
+    Some(stream.as_raw().len())
 }
 
-fn encode_block(alloc: Global, inputs: &Inputs, times: usize) -> Option<usize> {
-    let mut sum: usize = 0;
-    for _ in 0..times {
-        let mut stream = RlpStream::new_list(alloc, 100).ok()?;
-        for _ in 0..100 {
-            stream.append(&inputs.transaction).ok()?;
+fn unbounded_list(alloc: Global, inputs: &Inputs) -> Option<usize> {
+    let mut stream = RlpStream::new(alloc).ok()?;
+    stream.begin_unbounded_list().ok()?;
+    for number in inputs.numbers.as_slice() {
+        stream.append(number).ok()?;
+    }
+    if !stream.can_finalize() {
+        return None;
+    }
+    stream.finalize_unbounded_list().ok()?;
+    Some(stream.as_raw().len())
+}
+
+fn raw_block(alloc: Global, transaction: &[u8]) -> Option<usize> {
+    let mut stream = RlpStream::new_list(alloc, 100).ok()?;
+    for _ in 0..100 {
+        match stream.items_awaited() {
+            Some(awaited) if awaited < 1 => return None,
+            _ => {}
         }
-        sum = sum.wrapping_add(stream.as_raw().len());
+        stream.append_raw(transaction, 1).ok()?;
     }
-    Some(sum)
+    Some(stream.as_raw().len())
 }
 
-fn encode_unbounded(alloc: Global, inputs: &Inputs, times: usize) -> Option<usize> {
-    let mut sum: usize = 0;
-    for _ in 0..times {
-        let mut stream = RlpStream::new(alloc).ok()?;
-        stream.begin_unbounded_list().ok()?;
-        for number in inputs.numbers.as_slice() {
-            stream.append(number).ok()?;
-        }
-        if !stream.can_finalize() {
-            return None;
-        }
-        stream.finalize_unbounded_list().ok()?;
-        sum = sum.wrapping_add(stream.as_raw().len());
+/// This many lists, each in the one before, which the last call closes.
+pub(crate) fn closed_at_once(alloc: Global, size: usize) -> Option<RlpStream> {
+    let mut stream = RlpStream::new(alloc).ok()?;
+    for _ in 0..size {
+        stream.begin_list(1).ok()?;
     }
-    Some(sum)
-}
-
-fn encode_numbers_list(alloc: Global, inputs: &Inputs, times: usize) -> Option<usize> {
-    let mut sum: usize = 0;
-    for _ in 0..times {
-        let bytes = encode_list(alloc, inputs.numbers.as_slice()).ok()?;
-        sum = sum.wrapping_add(bytes.as_slice().len());
-    }
-    Some(sum)
-}
-
-fn append_raw(alloc: Global, inputs: &Inputs, times: usize) -> Option<usize> {
-    let mut sum: usize = 0;
-    let transaction = rlp::encode(alloc, &inputs.transaction).ok()?;
-    let transaction = transaction.as_slice();
-    for _ in 0..times {
-        let mut stream = RlpStream::new_list(alloc, 100).ok()?;
-        for _ in 0..100 {
-            match stream.items_awaited() {
-                Some(awaited) if awaited < 1 => return None,
-                _ => {}
-            }
-            stream.append_raw(transaction, 1).ok()?;
-        }
-        sum = sum.wrapping_add(stream.as_raw().len());
-    }
-    Some(sum)
-}
-
-fn close_nested(alloc: Global, times: usize) -> Option<usize> {
-    let mut sum: usize = 0;
-    for _ in 0..times {
-        let mut stream = RlpStream::new(alloc).ok()?;
-        for _ in 0..200 {
-            stream.begin_list(1).ok()?;
-        }
-        stream.append(&"cat").ok()?;
-        sum = sum.wrapping_add(stream.as_raw().len());
-    }
-    Some(sum)
+    stream.append(&"cat").ok()?;
+    Some(stream)
 }

@@ -1,19 +1,20 @@
 -- What a key signs for one purpose is not signed for another.
-use Rattle.std.proofs.Common.{◌≡◌, ◌≢◌, ℕ, ◌+◌, ◌*◌, ◌<◌, ◌≤◌, ◌^◌, ◌&&◌, nat_lt, ltb-true, Bool, true, false, IsTrue, List, [], ◌∷◌, ◌++◌, length, None, Some, Option, refl, sym, ap, ◌∙◌, arith, inl, inr, ⊎_elim, ◌⊎◌}
+use Rattle.std.proofs.Common.{ℕ, ⊎_elim, ◌&&◌, ◌*◌, ◌++◌, ◌+◌, ◌<◌, ◌^◌, ◌∙◌, ◌∷◌, ◌≡◌, ◌≢◌, ◌≤◌, ◌⊎◌, Bool, IsTrue, List, None, Option, Some, [], ap, arith, false, inl, inr, length, ltb-true, nat_lt, refl, sym, true}
 use Rattle.std.proofs.lemmas.Bool.Decides.{eqb_tells}
 use Rattle.std.specs.{Cmp.Lexicographic.slice_cmp, Ordering.{is_lt, nat_cmp}, Vec.vec_items}
-use Rattle.rlp_records.specs.{Keccak.keccak256, OtherEnvelope.{IsOther, authorization_magic, is_other_type, other_type}}
+use Rattle.rlp_format.proofs.Lemmas.Encodings.{first_of_header, list_written, listed_from}
+use Rattle.rlp_reading.proofs.Lemmas.Items.{encoding_same}
 use Rattle.rlp.specs.Format.Encoding.{IsSized, Item, Items, encoding, items_from, list, list_of, listed, string}
 use Rattle.rlp.specs.Values.Value.{all_items, items_if, number_item}
-use Rattle.rlp_format.proofs.Lemmas.Encodings.{encoding_same, first_of_header, list_written, listed_from}
-use Rattle.rlp_reading.proofs.Lemmas.Groups.{groups_counted}
-use Rattle.rlp_node_record.specs.{NodeFields.{pair_fields, signed_item}, NodeRecord.{AreInOrder, IsNodeRecord, keys_of, keys_rise}}
-use Rattle.rlp_node_record.specs.{declared.node_fields.NodeFields.NodeFields, declared.node_fields.NodePair.NodePair}
+use Rattle.rlp_reading.proofs.GroupLaws.{groups_counted}
+use Rattle.rlp_records.specs.{Keccak.keccak256, OtherEnvelope.{IsOther, authorization_magic, is_other_type, other_type}}
 use Rattle.rlp_transactions.proofs.Signing.{one_meaning}
+use Rattle.rlp_transactions.specs.LegacyTransaction.{chain_fields, legacy_transaction_fields}
 use Rattle.rlp_transactions.specs.Signing.{FitsSigning, Signable, a_transaction, an_authorization, signed_bytes}
-use Rattle.rlp_transactions.specs.{LegacyTransaction.legacy_transaction_fields, UnsignedLegacyTransaction.chain_fields}
 use Rattle.rlp_transactions.specs.declared.legacy_transaction.LegacyTransaction.{LegacyTransaction}
 use Rattle.rlp_transactions.specs.declared.unsigned_transaction.UnsignedTransaction.TheVariants.{AccessList, Blob, FeeMarket, Legacy, SetCode}
+use Rattle.rlp_node_record.specs.{NodeFields.{pair_fields, signed_item}, NodeRecord.{AreInOrder, IsNodeRecord, keys_of, keys_rise}}
+use Rattle.rlp_node_record.specs.{declared.node_fields.NodeFields.NodeFields, declared.node_fields.NodePair.NodePair}
 use Rattle.rlp_blocks.specs.SignedContent.{AreCollision, FitsContent, MeanTheSame, SignedContent, content_bytes, of_account, of_message, of_node, of_other}
 
 -- ---- lists begin with no byte below 0x80

@@ -1,10 +1,9 @@
-//! Blocks.
+//! Blocks, and their bodies.
 
-ghost use Rattle.rlp_blocks.specs.Block.{block};
+ghost use Rattle.rlp_blocks.specs.Block.{block, body};
 
 use rlp::{
-    Decodable, DecodePlaced, DecoderError, Encodable, ListField, ListOf, Optional, OptionalField,
-    Rlp, RlpStream, RoundTrip, StrictRead,
+    DecoderError, Encodable, ListField, ListOf, Optional, OptionalField, Record, Rlp, RlpStream,
 };
 use rlp_headers::{Header, Withdrawals};
 use rlp_transactions::AnyTransaction;
@@ -39,7 +38,7 @@ impl Encodable for Block {
     }
 }
 
-impl Decodable for Block {
+impl Record for Block {
     ghost reading = { block.reading };
 
     fn decode(alloc: Global, rlp: &Rlp<'_>) -> Result<Block, DecoderError> {
@@ -54,21 +53,64 @@ impl Decodable for Block {
             }
         )
     }
-}
 
-impl DecodePlaced for Block {
     fn put_path(alloc: Global, rlp: &Rlp<'_>, path: &mut Vec<usize>) -> Result<(), AllocError> {
         rlp::put_struct_path!(
             alloc, rlp, path, Header, ListField<AnyTransaction>, ListField<Header>;
             OptionalField<Withdrawals>
         )
     }
+
+    ghost lawful = { block.reads_strictly };
 }
 
-impl RoundTrip for Block {
-    ghost round_trip = { block.reads_back };
+/// The body of a block: the list of two fields, or since Shanghai of three, as in EIP-4895.
+#[derive(Debug, Clone, PartialEq, Eq, Drop)]
+pub struct Body {
+    /// The transactions, in order.
+    pub transactions: Vec<AnyTransaction>,
+    /// The headers of the ommers. No block has ommers since EIP-3675.
+    pub ommers: Vec<Header>,
+    /// The withdrawals from the beacon chain, in order, or `None` in blocks before Shanghai.
+    pub withdrawals: Option<Withdrawals>,
 }
 
-impl StrictRead for Block {
-    ghost strict = { block.reads_strictly };
+impl Encodable for Body {
+    ghost item = { body.item };
+
+    ghost fits = { body.Fits };
+
+    fn rlp_append(&self, s: &mut RlpStream) -> Result<(), AllocError> {
+        rlp::append_fields!(
+            s,
+            ListOf(&self.transactions),
+            ListOf(&self.ommers),
+            Optional(&self.withdrawals)
+        )
+    }
+}
+
+impl Record for Body {
+    ghost reading = { body.reading };
+
+    fn decode(alloc: Global, rlp: &Rlp<'_>) -> Result<Body, DecoderError> {
+        rlp::decode_fields!(
+            alloc,
+            rlp,
+            Body {
+                transactions: [..],
+                ommers: [..],
+                withdrawals: ?
+            }
+        )
+    }
+
+    fn put_path(alloc: Global, rlp: &Rlp<'_>, path: &mut Vec<usize>) -> Result<(), AllocError> {
+        rlp::put_struct_path!(
+            alloc, rlp, path, ListField<AnyTransaction>, ListField<Header>;
+            OptionalField<Withdrawals>
+        )
+    }
+
+    ghost lawful = { body.reads_strictly };
 }

@@ -2,8 +2,6 @@
 #![tactic(auto)]
 
 mod block;
-mod body;
 pub mod laws;
 
-pub use block::Block;
-pub use body::Body;
+pub use block::{Block, Body};

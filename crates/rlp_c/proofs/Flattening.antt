@@ -2,7 +2,7 @@
 use Rattle.std.proofs.Common.{◌≡◌, ℕ, ◌<◌, ◌≤◌, List, Some, length, refl, subst, arith}
 use Rattle.rlp_c.specs.{declared.item.RlpItem.RlpItem, Flat.{IsFlattened, filled, flat, no_room, refused, row_of}, Status.tree_status}
 use Rattle.rlp_reading.specs.{declared.flat.TreeFault.TreeFault, Format.Framing.IsCanonicalWithin, Format.TreeFaults.tree_fault, Format.Walk.IsWalked}
-use Rattle.rlp_reading.proofs.Trees.Rows.{extends_start}
+use Rattle.rlp_reading.proofs.Trees.Walks.{extends_start}
 
 pub flattened : (lim most : ℕ) (b : List ℕ) (old new : List RlpItem) (old_count n : ℕ) → lim ≡ most → IsWalked row_of b 0 0 lim old 0 new n → n ≤ length new
     → IsFlattened most b old new old_count n 0

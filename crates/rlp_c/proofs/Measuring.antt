@@ -1,5 +1,5 @@
 -- A tree that is gone through from its last row on.
-use Rattle.std.proofs.Common.{◌≡◌, ◌≢◌, ℕ, ◌+◌, ◌-◌, ◌<◌, ◌≤◌, ⊎_elim, List, [], ◌∷◌, ◌++◌, length, take, drop, get_or, set, replicate, refl, sym, ap, ◌∙◌, subst, arith}
+use Rattle.std.proofs.Common.{◌≡◌, ◌≢◌, ℕ, ◌+◌, ◌-◌, ◌^◌, ◌<◌, ◌≤◌, ⊎_elim, List, [], ◌∷◌, ◌++◌, length, take, drop, get_or, set, replicate, refl, sym, ap, ◌∙◌, subst, arith}
 use Rattle.std.proofs.{Common.{append-nil, append_assoc, length-append}, lemmas.Bool.{cases_eq, cases_lt}}
 use Rattle.std.proofs.lemmas.List.{drop_at, get_or-replicate, get_or-set_other, get_or-set_same, length-replicate, length-set, length-take-le, take-append-drop, take-append-le, take-take, take_all, take_more}
 use Rattle.rlp_format.specs.Format.Encoding.{encoding}
@@ -7,32 +7,27 @@ use Rattle.rlp_c.specs.{declared.item.RlpItem.RlpItem, Tree.{AreRows, DescribeTr
 use Rattle.rlp_c.proofs.Trees.{behind-most, encoding-front, level, level-behind, level-deeper, level-here}
 use Rattle.rlp_c.proofs.Trees.{level-inside, level-within, rows-longer, rows-tree, rows_encoding}
 
--- the last rows were gone through: the sizes of their items by depth, and the length of what is written for them
-pub record IsMeasured (b : List ℕ) (items rest : List RlpItem) (sizes : List ℕ) (len : ℕ) : Type 0 where
+-- What is written for the last rows stands in front of this end, if the array reaches it, and all else is as it was. The sizes are those of the rows' items by depth.
+pub record IsWriting (b : List ℕ) (items rest : List RlpItem) (sizes old : List ℕ) (end place : ℕ) (new : List ℕ) : Type 0 where
   pub done : List RlpItem
   pub all : rest ++ done ≡ items
   pub wide : length sizes ≡ 258
   pub by_depth : (e : ℕ) → e ≤ 257 → get_or sizes e 0 ≡ length (level b e done)
-  pub counted : len ≡ length (rows_encoding b done)
-
--- the row in front of them
-pub record IsNext (b : List ℕ) (items : List RlpItem) (r : RlpItem) (sizes : List ℕ) (len front : ℕ) : Type 0 where
-  pub low : r.depth ≤ 256
-  pub within : r.is_list ≡ 0 → r.offset + r.header_len + r.payload_len ≤ length b
-  pub fits : front + get_or sizes (r.depth + 1) 0 + get_or sizes r.depth 0 ≤ len + front
-  pub bounded : len + front ≤ length (encoding (tree_of b items))
+  pub at : place + length (rows_encoding b done) ≡ end
+  pub written : end ≤ length old → new ≡ take place old ++ (rows_encoding b done ++ drop end old)
 
 level-zero : (b : List ℕ) (e : ℕ) → length (level b e []) ≡ 0
 unfolding items_of encoding
 level-zero b e = refl
 
-pub measured_none : (b : List ℕ) (items : List RlpItem) → IsMeasured b items items (replicate 258 0) 0
-measured_none b items = record {
+pub writing_none : (b : List ℕ) (items : List RlpItem) (old : List ℕ) (end : ℕ) → IsWriting b items items (replicate 258 0) old end end old
+writing_none b items old end = record {
   done = [];
   all = append-nil items;
   wide = length-replicate {A = ℕ} 258 0;
   by_depth = λ e low. get_or-replicate 258 e 0 0 (omega (arith, low)) ∙ sym (level-zero b e);
-  counted = refl;
+  at = let same : end + 0 ≡ end = omega arith in same;
+  written = λ room. sym (take-append-drop end old);
 }
 
 -- the last of some rows, and those before it
@@ -65,65 +60,61 @@ among_all : (b : List ℕ) (items before done : List RlpItem) (r : RlpItem) → 
 among_all b items before done r tree all =
     among 256 (length b) 0 0 before r done (subst (λ rows. AreRows 256 (length b) 0 0 rows) (sym all) tree.fit)
 
-module _ (b : List ℕ) (items rest before : List RlpItem) (r : RlpItem) (sizes : List ℕ) (len : ℕ)
-    (tree : DescribeTree 256 b items) (m : IsMeasured b items rest sizes len) (is : rest ≡ before ++ r ∷ []) where
-  abbrev all_again : before ++ r ∷ m.done ≡ items
-  all_again = split_again items rest before m.done r m.all is
+module _ (b : List ℕ) (items rest before : List RlpItem) (r : RlpItem) (sizes old : List ℕ) (end place : ℕ) (out : List ℕ)
+    (tree : DescribeTree 256 b items) (w : IsWriting b items rest sizes old end place out) (is : rest ≡ before ++ r ∷ []) where
+  abbrev all_again : before ++ r ∷ w.done ≡ items
+  all_again = split_again items rest before w.done r w.all is
 
-  abbrev here : IsAmong 256 (length b) r m.done
-  here = among_all b items before m.done r tree all_again
+  abbrev here : IsAmong 256 (length b) r w.done
+  here = among_all b items before w.done r tree all_again
 
-  -- its depth, before its length is known
   pub next_low : r.depth ≤ 256
   next_low = omega (arith, here.fit.0.shallow, behind-most r)
 
   pub next_within : r.is_list ≡ 0 → r.offset + r.header_len + r.payload_len ≤ length b
   next_within = here.fit.0.within
 
-  inside_is : get_or sizes (r.depth + 1) 0 ≡ length (level b (r.depth + 1) m.done)
-  inside_is = m.by_depth (r.depth + 1) (omega (arith, next_low))
+  -- what is written for the row itself
+  abbrev front : List ℕ
+  front = front_of b r (get_or sizes (r.depth + 1) 0)
 
-  front_is : (front : ℕ) → front ≡ length (front_of b r (get_or sizes (r.depth + 1) 0)) → front ≡ length (front_of b r (length (level b (r.depth + 1) m.done)))
-  front_is front same = same ∙ ap (λ n. length (front_of b r n)) inside_is
+  inside_is : get_or sizes (r.depth + 1) 0 ≡ length (level b (r.depth + 1) w.done)
+  inside_is = w.by_depth (r.depth + 1) (omega (arith, next_low))
 
-  longer : (front : ℕ) → front ≡ length (front_of b r (get_or sizes (r.depth + 1) 0)) → len + front ≡ length (rows_encoding b (r ∷ m.done))
-  longer front same = omega (
-    arith,
-    m.counted,
-    front_is front same,
-    length-append (front_of b r (length (level b (r.depth + 1) m.done))) (rows_encoding b m.done),
-  )
+  with_front : front ++ rows_encoding b w.done ≡ rows_encoding b (r ∷ w.done)
+  with_front = ap (λ n. front_of b r n ++ rows_encoding b w.done) inside_is
+
+  longer : length front + length (rows_encoding b w.done) ≡ length (rows_encoding b (r ∷ w.done))
+  longer = omega (arith, ap length with_front, length-append front (rows_encoding b w.done))
 
   -- the size of the items of its depth
-  size_is : (front : ℕ) → front ≡ length (front_of b r (get_or sizes (r.depth + 1) 0))
-      → front + get_or sizes (r.depth + 1) 0 + get_or sizes r.depth 0 ≡ length (level b r.depth (r ∷ m.done))
-  size_is front same =
-      let inner : List ℕ = level b (r.depth + 1) m.done in
+  size_is : length front + get_or sizes (r.depth + 1) 0 + get_or sizes r.depth 0 ≡ length (level b r.depth (r ∷ w.done))
+  size_is =
+      let inner : List ℕ = level b (r.depth + 1) w.done in
       let written : List ℕ = front_of b r (length inner) in
       omega (
         arith,
-        front_is front same,
+        ap (λ n. length (front_of b r n)) inside_is,
         inside_is,
-        m.by_depth r.depth (omega (arith, next_low)),
-        ap length (level-here b r m.done),
-        length-append (encoding (item_of b r (items_of b (r.depth + 1) m.done))) (level b r.depth m.done),
-        ap length (encoding-front b 256 (length b) r m.done here.fit.1),
+        w.by_depth r.depth (omega (arith, next_low)),
+        ap length (level-here b r w.done),
+        length-append (encoding (item_of b r (items_of b (r.depth + 1) w.done))) (level b r.depth w.done),
+        ap length (encoding-front b 256 (length b) r w.done here.fit.1),
         length-append written inner,
       )
 
-  pub next_row : (front : ℕ) → front ≡ length (front_of b r (get_or sizes (r.depth + 1) 0)) → IsNext b items r sizes len front
-  next_row front same = record {
-    low = next_low;
-    within = next_within;
-    fits = omega (arith, size_is front same, longer front same, level-within b 256 (length b) here.least here.most r m.done here.fit);
-    bounded = omega (
-      arith,
-      longer front same,
-      rows-longer b before (r ∷ m.done),
-      ap (λ rows. length (rows_encoding b rows)) all_again,
-      ap length (rows-tree b 256 items tree),
-    );
-  }
+  bounded : length (rows_encoding b (r ∷ w.done)) ≤ length (encoding (tree_of b items))
+  bounded =
+      omega (arith, rows-longer b before (r ∷ w.done), ap (λ rows. length (rows_encoding b rows)) all_again, ap length (rows-tree b 256 items tree))
+
+  -- the whole is too long if the row is
+  pub too_long : place < length front → end < length (encoding (tree_of b items))
+  too_long full = omega (arith, full, longer, bounded, w.at)
+
+  pub size_fits : (start : ℕ) → start + length front ≡ place → end < 2 ^ 64
+      → place - start + get_or sizes (r.depth + 1) 0 + get_or sizes r.depth 0 < 2 ^ 64
+  size_fits start at small =
+      omega (arith, at, small, size_is, longer, w.at, level-within b 256 (length b) here.least here.most r w.done here.fit)
 
   -- the sizes with the row
   abbrev put : ℕ → List ℕ
@@ -132,103 +123,65 @@ module _ (b : List ℕ) (items rest before : List RlpItem) (r : RlpItem) (sizes 
   other_size : (size e : ℕ) → e ≢ r.depth + 1 → e ≢ r.depth → get_or (put size) e 0 ≡ get_or sizes e 0
   other_size size e ne ne' = get_or-set_other (set sizes r.depth size) (r.depth + 1) e 0 0 ne ∙ get_or-set_other sizes r.depth e size 0 ne'
 
-  none_inside : (e : ℕ) → r.depth + 1 < e → level b e m.done ≡ []
-  none_inside e deep = level-inside b 256 (length b) 1 (depth_behind r) e m.done here.fit.1 (omega (arith, deep, behind-most r))
+  none_inside : (e : ℕ) → r.depth + 1 < e → level b e w.done ≡ []
+  none_inside e deep = level-inside b 256 (length b) 1 (depth_behind r) e w.done here.fit.1 (omega (arith, deep, behind-most r))
 
-  by_depth_put : (front size : ℕ) → front ≡ length (front_of b r (get_or sizes (r.depth + 1) 0))
-      → size ≡ front + get_or sizes (r.depth + 1) 0 + get_or sizes r.depth 0 → (e : ℕ) → e ≤ 257 → get_or (put size) e 0 ≡ length (level b e (r ∷ m.done))
-  by_depth_put front size same sum e low =
+  by_depth_put : (size : ℕ) → size ≡ length front + get_or sizes (r.depth + 1) 0 + get_or sizes r.depth 0 → (e : ℕ) → e ≤ 257 → get_or (put size) e 0 ≡ length (level b e (r ∷ w.done))
+  by_depth_put size sum e low =
       ⊎_elim
       (λ inner. ap (λ k. get_or (put size) k 0) inner
-      ∙ get_or-set_same (set sizes r.depth size) (r.depth + 1) 0 0 (omega (arith, m.wide, length-set sizes r.depth size, next_low))
-      ∙ sym (ap length (level-deeper b e r m.done (omega (arith, inner)))))
+      ∙ get_or-set_same (set sizes r.depth size) (r.depth + 1) 0 0 (omega (arith, w.wide, length-set sizes r.depth size, next_low))
+      ∙ sym (ap length (level-deeper b e r w.done (omega (arith, inner)))))
       (λ ne. ⊎_elim
       (λ same_depth. ap (λ k. get_or (put size) k 0) same_depth
       ∙ get_or-set_other (set sizes r.depth size) (r.depth + 1) r.depth 0 0 (λ no. omega (arith, no))
-      ∙ get_or-set_same sizes r.depth size 0 (omega (arith, m.wide, next_low))
-      ∙ sum ∙ size_is front same
-      ∙ ap (λ k. length (level b k (r ∷ m.done))) (sym same_depth))
-      (λ ne'. other_size size e ne ne' ∙ m.by_depth e low ∙ ⊎_elim
-      (λ less. ap length (sym (level-behind b e r m.done less)))
+      ∙ get_or-set_same sizes r.depth size 0 (omega (arith, w.wide, next_low))
+      ∙ sum ∙ size_is
+      ∙ ap (λ k. length (level b k (r ∷ w.done))) (sym same_depth))
+      (λ ne'. other_size size e ne ne' ∙ w.by_depth e low ∙ ⊎_elim
+      (λ less. ap length (sym (level-behind b e r w.done less)))
       (λ more.
       let deep : r.depth + 1 < e = omega (arith, more, ne, ne') in
-      ap length (none_inside e deep) ∙ sym (ap length (level-deeper b e r m.done (omega (arith, deep)))))
+      ap length (none_inside e deep) ∙ sym (ap length (level-deeper b e r w.done (omega (arith, deep)))))
       (cases_lt e r.depth))
       (cases_eq e r.depth))
       (cases_eq e (r.depth + 1))
 
-  pub measured_one : (front size total : ℕ) (new : List ℕ) → front ≡ length (front_of b r (get_or sizes (r.depth + 1) 0))
-      → size ≡ front + get_or sizes (r.depth + 1) 0 + get_or sizes r.depth 0 → new ≡ put size → total ≡ len + front → IsMeasured b items before new total
-  measured_one front size total new same sum is_put all = record {
-    done = r ∷ m.done;
-    all = all_again;
-    wide = ap length is_put ∙ length-set (set sizes r.depth size) (r.depth + 1) 0 ∙ length-set sizes r.depth size ∙ m.wide;
-    by_depth = λ e low. ap (λ s. get_or s e 0) is_put ∙ by_depth_put front size same sum e low;
-    counted = all ∙ longer front same;
-  }
-
-  -- what is written for the row, by the sizes
-  front_by : front_of b r (get_or sizes (r.depth + 1) 0) ≡ front_of b r (length (level b (r.depth + 1) m.done))
-  front_by = ap (front_of b r) inside_is
-
   -- the row is written in front of the others
-  pub written_one : (old out new : List ℕ) (end place start : ℕ) → end ≤ length old → place ≤ end
-      → out ≡ take place old ++ (rows_encoding b m.done ++ drop end old)
-      → start + length (front_of b r (get_or sizes (r.depth + 1) 0)) ≡ place
-      → new ≡ take start out ++ (front_of b r (get_or sizes (r.depth + 1) 0) ++ drop place out)
-      → new ≡ take start old ++ (rows_encoding b (r ∷ m.done) ++ drop end old)
-  written_one old out new end place start room early was at is =
-      let front : List ℕ = front_of b r (get_or sizes (r.depth + 1) 0) in
-      let rest : List ℕ = rows_encoding b m.done ++ drop end old in
-      let long : length (take place old) ≡ place = length-take-le place old (omega (arith, room, early)) in
+  written_one : (start : ℕ) (new : List ℕ) → start + length front ≡ place → (place ≤ length out → new ≡ take start out ++ (front ++ drop place out))
+      → end ≤ length old → new ≡ take start old ++ (rows_encoding b (r ∷ w.done) ++ drop end old)
+  written_one start new at put_front room =
+      let rest : List ℕ = rows_encoding b w.done ++ drop end old in
+      let was : out ≡ take place old ++ rest = w.written room in
+      let long : length (take place old) ≡ place = length-take-le place old (omega (arith, room, w.at)) in
+      let within : place ≤ length out = omega (arith, ap length was, length-append (take place old) rest, long) in
       let before : take start out ≡ take start old =
       ap (take start) was ∙ take-append-le start (take place old) rest (omega (arith, long, at)) ∙ take-take start place old (omega (arith, at)) in
       let behind : drop place out ≡ rest = ap (drop place) was ∙ drop_at (take place old) rest place long in
-      is ∙ ap (λ s. s ++ (front ++ drop place out)) before ∙ ap (λ s. take start old ++ (front ++ s)) behind
-      ∙ ap (λ s. take start old ++ s) (sym (append_assoc front (rows_encoding b m.done) (drop end old)))
-      ∙ ap (λ f. take start old ++ ((f ++ rows_encoding b m.done) ++ drop end old)) front_by
+      put_front within ∙ ap (λ s. s ++ (front ++ drop place out)) before ∙ ap (λ s. take start old ++ (front ++ s)) behind
+      ∙ ap (λ s. take start old ++ s) (sym (append_assoc front (rows_encoding b w.done) (drop end old)))
+      ∙ ap (λ f. take start old ++ (f ++ drop end old)) with_front
 
--- all rows were gone through
-pub measured_all : (b : List ℕ) (items : List RlpItem) (sizes : List ℕ) (len : ℕ) → DescribeTree 256 b items → IsMeasured b items [] sizes len
-    → len ≡ length (encoding (tree_of b items))
-measured_all b items sizes len tree m = m.counted ∙ ap (λ rows. length (rows_encoding b rows)) m.all ∙ ap length (rows-tree b 256 items tree)
-
--- what was written for the last rows stands in front of this end, and all else is as it was
-pub record IsWriting (b : List ℕ) (items rest : List RlpItem) (sizes old : List ℕ) (end place : ℕ) (new : List ℕ) : Type 0 where
-  pub len : ℕ
-  pub measured : IsMeasured b items rest sizes len
-  pub at : place + len ≡ end
-  pub written : new ≡ take place old ++ (rows_encoding b measured.done ++ drop end old)
-
-pub writing_none : (b : List ℕ) (items : List RlpItem) (old : List ℕ) (end : ℕ) → IsWriting b items items (replicate 258 0) old end end old
-unfolding measured_none
-writing_none b items old end = record {
-  len = 0;
-  measured = measured_none b items;
-  at = let same : end + 0 ≡ end = omega arith in same;
-  written = sym (take-append-drop end old);
-}
-
--- one more row was written
-pub writing_one : (b : List ℕ) (items rest before : List RlpItem) (r : RlpItem) (sizes old : List ℕ) (end place : ℕ) (out : List ℕ)
-    → DescribeTree 256 b items → (w : IsWriting b items rest sizes old end place out) → rest ≡ before ++ r ∷ [] → end ≤ length old
-    → (start size : ℕ) (new sizes' : List ℕ) → start + length (front_of b r (get_or sizes (r.depth + 1) 0)) ≡ place
-    → new ≡ take start out ++ (front_of b r (get_or sizes (r.depth + 1) 0) ++ drop place out)
-    → size ≡ place - start + get_or sizes (r.depth + 1) 0 + get_or sizes r.depth 0 → sizes' ≡ set (set sizes r.depth size) (r.depth + 1) 0
-    → IsWriting b items before sizes' old end start new
-unfolding measured_one
-writing_one b items rest before r sizes old end place out tree w is room start size new sizes' at put sum is_put = record {
-  len = w.len + (place - start);
-  measured = measured_one b items rest before r sizes w.len tree w.measured is (place - start) size (w.len + (place - start)) sizes'
-      (omega (arith, at)) sum is_put refl;
-  at = omega (arith, w.at, at);
-  written = written_one b items rest before r sizes w.len tree w.measured is old out new end place start room (omega (arith, w.at)) w.written at put;
-}
+  pub writing_one : (start size : ℕ) (new sizes' : List ℕ) → start + length front ≡ place
+      → (place ≤ length out → new ≡ take start out ++ (front ++ drop place out))
+      → size ≡ place - start + get_or sizes (r.depth + 1) 0 + get_or sizes r.depth 0 → sizes' ≡ put size → IsWriting b items before sizes' old end start new
+  writing_one start size new sizes' at put_front sum is_put = record {
+    done = r ∷ w.done;
+    all = all_again;
+    wide = ap length is_put ∙ length-set (set sizes r.depth size) (r.depth + 1) 0 ∙ length-set sizes r.depth size ∙ w.wide;
+    by_depth = λ e low. ap (λ s. get_or s e 0) is_put ∙ by_depth_put size (omega (arith, sum, at)) e low;
+    at = omega (arith, at, longer, w.at);
+    written = written_one start new at put_front;
+  }
 
 -- the whole tree was written
-pub writing_all : (b : List ℕ) (items : List RlpItem) (sizes old : List ℕ) (end place : ℕ) (new : List ℕ) → DescribeTree 256 b items
-    → end ≡ length (encoding (tree_of b items)) → IsWriting b items [] sizes old end place new → new ≡ encoding (tree_of b items) ++ drop end old
-writing_all b items sizes old end place new tree whole w =
-    let first : place ≡ 0 = omega (arith, w.at, measured_all b items sizes w.len tree w.measured, whole) in
-    w.written ∙ ap (λ n. take n old ++ (rows_encoding b w.measured.done ++ drop end old)) first
-    ∙ ap (λ s. s ++ drop end old) (ap (rows_encoding b) w.measured.all ∙ rows-tree b 256 items tree)
+module _ (b : List ℕ) (items : List RlpItem) (sizes old : List ℕ) (end place : ℕ) (new : List ℕ)
+    (tree : DescribeTree 256 b items) (w : IsWriting b items [] sizes old end place new) where
+  whole : rows_encoding b w.done ≡ encoding (tree_of b items)
+  whole = ap (rows_encoding b) w.all ∙ rows-tree b 256 items tree
+
+  pub all_placed : place + length (encoding (tree_of b items)) ≡ end
+  all_placed = omega (arith, w.at, ap length whole)
+
+  pub all_written : end ≤ length old → new ≡ take place old ++ (encoding (tree_of b items) ++ drop end old)
+  all_written room = w.written room ∙ ap (λ e. take place old ++ (e ++ drop end old)) whole

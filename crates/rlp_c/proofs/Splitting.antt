@@ -4,10 +4,9 @@ use Rattle.std.proofs.Common.{subst, arith, Ok, Some, None, append-nil, append_a
 use Rattle.rlp_reading.specs.{declared.error.DecoderError.DecoderError, declared.header.PayloadInfo.PayloadInfo}
 use Rattle.rlp_reading.specs.Format.Framing.{IsFramedItem, fault, framing, value, begins_as_list, split, after_items, fault_of_some, strict_fault, strict_list_fault}
 use Rattle.rlp_reading.specs.Format.Walk.{Extends}
-use Rattle.rlp_reading.proofs.Format.Splits.{split-nil}
-use Rattle.rlp_reading.proofs.Format.StrictLists.{after_items-next, after_items-nil, after_items-none, fault_of_some-some, some_bytes}
-use Rattle.rlp_reading.proofs.{Format.StrictLists.{strict_not_begun, strict_not_whole, strict_whole, value-items}, Trees.Needless.whole_item}
-use Rattle.rlp_reading.proofs.{Trees.Rows.{extends_both, extends_start}, Trees.Walks.content_payload}
+use Rattle.rlp_reading.proofs.Lemmas.Numbered.{split-nil, after_items-next, after_items-nil, after_items-none, fault_of_some-some, some_bytes}
+use Rattle.rlp_reading.proofs.{Lemmas.Numbered.{strict_not_begun, strict_not_whole, strict_whole, value-items}, Trees.Needless.whole_item}
+use Rattle.rlp_reading.proofs.Trees.Walks.{extends_both, extends_start, content_payload}
 use Rattle.rlp_c.specs.{declared.item.RlpItem.RlpItem, Rows.{ArePlaced, IsItemized, header_length, row, row_by, rows_at}, Status.fault_status}
 use Rattle.std.specs.List.{concat}
 
@@ -115,8 +114,8 @@ module _ (place : ℕ) (b q : List ℕ) (h : PayloadInfo) (kind : true ≡ begin
   -- the payload ends within the bytes
   pub payload_fits : value b ≡ Ok q → IsFramedItem b → framing b ≡ Ok h → place + length b < 2 ^ 64 → place + h.header_len + length q < 2 ^ 64
   payload_fits found framed header small =
-      let w = whole_item b h q framed header found in
-      let same = content_payload b h q w kind found in
+      let w = whole_item framed header found in
+      let same = content_payload w kind found in
       omega (arith, small, w.whole, same.1, ap length same.0)
 
   -- the answer for a list

@@ -3,7 +3,7 @@ use Rattle.std.proofs.Common.{◌≡◌, ℕ, ◌^◌, ◌<◌, ◌+◌, List, l
 use Rattle.std.proofs.lemmas.Bool.{cond-true}
 use Rattle.rlp_reading.specs.{declared.error.DecoderError.DecoderError, declared.header.PayloadInfo.PayloadInfo}
 use Rattle.rlp_reading.specs.Format.Framing.{framing, framing_in, header, payload_info, IsString}
-use Rattle.rlp_reading.proofs.Trees.Placed.{Ok_same, string_placed}
+use Rattle.rlp_reading.proofs.Trees.Needless.{Ok_same, string_placed}
 use Rattle.rlp_c.specs.{declared.item.RlpItem.RlpItem, Rows.{IsRowOfString, row}}
 
 -- the header that was read, for the string

@@ -2,7 +2,7 @@
 use Rattle.std.proofs.Common.{◌≡◌, ℕ, ◌+◌, ◌-◌, ◌^◌, ◌<◌, ◌≤◌, List, [], ◌∷◌, ◌++◌, length, take, drop, map, codes, sym, ap, ◌∙◌, subst, arith}
 use Rattle.std.proofs.{Common.{append_assoc, length-append}, lemmas.List.{drop-drop, drop_at, length-take-le, take_at}}
 use Rattle.rlp_reading.specs.{Format.Framing.{items, split}, Views.Text.{separated, text}}
-use Rattle.rlp_reading.proofs.Views.Printing.{done-more, separator_after, separator_after-more, texts-more}
+use Rattle.rlp_reading.proofs.Lemmas.Texts.{done-more, separator_after, separator_after-more, texts-more}
 use Rattle.rlp_c.specs.Written.{IsPut}
 
 pub put_both : (old mid new : List ℕ) (n m k : ℕ) (e f : List ℕ) → length old < 2 ^ 64 - 1 → IsPut old n e mid m → IsPut mid m f new k → IsPut old n (e ++ f) new k

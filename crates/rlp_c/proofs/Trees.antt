@@ -1,9 +1,8 @@
 -- The tree that rows describe, by what is written for one row after another.
-use Rattle.std.proofs.Common.{◌≡◌, ◌≢◌, ℕ, zero, suc, ◌+◌, ◌<◌, ◌≤◌, ⊎_elim, false, ltb, ◌==◌, List, [], ◌∷◌, ◌++◌, length, refl, sym, ap, ◌∙◌, arith}
+use Rattle.std.proofs.Common.{◌≡◌, ◌≢◌, ℕ, zero, suc, ◌+◌, ◌<◌, ◌≤◌, ⊎_elim, ltb, ◌==◌, List, [], ◌∷◌, ◌++◌, length, refl, sym, ap, ◌∙◌, arith}
 use Rattle.std.proofs.Common.{append-nil, append_assoc, length-append, lt-ltb, le-ltb, eq-eqb, ne_eqb}
-use Rattle.std.proofs.lemmas.Bool.{cases_eq, cases_lt, cond-true, cond-false}
-use Rattle.rlp_format.specs.Format.Encoding.{Item, string, list, Items, no_items, item_and, encoding, is_low_byte, join_items, string_encoding, written_header}
-use Rattle.rlp_format.proofs.Lemmas.Headers.{written_header_long, written_header_short}
+use Rattle.std.proofs.lemmas.Bool.{cases_eq, cond-true, cond-false}
+use Rattle.rlp_format.specs.Format.Encoding.{Item, string, list, Items, no_items, item_and, encoding, join_items, string_encoding, written_header}
 use Rattle.rlp_c.specs.{declared.item.RlpItem.RlpItem, Rows.payload_at}
 use Rattle.rlp_c.specs.Tree.{AreRows, DescribeTree, depth_behind, front_of, item_of, items_of, tree_of}
 
@@ -190,26 +189,3 @@ rows-longer b (x ∷ xs) ys = omega (
   rows-longer b xs ys,
   length-append (front_of b x (length (level b (x.depth + 1) (xs ++ ys)))) (rows_encoding b (xs ++ ys)),
 )
-
--- headers of one length are alike for strings and lists
-same_length : (n : ℕ) → length (written_header 0x80 n) ≡ length (written_header 0xc0 n)
-same_length n =
-    ⊎_elim
-    (λ long. ap length (written_header_long 0x80 n long) ∙ sym (ap length (written_header_long 0xc0 n long)))
-    (λ short. ap length (written_header_short 0x80 n short) ∙ sym (ap length (written_header_short 0xc0 n short)))
-    (cases_lt 55 n)
-
--- the length of a string with a header
-pub front_len-written : (b : List ℕ) (r : RlpItem) (inside header : ℕ) → r.is_list ≡ 0 → (s : List ℕ) → s ≡ payload_at b r → false ≡ is_low_byte s
-    → header ≡ length (written_header 0xc0 (length s)) → header + length s ≡ length (front_of b r inside)
-front_len-written b r inside header is s same high len =
-    let whole : string_encoding s ≡ written_header 0x80 (length s) ++ s = cond-false (is_low_byte s) _ _ (sym high) in
-    omega (
-      arith,
-      len,
-      same_length (length s),
-      ap length whole,
-      length-append (written_header 0x80 (length s)) s,
-      ap (λ t. length (string_encoding t)) same,
-      ap length (front-string b r inside is),
-    )

@@ -1,6 +1,6 @@
 //! A tree that is written from its items.
 
-ghost use Rattle.std.specs.Prelude.{◌≡◌, ◌↔◌, ◌+◌, ◌<◌, ◌≤◌, ◌^◌, ◌++◌, IsTrue, MatchOption, length, take, drop, slice_index, slice_set};
+ghost use Rattle.std.specs.Prelude.{◌≡◌, ◌↔◌, ◌+◌, ◌<◌, ◌≤◌, ◌^◌, ◌++◌, IfSome, IsTrue, MatchOption, length, take, drop, slice_index, slice_set};
 ghost use Rattle.rlp_format.specs.Format.Encoding.{encoding};
 ghost use Rattle.rlp_c.specs.{Rows.payload_at, Tree.{DescribeTree, IsRow, depth_behind, front_of, tree_of}, Written.IsWritten};
 
@@ -9,7 +9,7 @@ use crate::encode::is_low_byte;
 use crate::item::RlpItem;
 use crate::status::{RLP_BAD_ITEMS, RLP_NO_ROOM, RLP_OK, status_of};
 use rlp::DecoderError;
-use rlp_write::header::{LIST, STRING, list_header_len, written_header};
+use rlp_write::header::{LIST, STRING, written_header};
 
 /// The number of sizes that are kept: one for each depth of an item, and one for the items in the
 /// deepest list.
@@ -33,9 +33,11 @@ pub extern "C" fn rlp_encode(
     if !describe_tree(items, bytes) {
         return RLP_BAD_ITEMS;
     }
-    let Some(len) = encoded_len(items, bytes) else {
+    // Nothing is written into no array, so the place where this ends tells the length.
+    let Some(start) = write_tree(items, bytes, &mut [], usize::MAX) else {
         return status_of(&DecoderError::RlpInvalidLength);
     };
+    let len = usize::MAX - start;
     *count = len;
     if len > out.len() {
         return RLP_NO_ROOM;
@@ -97,45 +99,28 @@ fn depth_behind(item: &RlpItem) -> u32
     }
 }
 
-/// The length of the encoding of the tree that the items describe, if it is below 2^64.
-fn encoded_len(items: &[RlpItem], bytes: &[u8]) -> Option<usize>
+/// Writes the encoding of the tree that the items describe in front of `end`, if the array goes up
+/// to there, and returns where it begins. Returns `None` if it is longer than `end`.
+fn write_tree(items: &[RlpItem], bytes: &[u8], out: &mut [u8], end: usize) -> Option<usize>
     requires { DescribeTree 256 bytes.now items.now }
-    ensures { MatchOption result (2 ^ 64 ≤ length (encoding (tree_of bytes.now items.now)))
-        (λ len. len ≡ length (encoding (tree_of bytes.now items.now))) }
+    ensures start { MatchOption result (end < length (encoding (tree_of bytes.now items.now)))
+        (λ start. start + length (encoding (tree_of bytes.now items.now)) ≡ end) }
+    ensures written { IfSome result (λ start. end ≤ length out.old → out.new
+        ≡ take start out.old ++ (encoding (tree_of bytes.now items.now) ++ drop end out.old)) }
 {
     let mut sizes = [0usize; DEPTHS];
-    let mut len = 0usize;
+    let mut place = end;
     let mut rest = items;
     while let [before @ .., item] = rest {
         let depth = item.depth as usize;
-        let front = front_len(item, bytes, sizes[depth + 1]);
-        let Some(longer) = len.checked_add(front) else {
+        let Some(start) = write_front(item, bytes, sizes[depth + 1], out, place) else {
             return None;
         };
-        put_size(&mut sizes, depth, front);
-        len = longer;
-        rest = before;
-    }
-    Some(len)
-}
-
-/// Writes the encoding of the tree that the items describe, from its end, which is at `len`.
-fn write_tree(items: &[RlpItem], bytes: &[u8], out: &mut [u8], len: usize)
-    requires tree { DescribeTree 256 bytes.now items.now }
-    requires len { len ≡ length (encoding (tree_of bytes.now items.now)) }
-    requires room { len ≤ length out.old }
-    ensures { out.new ≡ encoding (tree_of bytes.now items.now) ++ drop len out.old }
-{
-    let mut sizes = [0usize; DEPTHS];
-    let mut place = len;
-    let mut rest = items;
-    while let [before @ .., item] = rest {
-        let depth = item.depth as usize;
-        let start = write_front(item, bytes, sizes[depth + 1], out, place);
         put_size(&mut sizes, depth, place - start);
         place = start;
         rest = before;
     }
+    Some(place)
 }
 
 /// Adds an item's size, its `front` and the size of its children, to the total at its depth, and
@@ -161,54 +146,50 @@ fn string_of<'a>(item: &RlpItem, bytes: &'a [u8]) -> &'a [u8]
     &rest[..item.payload_len]
 }
 
-/// The number of bytes that are written for an item itself, if the items in it take `inside` bytes.
+/// Writes a string, or the header of a list, as [`write_before`] does. The items in the list take
+/// `inside` bytes.
 #[inline(always)]
-fn front_len(item: &RlpItem, bytes: &[u8], inside: usize) -> usize
+fn write_front(
+    item: &RlpItem,
+    bytes: &[u8],
+    inside: usize,
+    out: &mut [u8],
+    end: usize,
+) -> Option<usize>
     requires { item.now.is_list ≡ 0
         → item.now.offset + item.now.header_len + item.now.payload_len ≤ length bytes.now }
-    ensures { result ≡ length (front_of bytes.now item.now inside) }
-{
-    if item.is_list != 0 {
-        return list_header_len(inside);
-    }
-    let string = string_of(item, bytes);
-    if is_low_byte(string) {
-        return 1;
-    }
-    list_header_len(string.len()) + string.len()
-}
-
-/// Writes a string, or the header of a list, in front of `end`, and returns where it begins.
-#[inline(always)]
-fn write_front(item: &RlpItem, bytes: &[u8], inside: usize, out: &mut [u8], end: usize) -> usize
-    requires within { item.now.is_list ≡ 0
-        → item.now.offset + item.now.header_len + item.now.payload_len ≤ length bytes.now }
-    requires front { length (front_of bytes.now item.now inside) ≤ end }
-    requires room { end ≤ length out.old }
-    ensures start { result + length (front_of bytes.now item.now inside) ≡ end }
-    ensures written { out.new
-        ≡ take result out.old ++ (front_of bytes.now item.now inside ++ drop end out.old) }
+    ensures start { MatchOption result (end < length (front_of bytes.now item.now inside))
+        (λ start. start + length (front_of bytes.now item.now inside) ≡ end) }
+    ensures written { IfSome result (λ start. end ≤ length out.old → out.new
+        ≡ take start out.old ++ (front_of bytes.now item.now inside ++ drop end out.old)) }
 {
     if item.is_list != 0 {
         return write_before(written_header(LIST, inside).as_slice(), out, end);
     }
     let string = string_of(item, bytes);
-    let start = write_before(string, out, end);
+    let Some(start) = write_before(string, out, end) else {
+        return None;
+    };
     if is_low_byte(string) {
-        return start;
+        return Some(start);
     }
     write_before(written_header(STRING, string.len()).as_slice(), out, start)
 }
 
-/// Writes bytes in front of `end`, and returns where they begin.
+/// Writes bytes in front of `end`, if the array goes up to there, and returns where they begin.
+/// Returns `None` if they are longer than `end`.
 #[inline(always)]
-fn write_before(bytes: &[u8], out: &mut [u8], end: usize) -> usize
-    requires fits { length bytes.now ≤ end }
-    requires room { end ≤ length out.old }
-    ensures start { result + length bytes.now ≡ end }
-    ensures written { out.new ≡ take result out.old ++ (bytes.now ++ drop end out.old) }
+fn write_before(bytes: &[u8], out: &mut [u8], end: usize) -> Option<usize>
+    ensures start { MatchOption result (end < length bytes.now)
+        (λ start. start + length bytes.now ≡ end) }
+    ensures written { IfSome result (λ start. end ≤ length out.old → out.new
+        ≡ take start out.old ++ (bytes.now ++ drop end out.old)) }
 {
-    let start = end - bytes.len();
-    out[start..end].copy_from_slice(bytes);
-    start
+    let Some(start) = end.checked_sub(bytes.len()) else {
+        return None;
+    };
+    if end <= out.len() {
+        out[start..end].copy_from_slice(bytes);
+    }
+    Some(start)
 }

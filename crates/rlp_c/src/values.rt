@@ -66,7 +66,7 @@ pub extern "C" fn rlp_decode_uint(
 }
 
 /// Tests the digits of a number, which may have at most `most` bytes.
-#[tactic(auto, using(rlp_format::proofs::Lemmas::Digits::none_is_zero, rlp_reading::proofs::Lemmas::Numbers::leading_is_value))]
+#[tactic(auto, using(rlp_format::proofs::Lemmas::Digits::none_is_zero, rlp_reading::proofs::Lemmas::StringsHeld::leading_is_value))]
 fn check_number(digits: &[u8], most: usize) -> Result<(), DecoderError>
     ensures number { MatchResult result
         (λ _. number_of most digits.now ≡ Ok (number_from_digits 256 digits.now))

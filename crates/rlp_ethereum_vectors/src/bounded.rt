@@ -1,188 +1,35 @@
-//! Reading with a bound on the number of items, also messages of strangers.
+//! Reading with a bound on the number of items.
 
-use crate::named::bytes_of;
 use rlp::{DecoderError, StrictRead};
 use rlp_blocks::Body;
 use rlp_headers::Withdrawal;
-use rlp_messages::{Eth68Message, Eth69Message, Message, MessageBounds, Numbered, P2pMessage};
 use rlp_records::decode_at_most;
 use rlp_transactions::{AnyTransaction, Transaction};
-use rlp_vectors::rows::{Line, bytes_in, cut, number};
-use std::alloc::{AllocError, Global};
-use std::fmt;
-use std::fmt::Write;
-use std::test::Fail;
+use rlp_vectors::rows::{cut, number};
+use std::alloc::Global;
 
-/// Rows of the most items, a type, bytes, and the answer: `Ok`, or the text of the fault. Their
-/// calls don't allocate.
-pub(crate) const WITHOUT_MEMORY: &str = "
-    A withdrawal has five items: four numbers or strings, and their list.
-    at most: 5 Withdrawal | d8010294030303030303030303030303030303030303030304 | Ok
-    at most: 6 Withdrawal | d8010294030303030303030303030303030303030303030304 | Ok
-    at most: 4 Withdrawal | d8010294030303030303030303030303030303030303030304 | too many items
-    at most: 0 Withdrawal | 80 | too many items
-
-    Bytes with more items aren't read, so they have no fault of the type.
-    at most: 5 Withdrawal | d80102 | RlpIsTooShort
-    at most: 3 Withdrawal | c3010203 | too many items
-    at most: 4 Withdrawal | c3010203 | RlpIncorrectListLen
-
-    A transaction of type 1 with an access list of one item: its string, and the 16 items in it. In the
-    body of a block there are three lists more.
-    at most: 16 Transaction | b86701f8640107843b9aca0082c350943535353535353535353535353535353535353\
-     5350582cafef838f7941111111111111111111111111111111111111111e1a02222222222222222222222222222222\
-     22222222222222222222222222222222201821111822222 | too many items
-    at most: 19 Body | f86cf869b86701f8640107843b9aca0082c35094353535353535353535353535353535353535\
-     35350582cafef838f7941111111111111111111111111111111111111111e1a0222222222222222222222222222222\
-     222222222222222222222222222222222201821111822222c0 | too many items
-
-    The payload of type 2 is the list of no items. Type 5 isn't read.
-    at most: 1 AnyTransaction | 8202c0 | too many items
-    at most: 2 AnyTransaction | 8202c0 | RlpIncorrectListLen
-    at most: 1 Transaction | 8205c0 | unknown transaction type
-
-    A payload that isn't an encoding, because of a needless header, counts its three bytes. One that is
-    cut counts nothing.
-    at most: 3 Transaction | 8401c28105 | too many items
-    at most: 4 Transaction | 8401c28105 | RlpIncorrectListLen
-    at most: 1 Transaction | 8301c305 | RlpIsTooShort
-
-    A withdrawal whose address is 1 and the encoding of a list of 18 items.
-    at most: 23 Withdrawal | d801029401d280808080808080808080808080808080808004 | too many items
-    at most: 24 Withdrawal | d801029401d280808080808080808080808080808080808004 | Ok
-";
-
-/// More rows, whose calls allocate.
-pub(crate) const ROWS: &str = "
-    at most: 17 Transaction | b867+ACCESS_LIST | Ok
-    at most: 20 Body | f86cf869b867+ACCESS_LIST+c0 | Ok
-    at most: 1 AnyTransaction | 8206c0 | Ok
-";
-
-/// Tells the answer for a type with at most a number of items, which stands before the name of the
-/// type.
-pub(crate) fn tell(alloc: Global, asked: &str, bytes: &[u8], out: &mut Line) -> fmt::Result {
+/// Reads a value of a type with at most a number of items, which stands before the name of the type.
+/// Allocates nothing else.
+pub fn at_most(alloc: Global, asked: &str, bytes: &[u8]) -> Result<(), DecoderError> {
     let (most, kind) = cut(asked);
     match kind {
-        "AnyTransaction" => tell_read::<AnyTransaction>(alloc, most, bytes, out),
-        "Body" => tell_read::<Body>(alloc, most, bytes, out),
-        "Transaction" => tell_read::<Transaction>(alloc, most, bytes, out),
-        _ => tell_read::<Withdrawal>(alloc, most, bytes, out),
+        "AnyTransaction" => read::<AnyTransaction>(alloc, bytes, number(most)),
+        "Body" => read::<Body>(alloc, bytes, number(most)),
+        "Transaction" => read::<Transaction>(alloc, bytes, number(most)),
+        _ => read::<Withdrawal>(alloc, bytes, number(most)),
     }
 }
 
-/// Tells the answer for this type.
-fn tell_read<R: StrictRead>(
-    alloc: Global,
-    most: &str,
-    bytes: &[u8],
-    out: &mut Line,
-) -> fmt::Result {
-    match decode_at_most::<R>(alloc, bytes, number(most)) {
-        Ok(_) => out.write_str("Ok"),
-        Err(DecoderError::Custom(text)) => out.write_str(text),
-        Err(fault) => out.display(fault),
+/// Reads a value of this type.
+fn read<R: StrictRead>(alloc: Global, bytes: &[u8], most: usize) -> Result<(), DecoderError> {
+    match decode_at_most::<R>(alloc, bytes, most) {
+        Ok(_) => Ok(()),
+        Err(fault) => Err(fault),
     }
 }
 
-/// Notes a row whose call tells something else. The bytes of its digits take no memory.
-fn check_row(alloc: Global, call: &str, rest: &str, wrong: &mut Line) {
-    let asked = call.strip_prefix("at most: ").unwrap_or(call);
-    let (digits, want) = rest.split_once(" | ").unwrap_or((rest, ""));
-    let (mut buffer, mut said) = ([0; 256], Line::new());
-    let _ = tell(alloc, asked, bytes_in(digits, &mut buffer), &mut said);
-    wrong.note(call, digits, said.as_str(), want);
-}
-
-/// The rows, also if every allocation is refused.
-#[test]
-fn without_memory(rt: HostRuntime) -> Result<(), Fail> {
-    let mut wrong = Line::new();
-    for line in WITHOUT_MEMORY.lines() {
-        if let Some((call, rest)) = line.trim().split_once(" | ") {
-            check_row(rt.alloc(), call, rest, &mut wrong);
-        }
-    }
-    wrong.none_noted()
-}
-
-/// Returns the bounds.
-fn most(bytes: usize, items: usize) -> MessageBounds {
-    MessageBounds { bytes, items }
-}
-
-/// Returns the bytes of a request for the receipts of a million blocks, after 16. Each hash is
-/// empty, which a reader without a bound learns from the first.
-fn million(alloc: Global) -> Result<Vec<u8>, AllocError> {
-    let mut bytes = bytes_of(alloc, "1ffa0f4247820457fa0f4240")?;
-    for _ in 0..1_000_000 {
-        bytes.push(0x80)?;
-    }
-    Ok(bytes)
-}
-
-#[test]
-fn a_million_items(rt: HostRuntime) -> Result<(), Fail> {
-    let alloc = rt.alloc();
-    let bytes = million(alloc)?;
-    let read = |bounds| Eth68Message::from_message_at_most(alloc, 0x10, bytes.as_slice(), bounds);
-    let many = DecoderError::Custom("too many items");
-    assert_eq!(rt; read(most(1_000_012, 4096)).err(), Some(many));
-    let many = DecoderError::Custom("too many items");
-    assert_eq!(rt; read(most(1_000_012, 1_000_002)).err(), Some(many));
-    assert_eq!(rt;
-        read(most(1_000_012, 1_000_003)).err(),
-        Some(DecoderError::RlpIsTooShort)
-    );
-    let long = DecoderError::Custom("too many bytes");
-    assert_eq!(rt; read(most(1_000_011, 1_000_003)).err(), Some(long));
-    Ok(())
-}
-
-#[test]
-fn bounds_of_requests(rt: HostRuntime) -> Result<(), Fail> {
-    let alloc = rt.alloc();
-    let request = "1ff847820457f842a0+00*28+deadc0dea0+00*28+feedbeef";
-    let bytes = bytes_of(alloc, request)?;
-    let slice = bytes.as_slice();
-    let read = Eth68Message::from_message_at_most(alloc, 0x10, slice, most(74, 5))?;
-    assert!(rt; read.to_message(alloc, 0x10)?.as_slice() == slice);
-    let read = Eth69Message::from_message_at_most(alloc, 0x10, slice, most(74, 5))?;
-    assert!(rt; read.to_message(alloc, 0x10)?.as_slice() == slice);
-    let few = Eth69Message::from_message_at_most(alloc, 0x10, slice, most(74, 4));
-    assert_eq!(rt; few.err(), Some(DecoderError::Custom("too many items")));
-    let short = Eth69Message::from_message_at_most(alloc, 0x10, slice, most(73, 5));
-    assert_eq!(rt; short.err(), Some(DecoderError::Custom("too many bytes")));
-    Ok(())
-}
-
-/// Messages of `p2p`, and the fault of each if it may have 4 bytes and 2 items.
-const P2P: [(&str, &str); 6] = [
-    ("01c104", "None"),
-    ("01c20404", "Some(Custom(\"too many items\"))"),
-    ("01c3040404", "Some(Custom(\"too many bytes\"))"),
-    ("04c20404", "Some(Custom(\"unknown message\"))"),
-    ("c0c20404", "Some(RlpExpectedToBeData)"),
-    ("01c0", "Some(RlpIncorrectListLen)"),
-];
-
-#[test]
-fn bounds_of_p2p(rt: HostRuntime) -> Result<(), Fail> {
-    let (alloc, mut wrong) = (rt.alloc(), Line::new());
-    for (text, want) in &P2P {
-        let (bytes, mut said) = (bytes_of(alloc, text)?, Line::new());
-        let read = P2pMessage::from_message_at_most(alloc, 0, bytes.as_slice(), most(4, 2));
-        let _ = said.debug(read.err());
-        wrong.note("p2p", text, said.as_str(), want);
-    }
-    wrong.none_noted()
-}
-
-#[test]
-fn ids_and_bodies(rt: HostRuntime) -> Result<(), Fail> {
-    let message = Numbered::of(rt.alloc(), 0x10, &[0x13, 0xc0])?;
-    assert!(rt; message.number == 3 && message.body == [0xc0].as_slice());
-    let below = Numbered::of(rt.alloc(), 0x10, &[0x0f, 0xc0]).err();
-    assert_eq!(rt; below, Some(DecoderError::Custom("unknown message")));
-    Ok(())
+/// Returns `Ok` if a value of a type is read with at most a number of items.
+pub(crate) fn answer(alloc: Global, asked: &str, bytes: &[u8]) -> Result<String, DecoderError> {
+    at_most(alloc, asked, bytes)?;
+    Ok(String::from_str(alloc, "Ok")?)
 }

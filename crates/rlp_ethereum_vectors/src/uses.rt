@@ -1,15 +1,11 @@
 //! What a node does with untrusted bytes.
 
-use crate::named::bytes_of;
+use crate::fields::text;
 use rlp::DecoderError;
 use rlp_records::{Hash, keccak256};
 use rlp_transactions::AnyTransaction;
 use rlp_trie::{ProofFault, verify_proof};
-use rlp_vectors::rows::{Hex, Line};
 use std::alloc::Global;
-use std::fmt;
-use std::fmt::Write;
-use std::test::Fail;
 
 /// Returns the hash of a transaction, or what to tell the peer that sent it.
 fn received(alloc: Global, bytes: &[u8]) -> Result<Hash, &'static str> {
@@ -36,50 +32,17 @@ fn account(
     verify_proof(alloc, state_root, &keccak256(address), nodes)
 }
 
-/// Bytes, and the hash of their transaction, or what is wrong with them.
-const RECEIVED: &str = "
-    FIRST | 5c504ed432cb51138bcf09aa5e8a410dd4a1e204ef84bfed1be16dfba1b22060
-    c105 | fields are missing or added
-    c1 | the bytes are cut off
-    c10506 | bytes follow, or a number is too large
-    c9800001808080808080 | this isn't a canonical encoding
-    80 | unknown transaction type
-";
-
-/// Tells the hash of received bytes, or what is wrong with them.
-fn tell_received(alloc: Global, bytes: &[u8], out: &mut Line) -> fmt::Result {
+/// Returns the digits of the hash of received bytes, or what is wrong with them.
+pub(crate) fn tell_received(alloc: Global, bytes: &[u8]) -> Result<String, DecoderError> {
     match received(alloc, bytes) {
-        Ok(hash) => out.debug(Hex(&hash.0)),
-        Err(told) => out.write_str(told),
+        Ok(hash) => Ok(hex::encode(alloc, &hash.0)?),
+        Err(told) => Ok(String::from_str(alloc, told)?),
     }
 }
 
-#[test]
-fn transactions_are_received(rt: HostRuntime) -> Result<(), Fail> {
-    let mut wrong = Line::new();
-    for line in RECEIVED.lines() {
-        if let Some((text, wanted)) = line.trim().split_once(" | ") {
-            let (bytes, mut said) = (bytes_of(rt.alloc(), text)?, Line::new());
-            let _ = tell_received(rt.alloc(), bytes.as_slice(), &mut said);
-            wrong.note("received", text, said.as_str(), wanted);
-        }
-    }
-    wrong.none_noted()
-}
-
-/// The empty trie has no account, and nothing is known of another trie without its nodes.
-#[test]
-fn accounts_are_proved(rt: HostRuntime) -> Result<(), Fail> {
-    let mut wrong = Line::new();
-    let nodes = Vec::new(rt.alloc());
-    for (root, wanted) in [
-        (keccak256(&[0x80]), "Ok(None)"),
-        ([2; 32], "Err(MissingNode)"),
-    ] {
-        let mut said = Line::new();
-        let found = account(rt.alloc(), &Hash(root), &[1; 20], nodes.as_slice());
-        let _ = write!(said, "{found:?}");
-        wrong.note("account", wanted, said.as_str(), wanted);
-    }
-    wrong.none_noted()
+/// Returns what is known of an account without nodes, under the root of the trie.
+pub(crate) fn tell_account(alloc: Global, root: &[u8]) -> Result<String, DecoderError> {
+    let root = rlp::decode_strict::<Hash>(alloc, root)?;
+    let nodes = Vec::new(alloc);
+    text(alloc, account(alloc, &root, &[1; 20], nodes.as_slice()))
 }

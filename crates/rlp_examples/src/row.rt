@@ -7,73 +7,41 @@ use rlp::{
 };
 use std::alloc::{AllocError, Global};
 
-/// A row of a table with thirty-two columns. It shows a struct of many fields, which are read in
-/// groups.
+/// A row of a table with thirty-two columns, which are counted from 1. It shows a struct of many
+/// fields, which are read in groups.
 #[derive(Drop)]
 pub struct Row {
-    /// Column 1.
     pub column_1: u64,
-    /// Column 2.
     pub column_2: [u8; 32],
-    /// Column 3.
     pub column_3: Vec<u8>,
-    /// Column 4.
     pub column_4: [u8; 8],
-    /// Column 5.
     pub column_5: u64,
-    /// Column 6.
     pub column_6: [u8; 32],
-    /// Column 7.
     pub column_7: Vec<u8>,
-    /// Column 8.
     pub column_8: [u8; 8],
-    /// Column 9.
     pub column_9: u64,
-    /// Column 10.
     pub column_10: [u8; 32],
-    /// Column 11.
     pub column_11: Vec<u8>,
-    /// Column 12.
     pub column_12: [u8; 8],
-    /// Column 13.
     pub column_13: u64,
-    /// Column 14.
     pub column_14: [u8; 32],
-    /// Column 15.
     pub column_15: Vec<u8>,
-    /// Column 16.
     pub column_16: [u8; 8],
-    /// Column 17.
     pub column_17: u64,
-    /// Column 18.
     pub column_18: [u8; 32],
-    /// Column 19.
     pub column_19: Vec<u8>,
-    /// Column 20.
     pub column_20: [u8; 8],
-    /// Column 21.
     pub column_21: u64,
-    /// Column 22.
     pub column_22: [u8; 32],
-    /// Column 23.
     pub column_23: Vec<u8>,
-    /// Column 24.
     pub column_24: [u8; 8],
-    /// Column 25.
     pub column_25: u64,
-    /// Column 26.
     pub column_26: [u8; 32],
-    /// Column 27.
     pub column_27: Vec<u8>,
-    /// Column 28.
     pub column_28: [u8; 8],
-    /// Column 29.
     pub column_29: u64,
-    /// Column 30.
     pub column_30: [u8; 32],
-    /// Column 31.
     pub column_31: Vec<u8>,
-    /// Column 32.
     pub column_32: [u8; 8],
 }
 

@@ -2,7 +2,7 @@
 pub mod Digits
 -- lists that begin one list
 pub mod Lists
--- written headers: none begins another
+-- the first byte of a written header
 pub mod Headers
--- no encoding begins another
+-- the forms of encodings
 pub mod Encodings

@@ -1,9 +1,9 @@
 -- How headers of blocks are written and read.
 use Rattle.std.specs.{Option.option_and_then, Prelude.{Option, refl}, Vec.vec_items}
 use Rattle.rlp.specs.Codec.{Codec, Fields, byte_array, byte_string, field, number, optional_group, struct_of, uint}
-use Rattle.rlp_headers.specs.{declared.header.Header.Header, declared.header.forks.Amsterdam.Amsterdam, declared.header.forks.Cancun.Cancun}
-use Rattle.rlp_headers.specs.{declared.header.forks.Prague.Prague, declared.header.forks.Shanghai.Shanghai, Bloom.bloom, Forks.london_fields}
 use Rattle.rlp_records.specs.{Address.address, Hash.hash}
+use Rattle.rlp_headers.specs.{Forks.london_fields, Receipt.bloom, declared.header.Header.Header, declared.header.forks.Amsterdam.Amsterdam}
+use Rattle.rlp_headers.specs.{declared.header.forks.Cancun.Cancun, declared.header.forks.Prague.Prague, declared.header.forks.Shanghai.Shanghai}
 
 -- The protocol eth: [parent-hash, ommers-hash, coinbase, state-root, txs-root, receipts-root, bloom, difficulty, number, gas-limit, gas-used, time, extradata,
 -- mix-digest, block-nonce, ...]. After these fifteen fields come the fields of the forks.

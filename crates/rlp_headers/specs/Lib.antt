@@ -1,12 +1,10 @@
 pub mod AccessOrder
 pub mod Account
-pub mod Bloom
 pub mod Changes
 pub mod DepositReceipt
 pub mod Forks
 pub mod Header
 pub mod Log
 pub mod Receipt
-pub mod ReceiptStatus
 pub mod TypedReceipt
 pub mod Withdrawal

@@ -2,9 +2,7 @@
 
 ghost use Rattle.rlp_headers.specs.Account.{account};
 
-use rlp::{
-    Decodable, DecodePlaced, DecoderError, Encodable, Rlp, RlpStream, RoundTrip, StrictRead, Uint,
-};
+use rlp::{DecoderError, Encodable, Record, Rlp, RlpStream, Uint};
 use rlp_records::Hash;
 use std::alloc::{AllocError, Global};
 
@@ -40,7 +38,7 @@ impl Encodable for Account {
     }
 }
 
-impl Decodable for Account {
+impl Record for Account {
     ghost reading = { account.reading };
 
     fn decode(alloc: Global, rlp: &Rlp<'_>) -> Result<Account, DecoderError> {
@@ -55,18 +53,10 @@ impl Decodable for Account {
             }
         )
     }
-}
 
-impl DecodePlaced for Account {
     fn put_path(alloc: Global, rlp: &Rlp<'_>, path: &mut Vec<usize>) -> Result<(), AllocError> {
         rlp::put_struct_path!(alloc, rlp, path, u64, Uint<32>, Hash, Hash)
     }
-}
 
-impl RoundTrip for Account {
-    ghost round_trip = { account.reads_back };
-}
-
-impl StrictRead for Account {
-    ghost strict = { account.reads_strictly };
+    ghost lawful = { account.reads_strictly };
 }

@@ -9,10 +9,7 @@ ghost use Rattle.rlp_headers.specs.Changes.{account_changes, change_form, slot_c
 mod changes;
 
 pub use changes::{AccountChanges, SlotChanges, StateChange};
-use rlp::{
-    Decodable, DecodePlaced, DecoderError, Each, Encodable, Rlp, RlpStream, RoundTrip, StrictRead,
-    Uint, put_list_path,
-};
+use rlp::{DecoderError, Each, Encodable, Record, Rlp, RlpStream, StrictRead, Uint, put_list_path};
 use rlp_records::{Hash, encoding_hash};
 use std::alloc::{AllocError, Global};
 use std::marker::Model;
@@ -239,7 +236,7 @@ impl Encodable for BlockAccessList {
 }
 
 /// Fails with a fault of the accounts, and with `Custom("accounts are not in order")`.
-impl Decodable for BlockAccessList {
+impl Record for BlockAccessList {
     ghost reading = { block_access_list.reading };
 
     #[tactic(auto, using(crate::proofs::AccessLists::access_lists))]
@@ -250,10 +247,8 @@ impl Decodable for BlockAccessList {
             None => Err(DecoderError::Custom("accounts are not in order")),
         }
     }
-}
 
-/// A fault of the order is a fault of the whole list.
-impl DecodePlaced for BlockAccessList {
+    /// A fault of the order is a fault of the whole list.
     fn put_path(alloc: Global, rlp: &Rlp<'_>, path: &mut Vec<usize>) -> Result<(), AllocError> {
         match rlp.as_list::<AccountChanges>(alloc) {
             Ok(_) => Ok(()),
@@ -261,12 +256,6 @@ impl DecodePlaced for BlockAccessList {
             Err(_) => put_list_path::<AccountChanges>(alloc, rlp, path),
         }
     }
-}
 
-impl RoundTrip for BlockAccessList {
-    ghost round_trip = { block_access_list.reads_back };
-}
-
-impl StrictRead for BlockAccessList {
-    ghost strict = { block_access_list.reads_strictly };
+    ghost lawful = { block_access_list.reads_strictly };
 }

@@ -9,10 +9,7 @@ mod forks;
 
 use crate::Bloom;
 pub use forks::{Amsterdam, Cancun, London, Prague, Shanghai};
-use rlp::{
-    Decodable, DecodePlaced, DecoderError, Encodable, OptionalGroup, OptionalGroupOf, Rlp,
-    RlpStream, RoundTrip, StrictRead, Uint,
-};
+use rlp::{DecoderError, Encodable, OptionalGroup, OptionalGroupOf, Record, Rlp, RlpStream, Uint};
 use rlp_records::{Address, Hash, encoding_hash};
 use std::alloc::{AllocError, Global};
 
@@ -133,7 +130,7 @@ impl Encodable for Header {
     }
 }
 
-impl Decodable for Header {
+impl Record for Header {
     ghost reading = { header.reading };
 
     fn decode(alloc: Global, rlp: &Rlp<'_>) -> Result<Header, DecoderError> {
@@ -160,23 +157,15 @@ impl Decodable for Header {
             }
         )
     }
-}
 
-impl DecodePlaced for Header {
     fn put_path(alloc: Global, rlp: &Rlp<'_>, path: &mut Vec<usize>) -> Result<(), AllocError> {
         rlp::put_struct_path!(
             alloc, rlp, path, Hash, Hash, Address, Hash, Hash, Hash, Bloom, Uint<32>, u64, u64, u64,
             u64, Vec<u8>, Hash, [u8; 8]; OptionalGroup<London>
         )
     }
-}
 
-impl RoundTrip for Header {
-    ghost round_trip = { header.reads_back };
-}
-
-impl StrictRead for Header {
-    ghost strict = { header.reads_strictly };
+    ghost lawful = { header.reads_strictly };
 }
 
 impl Header {

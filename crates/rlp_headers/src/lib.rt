@@ -3,23 +3,19 @@
 
 mod account;
 mod block_access_list;
-mod bloom;
 mod deposit_receipt;
 mod header;
 pub mod laws;
 mod log;
 mod receipt;
-mod receipt_status;
 mod typed_receipt;
 mod withdrawal;
 
 pub use account::Account;
 pub use block_access_list::{AccountChanges, BlockAccessList, SlotChanges, StateChange};
-pub use bloom::Bloom;
 pub use deposit_receipt::{DepositReceipt, Regolith};
 pub use header::{Amsterdam, Cancun, Header, London, Prague, Shanghai};
 pub use log::Log;
-pub use receipt::Receipt;
-pub use receipt_status::ReceiptStatus;
+pub use receipt::{Bloom, Receipt, ReceiptStatus};
 pub use typed_receipt::{AnyReceipt, TypedReceipt};
 pub use withdrawal::{Withdrawal, Withdrawals};

@@ -3,9 +3,7 @@
 ghost use Rattle.rlp_headers.specs.TypedReceipt.{receipt_types, typed_receipt};
 
 use crate::Receipt;
-use rlp::{
-    Decodable, DecodePlaced, DecoderError, Encodable, Rlp, RlpStream, RoundTrip, StrictRead,
-};
+use rlp::{DecoderError, Encodable, Record, Rlp, RlpStream};
 use rlp_records::{
     ACCESS_LIST_TYPE, BLOB_TYPE, Eip2718, FEE_MARKET_TYPE, KnownOrOther, SET_CODE_TYPE,
 };
@@ -97,24 +95,16 @@ impl Encodable for TypedReceipt {
     }
 }
 
-impl Decodable for TypedReceipt {
+impl Record for TypedReceipt {
     ghost reading = { typed_receipt.reading };
 
     fn decode(alloc: Global, rlp: &Rlp<'_>) -> Result<TypedReceipt, DecoderError> {
         TypedReceipt::decode_item(alloc, rlp)
     }
-}
 
-impl DecodePlaced for TypedReceipt {
     fn put_path(alloc: Global, rlp: &Rlp<'_>, path: &mut Vec<usize>) -> Result<(), AllocError> {
         TypedReceipt::put_item_path(alloc, rlp, path)
     }
-}
 
-impl RoundTrip for TypedReceipt {
-    ghost round_trip = { typed_receipt.reads_back };
-}
-
-impl StrictRead for TypedReceipt {
-    ghost strict = { typed_receipt.reads_strictly };
+    ghost lawful = { typed_receipt.reads_strictly };
 }

@@ -2,10 +2,7 @@
 
 ghost use Rattle.rlp_headers.specs.Withdrawal.{withdrawal, withdrawals};
 
-use rlp::{
-    Decodable, DecodePlaced, DecoderError, Each, Encodable, Rlp, RlpStream, RoundTrip, StrictRead,
-    put_list_path,
-};
+use rlp::{DecoderError, Each, Encodable, Record, Rlp, RlpStream, put_list_path};
 use rlp_records::Address;
 use std::alloc::{AllocError, Global};
 
@@ -38,7 +35,7 @@ impl Encodable for Withdrawal {
     }
 }
 
-impl Decodable for Withdrawal {
+impl Record for Withdrawal {
     ghost reading = { withdrawal.reading };
 
     fn decode(alloc: Global, rlp: &Rlp<'_>) -> Result<Withdrawal, DecoderError> {
@@ -53,20 +50,12 @@ impl Decodable for Withdrawal {
             }
         )
     }
-}
 
-impl DecodePlaced for Withdrawal {
     fn put_path(alloc: Global, rlp: &Rlp<'_>, path: &mut Vec<usize>) -> Result<(), AllocError> {
         rlp::put_struct_path!(alloc, rlp, path, u64, u64, Address, u64)
     }
-}
 
-impl RoundTrip for Withdrawal {
-    ghost round_trip = { withdrawal.reads_back };
-}
-
-impl StrictRead for Withdrawal {
-    ghost strict = { withdrawal.reads_strictly };
+    ghost lawful = { withdrawal.reads_strictly };
 }
 
 /// The withdrawals of a block, in order: the list of the withdrawals.
@@ -83,25 +72,16 @@ impl Encodable for Withdrawals {
     }
 }
 
-impl Decodable for Withdrawals {
+impl Record for Withdrawals {
     ghost reading = { withdrawals.reading };
 
     fn decode(alloc: Global, rlp: &Rlp<'_>) -> Result<Withdrawals, DecoderError> {
-        let withdrawals = rlp.as_list(alloc)?;
-        Ok(Withdrawals(withdrawals))
+        Ok(Withdrawals(rlp.as_list(alloc)?))
     }
-}
 
-impl DecodePlaced for Withdrawals {
     fn put_path(alloc: Global, rlp: &Rlp<'_>, path: &mut Vec<usize>) -> Result<(), AllocError> {
         put_list_path::<Withdrawal>(alloc, rlp, path)
     }
-}
 
-impl RoundTrip for Withdrawals {
-    ghost round_trip = { withdrawals.reads_back };
-}
-
-impl StrictRead for Withdrawals {
-    ghost strict = { withdrawals.reads_strictly };
+    ghost lawful = { withdrawals.reads_strictly };
 }

@@ -1,14 +1,60 @@
--- Both ends of a connection find the same offsets.
-use Rattle.std.specs.{Prelude.{◌==◌, nat_lt, if◌then◌else◌, not, sum_by}, List.{list_all, list_any}, Str.bytes_eq}
-use Rattle.std.proofs.{Common.{◌≡◌, ℕ, ◌+◌, Bool, true, false, ◌||◌, ◌&&◌, List, [], ◌∷◌, refl, sym, ap, ◌∙◌, arith}, lemmas.Bool.Decides.nat_tests}
-use Rattle.std.proofs.{lemmas.List.Sums.sum_by-cons, lemmas.Slice.Eq.bytes_eq-Decides}
-use Rattle.rlp_messages.specs.P2p.Offsets.{Known, announced, byte_if, comes_before, ids_before, is_named, is_same, is_shared, is_superseded, know_same_ids}
-use Rattle.rlp_messages.specs.P2p.Offsets.{lists_each_once, offset_of, shared_offset, speaks}
-use Rattle.rlp_messages.proofs.Capabilities.{any_map, both_true, eq-eqb}
+-- Tests of all capabilities, one by one, and that both ends of a connection find the same offsets.
+use Rattle.std.proofs.Common.{ℕ, ◌&&◌, ◌+◌, ◌<◌, ◌||◌, ◌∙◌, ◌∷◌, ◌≡◌, ◌≤◌, Bool, List, [], ap, arith, eq-eqb, eqb-true, false, get_or, length, lt-ltb, map, refl, sym, take, true}
+use Rattle.std.proofs.{Math.Bool.{and-false, and_assoc, or-true}, lemmas.Bool.{and_from, and_parts}, lemmas.Grind.common_steps}
+use Rattle.std.proofs.{lemmas.List.Folds.{fold-map, list_any_at}, lemmas.List.Sums.sum_by-cons, lemmas.Slice.Eq.bytes_eq-Decides}
+use Rattle.std.specs.{List.{list_all, list_any}, Prelude.{◌==◌, if◌then◌else◌, nat_lt, not, sum_by}, Str.bytes_eq}
+use Rattle.rlp_messages.specs.P2p.Offsets.{Known, Named, announced, byte_if, comes_before, ids_before, is_named, is_same, is_shared, is_superseded, know_same_ids, lists_each_once, offset_of, shared_offset, speaks, supersedes}
 
-both_parts : (a b : Bool) → (a && b) ≡ true → (a ≡ true) × (b ≡ true)
-both_parts true b is = (refl, is)
-both_parts false b is = (is, absurd (let no : ⊥ = cc in no))
+pub any_map : {X Y : Type 0} (test : Y → Bool) (seen : X → Y) (xs : List X) → list_any test (map seen xs) ≡ list_any (λ x. test (seen x)) xs
+any_map test seen [] = refl
+any_map test seen (x ∷ xs) = ap (λ r. test (seen x) || r) (any_map test seen xs)
+
+-- one of them has it
+pub one_has : {X Y : Type 0} (test : Y → Bool) (seen : X → Y) (xs ys : List X) (i : ℕ) (d : X) → ys ≡ xs → i < length ys → test (seen (get_or ys i d)) ≡ true
+    → true ≡ list_any test (map seen xs)
+one_has test seen xs ys i d same low is =
+    sym (ap (λ xs. list_any test (map seen xs)) (sym same) ∙ any_map test seen ys ∙ list_any_at (λ x. test (seen x)) ys i d low is)
+
+-- none of them has it
+pub none_has : {X Y : Type 0} (test : Y → Bool) (seen : X → Y) (xs ys : List X) (i : ℕ) → ys ≡ xs → length ys ≤ i
+    → list_any (λ x. test (seen x)) (take i ys) ≡ false → false ≡ list_any test (map seen xs)
+none_has test seen xs ys i same all none =
+    sym (ap (λ xs. list_any test (map seen xs)) (sym same) ∙ any_map test seen ys
+    ∙ ap (list_any (λ x. test (seen x))) (let whole : ys ≡ take i ys = grind (arith, common_steps) in whole) ∙ none)
+
+-- a capability with this name and this version
+pub named_so : (name : List ℕ) (version : ℕ) (n : List ℕ) (v : ℕ) (r : Bool) → v ≡ version → r ≡ bytes_eq n name → r ≡ true
+    → is_named name version (record { name = n; version = v }) ≡ true
+named_so name version n v r same is so = and_from (v == version) (bytes_eq n name) (eq-eqb v version same) (sym is ∙ so)
+
+-- a capability that both clients have, with this name and a higher version
+pub superseding : (theirs : List Named) (name : List ℕ) (version : ℕ) (p : Known) (r s : Bool) → version < p.version → r ≡ bytes_eq p.name name → r ≡ true
+    → s ≡ speaks theirs p.name p.version → s ≡ true → supersedes theirs name version p ≡ true
+superseding theirs name version p r s higher is so has spoken =
+    and_from (nat_lt version p.version) _ (lt-ltb _ _ higher) (and_from (bytes_eq p.name name) (speaks theirs p.name p.version) (sym is ∙ so) (sym has ∙ spoken))
+
+twice_map : {X : Type 0} (seen : X → Known) (xs : List X) → announced (map seen xs) ≡ map (λ x. record { name = (seen x).name; version = (seen x).version }) xs
+twice_map seen [] = refl
+twice_map seen (x ∷ xs) = ap (λ more. record { name = (seen x).name; version = (seen x).version } ∷ more) (twice_map seen xs)
+
+-- one of ours has it
+pub one_of_ours : {X : Type 0} (test : Named → Bool) (seen : X → Known) (xs : List X) (i : ℕ) (d : X) → i < length xs
+    → test (record { name = (seen (get_or xs i d)).name; version = (seen (get_or xs i d)).version }) ≡ true → true ≡ list_any test (announced (map seen xs))
+one_of_ours test seen xs i d low is =
+    one_has test (λ x. record { name = (seen x).name; version = (seen x).version }) xs xs i d refl low is ∙ ap (list_any test) (sym (twice_map seen xs))
+
+-- none of ours has it
+pub none_of_ours : {X : Type 0} (test : Named → Bool) (seen : X → Known) (xs : List X) (i : ℕ) → length xs ≤ i
+    → list_any (λ x. test (record { name = (seen x).name; version = (seen x).version })) (take i xs) ≡ false → false ≡ list_any test (announced (map seen xs))
+none_of_ours test seen xs i all none =
+    none_has test (λ x. record { name = (seen x).name; version = (seen x).version }) xs xs i refl all none ∙ ap (list_any test) (sym (twice_map seen xs))
+
+-- the ids of all
+pub all_ids : {X Y : Type 0} (f : Y → ℕ) (seen : X → Y) (xs : List X) (i n : ℕ) → length xs ≤ i → n ≡ 0x10 + sum_by (λ x. f (seen x)) (take i xs)
+    → n ≡ 0x10 + sum_by f (map seen xs)
+all_ids f seen xs i n all is =
+    is ∙ ap (λ ys. 0x10 + sum_by (λ x. f (seen x)) ys) (let whole : take i xs ≡ xs = grind (arith, common_steps) in whole)
+    ∙ ap (λ r. 0x10 + r) (sym (fold-map (λ a x. a + f x) seen 0 xs))
 
 -- ---- sums over two lists
 
@@ -26,7 +72,7 @@ sum_where : {X : Type 0} (test : X → Bool) (f g : X → ℕ) → ((x : X) → 
     → sum_by f xs ≡ sum_by g xs
 sum_where test f g same [] all = refl
 sum_where test f g same (x ∷ xs) all =
-    let parts = both_parts (test x) (list_all test xs) all in
+    let parts = and_parts (test x) (list_all test xs) all in
     let first : f x ≡ g x = same x parts.0 in
     let rest = sum_where test f g same xs parts.1 in
     omega (arith, first, rest, sum_by-cons f x xs, sum_by-cons g x xs)
@@ -45,14 +91,6 @@ sum_swap f (x ∷ xs) ys =
 
 -- ---- tests over two lists
 
-and_assoc : (a b c : Bool) → (a && (b && c)) ≡ ((a && b) && c)
-and_assoc true b c = refl
-and_assoc false b c = refl
-
-and_false : (a : Bool) → (a && false) ≡ false
-and_false true = refl
-and_false false = refl
-
 and_swap : (a b c : Bool) → (a && (b && c)) ≡ (b && (a && c))
 and_swap true b c = refl
 and_swap false true c = refl
@@ -60,11 +98,7 @@ and_swap false false c = refl
 
 or_four : (a b c d : Bool) → ((a || b) || (c || d)) ≡ ((a || c) || (b || d))
 or_four true b c d = refl
-or_four false b true d = or_true b d
-  where
-    or_true : (b d : Bool) → (b || true) ≡ true
-    or_true true d = refl
-    or_true false d = refl
+or_four false b true d = or-true b
 or_four false b false d = refl
 
 any_none : {X : Type 0} (xs : List X) → list_any (λ x. false) xs ≡ false
@@ -89,18 +123,15 @@ any_swap f (x ∷ xs) ys = ap (λ r. list_any (f x) ys || r) (any_swap f xs ys) 
 
 -- ---- the same capability
 
-told_number : (m n : ℕ) → (m == n) ≡ true → m ≡ n
-told_number m n is = grind (arith, nat_tests)
-
 same_told : (p q : Known) → is_same p q ≡ true → (q.name ≡ p.name) × (q.version ≡ p.version)
 same_told p q is =
-    let parts = both_parts (q.version == p.version) (bytes_eq q.name p.name) is in
-    ((bytes_eq-Decides q.name p.name).0 parts.1, told_number q.version p.version parts.0)
+    let parts = and_parts (q.version == p.version) (bytes_eq q.name p.name) is in
+    ((bytes_eq-Decides q.name p.name).0 parts.1, eqb-true q.version p.version parts.0)
 
 turned : (p q : Known) → is_same p q ≡ true → is_same q p ≡ true
 turned p q is =
     let told = same_told p q is in
-    both_true (p.version == q.version) (bytes_eq p.name q.name) (eq-eqb p.version q.version (sym told.1)) ((bytes_eq-Decides p.name q.name).1 (sym told.0))
+    and_from (p.version == q.version) (bytes_eq p.name q.name) (eq-eqb p.version q.version (sym told.1)) ((bytes_eq-Decides p.name q.name).1 (sym told.0))
 
 turned_by : (p q : Known) (t u : Bool) → is_same p q ≡ t → is_same q p ≡ u → t ≡ u
 turned_by p q true true one other = refl
@@ -125,7 +156,7 @@ superseded_pairs xs ys name version = any_alike _ _ each xs
         ≡ list_any (λ q. (nat_lt version p.version && bytes_eq p.name name) && is_same p q) ys
     each p =
         ap (λ s. nat_lt version p.version && (bytes_eq p.name name && s)) (spoken ys p)
-        ∙ and_assoc (nat_lt version p.version) (bytes_eq p.name name) (list_any (is_same p) ys)
+        ∙ sym (and_assoc (nat_lt version p.version) (bytes_eq p.name name) (list_any (is_same p) ys))
         ∙ any_and (nat_lt version p.version && bytes_eq p.name name) (is_same p) ys
 
 -- a pair counts at both ends
@@ -135,7 +166,7 @@ pair_by name version p q true is =
     let told = same_told p q is in
     ap (λ k. (nat_lt version k && bytes_eq p.name name) && true) (sym told.1) ∙ ap (λ n. (nat_lt version q.version && bytes_eq n name) && true) (sym told.0)
 pair_by name version p q false is =
-    and_false (nat_lt version p.version && bytes_eq p.name name) ∙ sym (and_false (nat_lt version q.version && bytes_eq q.name name))
+    and-false (nat_lt version p.version && bytes_eq p.name name) ∙ sym (and-false (nat_lt version q.version && bytes_eq q.name name))
 
 superseded_sym : (xs ys : List Known) (name : List ℕ) (version : ℕ) → is_superseded xs (announced ys) name version ≡ is_superseded ys (announced xs) name version
 superseded_sym xs ys name version =
@@ -209,7 +240,7 @@ module _ (xs ys : List Known) (name : List ℕ) where
 
   pair_same : (p q : Known) (t : Bool) → is_same p q ≡ t → (not t || (p.ids == q.ids)) ≡ true
       → (if t then share xs ys name p else 0) ≡ (if t then share ys xs name q else 0)
-  pair_same p q true is ids = share_same p q is (told_number p.ids q.ids ids)
+  pair_same p q true is ids = share_same p q is (eqb-true p.ids q.ids ids)
   pair_same p q false is ids = refl
 
   pairs_same : know_same_ids xs ys ≡ true → sum_by (λ p. sum_by (λ q. if is_same p q then share xs ys name p else 0) ys) xs

@@ -1,16 +1,15 @@
 -- What the bytes of a message give within bounds.
+use Rattle.std.proofs.Common.{ℕ, ◌+◌, ◌<◌, ◌^◌, ◌∙◌, ◌≡◌, ◌≤◌, ◌⊎◌, Bool, Err, IfErr, IfOk, List, None, Ok, OnOk, Option, Result, Some, ap, false, inl, inr, le-ltb, length, lt-ltb, ltb, refl, sym, true}
+use Rattle.std.proofs.lemmas.Bool.{cond-false, cond-true}
 use Rattle.std.specs.Prelude.{codes, if◌then◌else◌}
-use Rattle.std.proofs.Common.{◌≡◌, ℕ, ◌^◌, ◌<◌, ◌≤◌, ◌+◌, ◌⊎◌, inl, inr, Bool, true, false, ltb, le-ltb, lt-ltb, List, length, refl, sym, ap, ◌∙◌}
-use Rattle.std.proofs.{Common.{Option, None, Some, Result, Ok, Err, IfErr, IfOk, OnOk}, lemmas.Bool.{cond-true, cond-false}}
 use Rattle.rlp.specs.{DecoderError.DecoderError, DecoderError.TheVariants.OutOfMemory, Form.{Answer, Fault, custom, fault_of}}
 use Rattle.rlp.specs.{Format.Encoding.{Item, encoding}, Views.View.{View, strict_view_of}}
-use Rattle.rlp_messages.specs.declared.bounds.MessageBounds.{MessageBounds}
-use Rattle.rlp_messages.specs.Bounds.{body_fault, is_among, items_fault, message_at_most, message_fault, numbered_fault}
-use Rattle.rlp_messages.specs.Message.{Fits, Table, bytes_of, item_of, message_of, number_of, numbered_of, read_of, seen_of}
-use Rattle.rlp_messages.proofs.Messages.{body_sized, id_back, id_fails, message_back, same_read}
-use Rattle.rlp_reading.proofs.Lemmas.RawItems.{raw_item_of-encoding}
-use Rattle.rlp_records.specs.Bounded.{IsBounded, IsWithinBounds, bound_fault, count_fault, is_encoding, items_in, items_in_envelopes, read_bounded, unless_fault}
+use Rattle.rlp_reading.proofs.RawLaws.{raw_item_of-encoding}
 use Rattle.rlp_records.proofs.Bounds.{told_encoding}
+use Rattle.rlp_records.specs.Bounded.{IsBounded, IsWithinBounds, bound_fault, count_fault, is_encoding, items_in, items_in_envelopes, read_bounded, unless_fault}
+use Rattle.rlp_messages.proofs.Messages.{body_sized, id_back, id_fails, message_back, same_read}
+use Rattle.rlp_messages.specs.Message.{Fits, Table, body_fault, bytes_of, is_among, item_of, items_fault, message_at_most, message_fault, message_of, number_of, numbered_fault, numbered_of, read_of, seen_of}
+use Rattle.rlp_messages.specs.declared.message.MessageBounds.{MessageBounds}
 
 -- ---- the bound on items
 

@@ -11,10 +11,6 @@ pub mod HashOrNumberLaws
 pub mod Requests
 -- answers with receipts
 pub mod Receipts
--- answers with receipts since eth/69
-pub mod Receipts69
--- the number of a request
-pub mod WithRequestId
 -- the messages that eth/68 and eth/69 have in common
 pub mod EthMessage
 -- the messages of eth/68 with their numbers

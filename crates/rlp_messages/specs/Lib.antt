@@ -2,8 +2,6 @@
 
 -- messages with their ids
 pub mod Message
--- bounds on messages
-pub mod Bounds
 -- messages of p2p
 pub mod P2p
 -- messages of eth

@@ -2,8 +2,6 @@
 
 -- greetings
 pub mod Hello
--- messages that keep a connection
-pub mod Session
 -- the end of a connection
 pub mod Disconnect
 -- the ids of capabilities

@@ -5,14 +5,11 @@
 //! neither compresses messages nor makes frames.
 #![tactic(auto)]
 
-mod bounds;
 mod eth;
 pub mod laws;
 mod message;
-mod numbered;
 mod p2p;
 
-pub use bounds::MessageBounds;
 pub use eth::{
     BlockBodies, BlockHeaders, BlockRangeUpdate, BlockReceipts, BlockReceipts69, ETH_68, ETH_69,
     Eth68Message, Eth69Message, ForkHash, ForkId, GetBlockBodies, GetBlockHeaders,
@@ -20,8 +17,7 @@ pub use eth::{
     NewPooledTransactionHashes, PooledTransactions, Receipt69, Receipts, Receipts69, Status68,
     Status69, Transactions, WithRequestId,
 };
-pub use message::Message;
-pub use numbered::{Numbered, decode_within};
+pub use message::{Message, MessageBounds, Numbered, decode_within};
 pub use p2p::{
     Capability, Disconnect, DisconnectReason, FurtherItem, Hello, NodeId, P2pMessage, Ping, Pong,
     Protocol,

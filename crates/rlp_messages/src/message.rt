@@ -1,14 +1,14 @@
 //! Messages of a capability, with their ids: the encoding of the id, and then the encoding of the
 //! body.
 
-ghost use Rattle.std.specs.Prelude.{◌≡◌, ◌⊎◌, Err, IfErr, IfOk, None, Ok, OnErr, OnOk, Some};
-ghost use Rattle.rlp.specs.{DecoderError.TheVariants.OutOfMemory, Form.fault_of, Streams.Growth.GrowsTo, Streams.Stream.{MovedGrows, put_item}};
-ghost use Rattle.rlp_messages.specs.Bounds.{IsWithin, body_fault, message_at_most, message_fault};
-ghost use Rattle.rlp_messages.specs.Message.{Fits, Table, bytes_of, item_of, message_of, number_of, read_of, seen_of};
+ghost use Rattle.std.specs.Prelude.{◌++◌, ◌+◌, ◌≡◌, ◌⊎◌, Err, IfErr, IfOk, None, Ok, OnErr, OnOk, Some};
+ghost use Rattle.rlp.specs.{DecoderError.TheVariants.OutOfMemory, Form.{Gives, fault_of, number}, Format.Encoding.encoding, Streams.Growth.GrowsTo, Streams.Stream.{MovedGrows, put_item}, Values.Value.number_item};
+ghost use Rattle.rlp.specs.Views.View.{strict_view_of, view_of};
+ghost use Rattle.rlp_messages.specs.Message.{Fits, IsWithin, Table, body_fault, bytes_of, item_of, items_fault, message_at_most, message_fault, message_of, number_of, numbered_of, read_of, seen_of};
 
-use crate::{MessageBounds, Numbered};
 use bytes::BytesMut;
-use rlp::{DecoderError, Encodable, RlpStream};
+use rlp::{DecoderError, Encodable, Rlp, RlpStream, StrictRead};
+use rlp_records::decode_at_most;
 use std::alloc::{AllocError, Global};
 
 /// A message of any number of a capability, such as [`Eth69Message`](crate::Eth69Message). A
@@ -132,4 +132,92 @@ impl<M: Message> Encodable for Body<'_, M> {
     fn rlp_append(&self, s: &mut RlpStream) -> Result<(), AllocError> {
         self.0.append_body(s)
     }
+}
+
+/// How large an untrusted message may be.
+#[derive(Debug, Clone, Copy, PartialEq, Eq)]
+pub struct MessageBounds {
+    /// The greatest number of bytes of a message, including its id. A frame of RLPx has fewer than
+    /// 2^24 bytes, and clients take at most 10 MiB of a message of `eth`.
+    pub bytes: usize,
+    /// The greatest number of items in the body: each string and each list counts as one item, at
+    /// every depth, and so do the body itself and the items in envelopes.
+    pub items: usize,
+}
+
+/// A message whose id is read.
+#[derive(Clone, Copy)]
+pub struct Numbered<'a> {
+    /// The number of the message, which is the id minus the offset.
+    pub number: u64,
+    /// The bytes after the id.
+    pub body: &'a [u8],
+}
+
+impl<'a> Numbered<'a> {
+    /// Reads the id that the bytes begin with. It doesn't allocate. With the offset 0 the number is
+    /// the id itself, by which a caller finds the capability of the message.
+    ///
+    /// Fails as reading a `u64` does, and with `Custom("unknown message")` for an id below the
+    /// offset.
+    pub fn of(alloc: Global, offset: u8, bytes: &'a [u8]) -> Result<Numbered<'a>, DecoderError>
+        ensures id { IfOk result
+            (λ m. Gives (number 8).reading (view_of bytes.now) (offset + m.number)) }
+        ensures whole { IfOk result (λ m. bytes.now
+            ≡ encoding (number_item (offset + m.number)) ++ m.body.now) }
+        ensures value { IfOk result (λ m. numbered_of offset bytes.now ≡ Ok (m.number, m.body.now)) }
+        ensures fault { IfErr result (λ e. numbered_of offset bytes.now ≡ Err (fault_of e)) }
+    {
+        let view = Rlp::new(bytes);
+        let id: u64 = view.as_val(alloc)?;
+        let first = u64::from(offset);
+        if id < first {
+            return Err(DecoderError::Custom("unknown message"));
+        }
+        let (_, body) = view.split_first()?;
+        Ok(Numbered {
+            number: id - first,
+            body,
+        })
+    }
+}
+
+/// Reads the body of a message strictly, with at most this number of items, or any number for
+/// `None`. It doesn't allocate for bytes that have more items or aren't the encoding of an item.
+///
+/// Fails as `decode_at_most` of `rlp_records` does if a number of items is given, and else with the
+/// strict fault of the body.
+pub fn decode_within<R: StrictRead>(
+    alloc: Global,
+    bytes: &[u8],
+    most: Option<usize>,
+) -> Result<R, DecoderError>
+    ensures value { IfOk result
+        (λ w. (R.reading.read (strict_view_of bytes.now)).result ≡ Ok (R.reading.seen w)) }
+    ensures within { OnOk result (items_fault most bytes.now ≡ None) }
+    ensures fault { IfErr result (λ e. (items_fault most bytes.now ≡ Some (fault_of e))
+        ⊎ ((items_fault most bytes.now ≡ None)
+        × (((R.reading.read (strict_view_of bytes.now)).result ≡ Err (fault_of e))
+        ⊎ (e ≡ OutOfMemory)))) }
+{
+    match most {
+        None => rlp::decode_strict(alloc, bytes),
+        Some(most) => decode_at_most(alloc, bytes, most),
+    }
+}
+
+/// Reads the body of a message by its number. The arguments are the allocator, the message, the
+/// greatest number of items or `None`, and then for each number the variant that holds the body. It is
+/// the whole body of [`Message::decode_body`](crate::Message::decode_body).
+///
+/// Fails with `Custom("unknown message")` for another number, and else as
+/// [`decode_within`](crate::decode_within) does.
+#[macro_export]
+macro_rules! decode_numbered {
+    ($alloc:expr, $message:expr, $most:expr, $($number:literal => $variant:path),+ $(,)?) => {
+        match $message.number {
+            $($number => Ok($variant($crate::decode_within($alloc, $message.body, $most)?)),)+
+            _ => Err(DecoderError::Custom("unknown message")),
+        }
+    };
 }

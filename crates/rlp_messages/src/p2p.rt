@@ -5,10 +5,8 @@ mod disconnect;
 mod hello;
 mod offsets;
 mod p2p_message;
-mod session;
 
 pub use disconnect::{Disconnect, DisconnectReason};
 pub use hello::{Capability, FurtherItem, Hello, NodeId};
 pub use offsets::Protocol;
-pub use p2p_message::P2pMessage;
-pub use session::{Ping, Pong};
+pub use p2p_message::{P2pMessage, Ping, Pong};

@@ -5,7 +5,7 @@ use Rattle.std.specs.{Str.bytes_eq, Bool.⊤, Vec.vec_items}
 use Rattle.rlp.specs.{Format.Encoding.{encoding, AreBytes}, Views.View.strict_view_of, Form.{Fault, and_then, custom, is_too_big, map_value}}
 use Rattle.rlp.specs.Codec.{Codec, lawful}
 use Rattle.rlp_reading.specs.FirstItems.{item_type}
-use Rattle.rlp_reading.proofs.{FirstItemLaws.{ReadsItems, items_lawful}, ListLaws.{goes_on, is_mapped}}
+use Rattle.rlp_reading.proofs.{RawLaws.{ReadsItems, items_lawful}, ListLaws.{goes_on, is_mapped}}
 use Rattle.rlp_records.proofs.Alone.{result_same}
 use Rattle.rlp_node_record.specs.{NodeFields.node_fields, NodeKeys.{HasId, has_key, value_among}}
 use Rattle.rlp_node_record.specs.NodeRecord.{AreInOrder, AreRecordKeys, IsNodeRecord, keys_of, keys_rise, keys_seen, longest_record, read_record, test_keys}

@@ -6,9 +6,8 @@ ghost use Rattle.rlp_node_record.specs.NodeFields.{pair_fields, node_fields};
 
 use bytes::BytesMut;
 use rlp::{
-    AppendFields, CountedFields, Decodable, DecodeFields, DecodeFieldsPlaced, DecodePlaced,
-    DecoderError, Encodable, Fields, FixedFields, Flattened, Groups, RawItem, Rlp, RlpStream,
-    RoundTrip, StrictRead,
+    AppendFields, CountedFields, DecodeFields, DecodeFieldsPlaced, DecoderError, Encodable, Fields,
+    FixedFields, Flattened, Groups, RawItem, Record, Rlp, RlpStream,
 };
 use std::alloc::{AllocError, Global};
 
@@ -97,7 +96,7 @@ impl Encodable for NodeFields {
     }
 }
 
-impl Decodable for NodeFields {
+impl Record for NodeFields {
     ghost reading = { node_fields.reading };
 
     fn decode(alloc: Global, rlp: &Rlp<'_>) -> Result<NodeFields, DecoderError> {
@@ -111,18 +110,10 @@ impl Decodable for NodeFields {
             }
         )
     }
-}
 
-impl DecodePlaced for NodeFields {
     fn put_path(alloc: Global, rlp: &Rlp<'_>, path: &mut Vec<usize>) -> Result<(), AllocError> {
         rlp::put_struct_path!(alloc, rlp, path, Vec<u8>, u64; Groups<NodePair>)
     }
-}
 
-impl RoundTrip for NodeFields {
-    ghost round_trip = { node_fields.reads_back };
-}
-
-impl StrictRead for NodeFields {
-    ghost strict = { node_fields.reads_strictly };
+    ghost lawful = { node_fields.reads_strictly };
 }

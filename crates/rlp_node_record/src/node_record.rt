@@ -9,10 +9,7 @@ ghost use Rattle.rlp_node_record.specs.NodeLaws.{node_record};
 use crate::lookup::has_id;
 use crate::node_fields::{NodeFields, NodePair};
 use bytes::BytesMut;
-use rlp::{
-    Decodable, DecodePlaced, DecoderError, Encodable, Flattened, Rlp, RlpStream, RoundTrip,
-    StrictRead, write_struct,
-};
+use rlp::{DecoderError, Encodable, Flattened, Record, Rlp, RlpStream, write_struct};
 use std::alloc::{AllocError, Global};
 use std::cmp::Ordering;
 use std::marker::Model;
@@ -185,7 +182,7 @@ impl Encodable for NodeRecord {
 /// Fails as [`Rlp::payload_info`] does, with `RlpIsTooBig` if the record has more than
 /// [`NodeRecord::MAX_LEN`] bytes, with a fault of its fields, and with
 /// `Custom("keys are not in order")` or `Custom("key id is missing")`.
-impl Decodable for NodeRecord {
+impl Record for NodeRecord {
     ghost reading = { node_record.reading };
 
     fn decode(alloc: Global, rlp: &Rlp<'_>) -> Result<NodeRecord, DecoderError> {
@@ -193,21 +190,13 @@ impl Decodable for NodeRecord {
         let fields = record_fields(alloc, item.as_raw())?;
         Ok(NodeRecord { fields })
     }
-}
 
-impl DecodePlaced for NodeRecord {
     fn put_path(alloc: Global, rlp: &Rlp<'_>, path: &mut Vec<usize>) -> Result<(), AllocError> {
         match rlp.split_first() {
             Ok((item, _)) => put_record_path(alloc, item.as_raw(), path),
             Err(_) => Ok(()),
         }
     }
-}
 
-impl RoundTrip for NodeRecord {
-    ghost round_trip = { node_record.reads_back };
-}
-
-impl StrictRead for NodeRecord {
-    ghost strict = { node_record.reads_strictly };
+    ghost lawful = { node_record.reads_strictly };
 }

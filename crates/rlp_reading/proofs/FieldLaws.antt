@@ -1,12 +1,17 @@
 -- FieldsForm are read back, and strictly from nothing else.
-use Rattle.std.proofs.Common.{Bool, Err, IfOk, IfSome, List, None, Ok, Option, Result, Some, [], ap, append-nil, append_assoc, arith, false, le-leb, leb, length, length-append, option_map, refl, subst, suc, sym, true, zero, ℕ, ◌&&◌, ◌+◌, ◌++◌, ◌-◌, ◌==◌, ◌||◌, ◌∙◌, ◌∷◌, ◌≡◌}
-use Rattle.std.proofs.lemmas.List.{map-append}
+use Rattle.std.proofs.Common.{Bool, Err, IfOk, IfSome, List, None, Ok, Option, Result, Some, [], ap, append-nil, append_assoc, arith, false, le-leb, leb}
+use Rattle.std.proofs.Common.{length, length-append, option_map, refl, subst, suc, sym, true, zero, ℕ, ◌&&◌, ◌+◌, ◌++◌, ◌-◌, ◌==◌, ◌||◌, ◌∙◌, ◌∷◌, ◌≡◌, map}
+use Rattle.std.proofs.{Common.get_or, lemmas.List.map-append}
 use Rattle.std.specs.List.{AllByRecursion}
 use Rattle.rlp_format.specs.{Format.Encoding.{IsSized, encoding, Item}, Values.Value.items_if}
 use Rattle.rlp_reading.specs.Views.View.{View}
-use Rattle.rlp_reading.specs.Form.{Answer, Form, Fault, FieldsForm, FieldsReading, Reading, Taken, and_then, each, end, field, group, group_before, map_fault, map_value, no_fields, one, one_field, optional, optional_fields, optional_group, part_fields, take_both, take_if, take_item}
-use Rattle.rlp_reading.specs.Laws.{AreLawful, AreSeen, GivesOnly, IsLawful, IsSeen, IsStrictPart, ReadsBack, TakePossible, TakeWidth, TakesBack, TakesOnly, viewed, views_of}
+use Rattle.rlp_reading.specs.Form.{Answer, Form, Fault, FieldsForm, FieldsReading, Reading, Taken, and_then, each, end, field, group, group_before}
+use Rattle.rlp_reading.specs.Form.{map_fault, map_value, no_fields, one, one_field, optional, optional_fields, optional_group, part_fields, take_both}
+use Rattle.rlp_reading.specs.Form.{take_if, take_item}
+use Rattle.rlp_reading.specs.Laws.{AreLawful, AreSeen, GivesOnly, IsLawful, IsSeen, IsStrictPart, ReadsBack, TakePossible, TakeWidth, TakesBack, TakesOnly}
+use Rattle.rlp_reading.specs.Laws.{viewed, views_of}
 use Rattle.rlp_reading.proofs.ListLaws.{not_faulty, goes_on, is_mapped, item_back, item_only, options_fit}
+use Rattle.std.proofs.Math.Seq.{get_or-append_seam}
 
 -- ---- what was taken
 
@@ -43,36 +48,18 @@ item_taken {M} read (v ∷ vs) x rest is =
 pub end_wide : {P : Type 0} → TakeWidth (no_fields {P = P})
 end_wide = record { taken = λ vs. omega arith }
 
-one_wide_by : {M : Type 0} (r : Result M Fault) (v : View) (vs : List View)
-    → IfOk (map_fault {F = List View × Fault} (λ e. (vs, e)) (map_value {B = M × List View} (λ x. (x, vs)) r)) (λ t. length (v ∷ vs) ≡ 1 + length t.1)
-one_wide_by (Ok x) v vs = omega arith
-one_wide_by (Err e) v vs = tt
+-- what is left after one item
+item_left : {M : Type 0} (Q : List View → Type 0) (r : Result M Fault) (vs : List View) → Q vs
+    → IfOk (map_fault {F = List View × Fault} (λ e. (vs, e)) (map_value {B = M × List View} (λ x. (x, vs)) r)) (λ t. Q t.1)
+item_left Q (Ok x) vs known = known
+item_left Q (Err e) vs known = tt
 
 pub one_wide : {A : Type 0} (r : Reading A) → TakeWidth (one_field r)
 one_wide r = record { taken = by }
   where
     by : (vs : List View) → IfOk (take_item r.read vs).result (λ t. length vs ≡ 1 + length t.1)
     by [] = tt
-    by (v ∷ vs) = one_wide_by (r.read v).result v vs
-
-two_wide : {A B C : Type 0} (n m : ℕ) (f : A → B → C) (r : Result (B × List View) (List View × Fault)) (x : A) (vs left : List View) → length vs ≡ n + length left
-    → IfOk r (λ t. length left ≡ m + length t.1) → IfOk (map_value {B = C × List View} (λ t. (f x t.0, t.1)) r) (λ t. length vs ≡ (n + m) + length t.1)
-two_wide n m f (Ok t) x vs left first second = omega (arith, first, second)
-two_wide n m f (Err e) x vs left first second = tt
-
-both_wide : {A B : Type 0} (n m : ℕ) (r : Result (A × List View) (List View × Fault)) (more : List View → Taken B) (vs : List View)
-    → IfOk r (λ t. length vs ≡ n + length t.1) → ((left : List View) → IfOk (more left).result (λ t. length left ≡ m + length t.1))
-    → IfOk (and_then {B = (A × B) × List View} r (λ t. map_value (λ u. ((t.0, u.0), u.1)) (more t.1).result)) (λ t. length vs ≡ (n + m) + length t.1)
-both_wide n m (Ok t) more vs first second = two_wide n m (λ x y. (x, y)) (more t.1).result t.0 vs t.1 first (second t.1)
-both_wide n m (Err e) more vs first second = tt
-
-pub group_wide : {A P : Type 0} (value : P → A) (r : FieldsReading A) (more : FieldsReading P) → TakeWidth r → TakeWidth more → TakeWidth (group_before value r more)
-group_wide value r more law others = record { taken = λ vs. both_wide r.width more.width (r.read vs).result more.read vs (law.taken vs) others.taken }
-
-pub part_wide : {P Q : Type 0} (part : P → Q) (r : FieldsReading Q) → TakeWidth r → TakeWidth (part_fields part r)
-part_wide part r law = record { taken = law.taken }
-
--- ---- fields that are all of the items
+    by (v ∷ vs) = item_left (λ left. length (v ∷ vs) ≡ 1 + length left) (r.read v).result vs (omega arith)
 
 -- what is left after fields, with f applied to the fields
 pub still_left : {A B : Type 0} (f : A → B) (Q R : List View → Type 0) (r : Result (A × List View) (List View × Fault)) → ((left : List View) → Q left → R left)
@@ -80,20 +67,36 @@ pub still_left : {A B : Type 0} (f : A → B) (Q R : List View → Type 0) (r : 
 still_left f Q R (Ok t) more is = more t.1 is
 still_left f Q R (Err e) more is = tt
 
+-- what is left after fields and other fields
+pub both_left : {A B C : Type 0} (f : A → B → C) (First : List View → Type 0) (Next : List View → List View → Type 0) (R : List View → Type 0)
+    (r : Result (A × List View) (List View × Fault)) (more : List View → Taken B) → ((left rest : List View) → First left → Next left rest → R rest)
+    → IfOk r (λ t. First t.1) → ((left : List View) → IfOk (more left).result (λ t. Next left t.1))
+    → IfOk (and_then {B = C × List View} r (λ t. map_value (λ u. (f t.0 u.0, u.1)) (more t.1).result)) (λ t. R t.1)
+both_left f First Next R (Ok t) more step first second = still_left (f t.0) (Next t.1) R (more t.1).result (λ rest next. step t.1 rest first next) (second t.1)
+both_left f First Next R (Err e) more step first second = tt
+
+pub group_wide : {A P : Type 0} (value : P → A) (r : FieldsReading A) (more : FieldsReading P) → TakeWidth r → TakeWidth more → TakeWidth (group_before value r more)
+group_wide value r more law others = record {
+  taken = λ vs.
+      both_left (λ (x : r.M) (y : more.M). (x, y)) (λ left. length vs ≡ r.width + length left) (λ left rest. length left ≡ more.width + length rest)
+      (λ rest. length vs ≡ (r.width + more.width) + length rest) (r.read vs).result more.read (λ left rest first next. omega (arith, first, next))
+      (law.taken vs) others.taken;
+}
+
+pub part_wide : {P Q : Type 0} (part : P → Q) (r : FieldsReading Q) → TakeWidth r → TakeWidth (part_fields part r)
+part_wide part r law = record { taken = law.taken }
+
+-- ---- fields that are all of the items
+
 pub end_possible : {P : Type 0} → TakePossible (no_fields {P = P})
 end_possible = record { all = λ vs none. ap (λ ws. length ws == 0) none }
-
-one_possible_by : {M : Type 0} (r : Result M Fault) (v : View) (vs : List View)
-    → IfOk (map_fault {F = List View × Fault} (λ e. (vs, e)) (map_value {B = M × List View} (λ x. (x, vs)) r)) (λ t. t.1 ≡ [] → (length (v ∷ vs) == 1) ≡ true)
-one_possible_by (Ok x) v vs = λ none. ap (λ ws. length (v ∷ ws) == 1) none
-one_possible_by (Err e) v vs = tt
 
 pub one_possible : {A : Type 0} (r : Reading A) → TakePossible (one_field r)
 one_possible r = record { all = by }
   where
     by : (vs : List View) → IfOk (take_item r.read vs).result (λ t. t.1 ≡ [] → (length vs == 1) ≡ true)
     by [] = tt
-    by (v ∷ vs) = one_possible_by (r.read v).result v vs
+    by (v ∷ vs) = item_left (λ left. left ≡ [] → (length (v ∷ vs) == 1) ≡ true) (r.read v).result vs (λ none. ap (λ ws. length (v ∷ ws) == 1) none)
 
 -- m items that are possible come after w items
 after_width : (accepts : ℕ → Bool) (w n m : ℕ) → n ≡ w + m → accepts m ≡ true → (leb w n && accepts (n - w)) ≡ true
@@ -102,18 +105,13 @@ after_width accepts w n m many right =
     let others : n - w ≡ m = omega (arith, many) in
     ap (λ b. b && accepts (n - w)) wide ∙ ap accepts others ∙ right
 
-both_possible : {A B : Type 0} (w : ℕ) (accepts : ℕ → Bool) (r : Result (A × List View) (List View × Fault)) (more : List View → Taken B) (vs : List View)
-    → IfOk r (λ t. length vs ≡ w + length t.1) → ((left : List View) → IfOk (more left).result (λ t. t.1 ≡ [] → accepts (length left) ≡ true))
-    → IfOk (and_then {B = (A × B) × List View} r (λ t. map_value (λ u. ((t.0, u.0), u.1)) (more t.1).result))
-    (λ t. t.1 ≡ [] → (leb w (length vs) && accepts (length vs - w)) ≡ true)
-both_possible w accepts (Err e) more vs first second = tt
-both_possible {A} {B} w accepts (Ok t) more vs first second =
-    still_left (λ (y : B). (t.0, y)) (λ left. left ≡ [] → accepts (length t.1) ≡ true) (λ left. left ≡ [] → (leb w (length vs) && accepts (length vs - w)) ≡ true)
-    (more t.1).result (λ left right none. after_width accepts w (length vs) (length t.1) first (right none)) (second t.1)
-
 pub group_possible : {A P : Type 0} (value : P → A) (r : FieldsReading A) (more : FieldsReading P) → TakeWidth r → TakePossible more → TakePossible (group_before value r more)
-group_possible value r more law others =
-    record { all = λ vs. both_possible r.width more.accepts (r.read vs).result more.read vs (law.taken vs) others.all }
+group_possible value r more law others = record {
+  all = λ vs.
+      both_left (λ (x : r.M) (y : more.M). (x, y)) (λ left. length vs ≡ r.width + length left) (λ left rest. rest ≡ [] → more.accepts (length left) ≡ true)
+      (λ rest. rest ≡ [] → (leb r.width (length vs) && more.accepts (length vs - r.width)) ≡ true) (r.read vs).result more.read
+      (λ left rest many right none. after_width more.accepts r.width (length vs) (length left) many (right none)) (law.taken vs) others.all;
+}
 
 pub part_possible : {P Q : Type 0} (part : P → Q) (r : FieldsReading Q) → TakePossible r → TakePossible (part_fields part r)
 part_possible part r law = record { all = law.all }
@@ -140,14 +138,17 @@ end_back is_strict = record { counted = λ p fit. refl; wide = λ p fixed. refl;
 pub ok_same : {A E : Type 0} (x y : A) → (let r : Result A E = Ok x in r) ≡ Ok y → x ≡ y
 ok_same x y is = cc
 
-pub end_only : {P : Type 0} → TakesOnly (end {P = P})
-end_only = record { only = λ p vs rest parts is. (tt, ap (λ t. t.1) (ok_same _ _ is)) }
-
 pub end_told : {P : Type 0} → AreSeen (end {P = P})
 end_told = record { fits = λ p q same fit. tt; written = λ p. refl }
 
 pub end_lawful : {P : Type 0} → AreLawful (end {P = P})
-end_lawful = record { told = end_told; wide = λ fixed. end_wide; possible = end_possible; back = end_back; exact = end_only }
+end_lawful = record {
+  told = end_told;
+  wide = λ fixed. end_wide;
+  possible = end_possible;
+  back = end_back;
+  exact = record { only = λ p vs rest parts is. (tt, ap (λ t. t.1) (ok_same _ _ is)) };
+}
 
 pub views_append : (is_strict : Bool) (xs ys : List Item) → views_of is_strict (xs ++ ys) ≡ views_of is_strict xs ++ views_of is_strict ys
 views_append is_strict xs ys = map-append (λ x. viewed is_strict (encoding x)) xs ys
@@ -184,27 +185,8 @@ module _ {A : Type 0} (c : Form A) where
 -- ---- fields of a part, before others
 
 module _ {A P : Type 0} (value : P → A) (f : FieldsForm A) (more : FieldsForm P) (fixed : f.reading.is_fixed ≡ true) where
-  not_open : f.reading.is_fixed ≡ false → {T : Type 0} → T
-  not_open other = absurd (let no : ⊥ = cc in no)
-
   abbrev beside : f.reading.M → Result (more.reading.M × List View) (List View × Fault) → Result ((f.reading.M × more.reading.M) × List View) (List View × Fault)
   beside x r = map_value (λ t. ((x, t.0), t.1)) r
-
-  group_back_by : (is_strict : Bool) → TakesBack is_strict f → TakesBack is_strict more → (p : P) (rest : List View)
-      → (more.reading.is_fixed ≡ false → rest ≡ []) → f.Fits (value p) × more.Fits p → AllByRecursion IsSized (f.items (value p) ++ more.items p)
-      → (take_both f.reading.read more.reading.read (views_of is_strict (f.items (value p) ++ more.items p) ++ rest)).result
-      ≡ Ok ((f.reading.seen (value p), more.reading.seen p), rest)
-  group_back_by is_strict law others p rest last (fit, fits) sized =
-      let both = all_first IsSized (f.items (value p)) (more.items p) sized in
-      let mine = views_of is_strict (f.items (value p)) in
-      let next = views_of is_strict (more.items p) in
-      let whole : views_of is_strict (f.items (value p) ++ more.items p) ++ rest
-      ≡ views_of is_strict (f.items (value p)) ++ (views_of is_strict (more.items p) ++ rest) =
-      ap (λ vs. vs ++ rest) (views_append is_strict (f.items (value p)) (more.items p)) ∙ append_assoc mine next rest in
-      ap (λ vs. (take_both f.reading.read more.reading.read vs).result) whole
-      ∙ ap (λ r. and_then {A = f.reading.M × List View} r (λ t. beside t.0 (more.reading.read t.1).result))
-      (law.back (value p) (views_of is_strict (more.items p) ++ rest) (λ other. not_open other) fit both.0)
-      ∙ ap (beside (f.reading.seen (value p))) (others.back p rest last fits both.1)
 
   pub group_back : (is_strict : Bool) → TakesBack is_strict f → TakesBack is_strict more → TakesBack is_strict (group value f more)
   group_back is_strict law others = record {
@@ -214,27 +196,31 @@ module _ {A P : Type 0} (value : P → A) (f : FieldsForm A) (more : FieldsForm 
         after_width more.reading.accepts f.reading.width (length (xs ++ ys)) (length ys) (omega (arith, length-append (f.items (value p)) (more.items p), law.wide (value p) fixed))
         (others.counted p fit.1);
     wide = λ p last. omega (arith, length-append (f.items (value p)) (more.items p), law.wide (value p) fixed, others.wide p last);
-    back = group_back_by is_strict law others;
+    back = λ p rest last fit sized.
+        let both = all_first IsSized (f.items (value p)) (more.items p) sized in
+        let mine = views_of is_strict (f.items (value p)) in
+        let next = views_of is_strict (more.items p) in
+        let whole : views_of is_strict (f.items (value p) ++ more.items p) ++ rest
+        ≡ views_of is_strict (f.items (value p)) ++ (views_of is_strict (more.items p) ++ rest) =
+        ap (λ vs. vs ++ rest) (views_append is_strict (f.items (value p)) (more.items p)) ∙ append_assoc mine next rest in
+        ap (λ vs. (take_both f.reading.read more.reading.read vs).result) whole
+        ∙ ap (λ r. and_then {A = f.reading.M × List View} r (λ t. beside t.0 (more.reading.read t.1).result))
+        (law.back (value p) (views_of is_strict (more.items p) ++ rest) (λ other. absurd (let no : ⊥ = cc in no)) fit.0 both.0)
+        ∙ ap (beside (f.reading.seen (value p))) (others.back p rest last fit.1 both.1);
   }
-
-  group_only_by : TakesOnly f → TakesOnly more → (p : P) (vs left rest : List View) → AllByRecursion IsStrictPart vs
-      → (f.reading.read vs).result ≡ Ok (f.reading.seen (value p), left) → (more.reading.read left).result ≡ Ok (more.reading.seen p, rest)
-      → (f.Fits (value p) × more.Fits p) × (vs ≡ views_of true (f.items (value p) ++ more.items p) ++ rest)
-  group_only_by law others p vs left rest parts first second =
-      let h = law.only (value p) vs left parts first in
-      let both = all_first IsStrictPart (views_of true (f.items (value p))) left (subst (AllByRecursion IsStrictPart) h.1 parts) in
-      let hs = others.only p left rest both.1 second in (
-        (h.0, hs.0),
-        h.1 ∙ ap (λ ws. views_of true (f.items (value p)) ++ ws) hs.1
-            ∙ sym (append_assoc (views_of true (f.items (value p))) (views_of true (more.items p)) rest)
-            ∙ ap (λ ws. ws ++ rest) (sym (views_append true (f.items (value p)) (more.items p))),
-      )
 
   pub group_only : TakesOnly f → TakesOnly more → TakesOnly (group value f more)
   group_only law others = record {
     only = λ p vs rest parts is.
         let b = both_taken f.reading.read more.reading.read vs (f.reading.seen (value p), more.reading.seen p) rest is in
-        group_only_by law others p vs b.left rest parts b.first b.second;
+        let h = law.only (value p) vs b.left parts b.first in
+        let both = all_first IsStrictPart (views_of true (f.items (value p))) b.left (subst (AllByRecursion IsStrictPart) h.1 parts) in
+        let hs = others.only p b.left rest both.1 b.second in (
+          (h.0, hs.0),
+          h.1 ∙ ap (λ ws. views_of true (f.items (value p)) ++ ws) hs.1
+              ∙ sym (append_assoc (views_of true (f.items (value p))) (views_of true (more.items p)) rest)
+              ∙ ap (λ ws. ws ++ rest) (sym (views_append true (f.items (value p)) (more.items p))),
+        );
   }
 
   pub group_told : AreSeen f → AreSeen more → AreSeen (group value f more)
@@ -316,9 +302,6 @@ module _ {A P : Type 0} (value : P → Option A) (f : FieldsForm A) where
       let tail : m.value.1 ≡ rest = ap (λ t. t.1) m.then in
       law.only x (v ∷ vs) rest parts (m.is ∙ ap (λ y. Ok (y, m.value.1)) head ∙ ap (λ ws. Ok (f.reading.seen x, ws)) tail)
 
-  pub optional_group_only : TakesOnly f → TakesOnly (optional_group value f)
-  optional_group_only law = record { only = λ p vs rest parts is. if_only law (value p) vs rest parts is }
-
   if_written : AreSeen f → (o : Option A) → items_if f.reading.items (option_map f.reading.seen o) ≡ items_if f.items o
   if_written law None = refl
   if_written law (Some x) = law.written x
@@ -336,7 +319,7 @@ module _ {A P : Type 0} (value : P → Option A) (f : FieldsForm A) where
     wide = λ last. absurd (let no : ⊥ = cc in no);
     possible = optional_possible value f.reading law.possible;
     back = λ is_strict. optional_group_back is_strict some (law.back is_strict);
-    exact = optional_group_only law.exact;
+    exact = record { only = λ p vs rest parts is. if_only law.exact (value p) vs rest parts is };
   }
 
 -- ---- a last field that may be missing
@@ -347,3 +330,29 @@ module _ {A P : Type 0} (value : P → Option A) (c : Form A) where
 
   pub optional_lawful : IsLawful c → AreLawful (optional value c)
   optional_lawful law = optional_group_lawful value (one c) refl (one_lawful c law)
+
+-- ---- fields of one type, one by one as `each` has them, and together as the values of an array
+
+module _ {A P : Type 0} (d : A) (values : P → List A) (c : Form A) (more : FieldsForm P) (p : P) where
+  -- a number of fields, from place k on
+  abbrev fields_from : ℕ → ℕ → FieldsForm P
+  fields_from k n = each (λ j p. get_or (values p) j d) c more k n
+
+  there : (before after : List A) (x : A) (k : ℕ) → values p ≡ before ++ x ∷ after → length before ≡ k → get_or (values p) k d ≡ x
+  there before after x k whole at = ap (λ xs. get_or xs k d) whole ∙ ap (λ j. get_or (before ++ x ∷ after) j d) (sym at) ∙ get_or-append_seam before x after d
+
+  one_further : (before after : List A) (x : A) → values p ≡ before ++ x ∷ after → values p ≡ (before ++ x ∷ []) ++ after
+  one_further before after x whole = whole ∙ sym (append_assoc before (x ∷ []) after)
+
+  items_from : (k n : ℕ) (before after : List A) → values p ≡ before ++ after → length before ≡ k → length after ≡ n
+      → map c.item after ++ more.items p ≡ (fields_from k n).items p
+  items_from k zero before [] whole at many = refl
+  items_from k (suc n) before (x ∷ after) whole at many =
+      ap (λ zs. c.item x ∷ zs) (items_from (suc k) n (before ++ x ∷ []) after (one_further before after x whole)
+      (omega (arith, length-append before (x ∷ []))) (omega arith))
+      ∙ ap (λ y. c.item y ∷ (fields_from (suc k) n).items p) (sym (there before after x k whole at))
+  items_from k n before after whole at many = absurd (omega arith)
+
+  -- fields of one type, for the same number of values, are written as the items of the values
+  pub each_items : (n : ℕ) → length (values p) ≡ n → map c.item (values p) ++ more.items p ≡ (fields_from 0 n).items p
+  each_items n many = items_from 0 n [] (values p) refl refl many

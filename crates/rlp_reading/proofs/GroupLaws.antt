@@ -1,14 +1,26 @@
 -- Groups of fields at the end of a struct.
-use Rattle.std.proofs.Common.{Bool, Err, IfOk, List, Ok, Result, [], ap, append-nil, append_assoc, arith, eq-eqb, false, length, length-append, map, refl, subst, suc, sym, true, zero, ℕ, ◌%◌, ◌*◌, ◌+◌, ◌++◌, ◌<◌, ◌==◌, ◌^◌, ◌∙◌, ◌∷◌, ◌≡◌, ◌≤◌}
-use Rattle.std.proofs.{Math.Nat.{mod-eq_of_lt, mul-add-mod_self_right}, lemmas.List.{length-map, map-append}}
+use Rattle.std.proofs.Common.{◌≡◌, ℕ, ◌+◌, ◌*◌, ◌%◌, ◌<◌, List, [], ◌∷◌, ◌++◌, length, sym, ap, ◌∙◌, arith, length-append, Bool, Err, IfOk, Ok, Result}
+use Rattle.std.proofs.Common.{append-nil, append_assoc, eq-eqb, false, map, refl, subst, suc, true, zero, ◌==◌, ◌^◌, ◌≤◌}
+use Rattle.std.proofs.{Math.Nat.{mod-eq_of_lt, mul-add-mod_self_right, suc-mul}, lemmas.List.{length-map, map-append}}
 use Rattle.std.proofs.lemmas.List.Elements.{All-from_recursion, recursion_from_All}
 use Rattle.std.specs.List.{AllByRecursion}
-use Rattle.rlp_format.specs.{Format.Encoding.{IsSized, encoding, Item}, Values.Value.all_items}
-use Rattle.rlp_reading.proofs.{Lemmas.Groups.{groups_counted, groups_right}, ListLaws.{goes_on, is_mapped, lists_fit}}
-use Rattle.rlp_reading.proofs.FieldLaws.{all_first, ok_same, still_left, views_append}
+use Rattle.rlp_format.specs.{Format.Encoding.{Item, IsSized, encoding}, Values.Value.all_items}
 use Rattle.rlp_reading.specs.Views.View.{View}
-use Rattle.rlp_reading.specs.Form.{Answer, Fault, FieldsForm, FieldsReading, Path, Taken, and_then, go_on, group_fields, groups, map_taken, map_value, most_groups, take_each}
+use Rattle.rlp_reading.specs.Form.{Answer, Fault, FieldsForm, FieldsReading, Path, Taken, and_then, go_on, group_fields, groups, map_taken, map_value}
+use Rattle.rlp_reading.specs.Form.{most_groups, take_each}
 use Rattle.rlp_reading.specs.Laws.{AreLawful, AreSeen, IsStrictPart, TakePossible, TakeWidth, TakesBack, TakesOnly, viewed, views_of}
+use Rattle.rlp_reading.proofs.{ListLaws.{goes_on, is_mapped, lists_fit}, FieldLaws.{all_first, ok_same, both_left, views_append}}
+
+module _ {G : Type 0} (width : ℕ) (items_of : G → List Item) (counted : (g : G) → length (items_of g) ≡ width) where
+  -- the number of items of groups
+  pub groups_counted : (gs : List G) → length (all_items items_of gs) ≡ length gs * width
+  groups_counted [] = omega arith
+  groups_counted (g ∷ gs) =
+      let more : length (all_items items_of gs) ≡ length gs * width = groups_counted gs in
+      let one : length (items_of g) ≡ width = counted g in
+      let both : length (items_of g ++ all_items items_of gs) ≡ length gs * width + width =
+      omega (arith, length-append (items_of g) (all_items items_of gs)) in
+      both ∙ sym (suc-mul (length gs) width)
 
 -- ---- groups at the end
 
@@ -30,18 +42,13 @@ module _ {A : Type 0} (r : FieldsReading A) (law : TakeWidth r) (some : 0 < r.wi
       let more : n ≡ 1 * r.width + m = omega (arith, many) in
       ap (λ k. k == 0) (ap (λ k. k % r.width) more ∙ mul-add-mod_self_right 1 r.width m) ∙ whole
 
-  after_group : (turns : ℕ) (x : Result (r.M × List View) (List View × Fault)) (n : ℕ) → IfOk x (λ t. n ≡ r.width + length t.1)
-      → ((left : List View) → IfOk (take_each r.read turns left).result (λ t. Whole (length left) t.1))
-      → IfOk (and_then {B = List r.M × List View} x (λ t. map_value (λ u. (t.0 ∷ u.0, u.1)) (take_each r.read turns t.1).result)) (λ t. Whole n t.1)
-  after_group turns (Err e) n many more = tt
-  after_group turns (Ok t) n many more =
-      still_left (λ (ms : List r.M). t.0 ∷ ms) (Whole (length t.1)) (Whole n) (take_each r.read turns t.1).result
-      (λ left whole none. one_before n (length t.1) many (whole none)) (more t.1)
-
   whole_groups_by : (turns : ℕ) (vs : List View) → IfOk (take_each r.read turns vs).result (λ t. Whole (length vs) t.1)
   whole_groups_by zero vs = λ none. ap (λ ws. length ws % r.width == 0) none ∙ no_items
   whole_groups_by (suc turns) [] = λ none. no_items
-  whole_groups_by (suc turns) (v ∷ vs) = after_group turns (r.read (v ∷ vs)).result (length (v ∷ vs)) (law.taken (v ∷ vs)) (whole_groups_by turns)
+  whole_groups_by (suc turns) (v ∷ vs) =
+      both_left (λ (m : r.M) (ms : List r.M). m ∷ ms) (λ left. length (v ∷ vs) ≡ r.width + length left) (λ left rest. Whole (length left) rest) (Whole (length (v ∷ vs)))
+      (r.read (v ∷ vs)).result (take_each r.read turns) (λ left rest many whole none. one_before (length (v ∷ vs)) (length left) many (whole none))
+      (law.taken (v ∷ vs)) (whole_groups_by turns)
 
 pub groups_possible : {A P : Type 0} (values : P → List A) (r : FieldsReading A) → TakeWidth r → TakePossible (group_fields values r)
 groups_possible values r law = record { all = λ vs. by r.width refl vs }
@@ -89,31 +96,28 @@ module _ {A P : Type 0} (values : P → List A) (f : FieldsForm A) (fixed : f.re
       (law.back x ys (λ other. absurd (let no : ⊥ = cc in no)) fit both.0)
       ∙ ap (before (f.reading.seen x)) (each_back is_strict law xs turns all both.1 less)
 
-  groups_right_by : (is_strict : Bool) → TakesBack is_strict f → (xs : List A) → (length (all_items f.items xs) % f.reading.width == 0) ≡ true
-  groups_right_by is_strict law xs =
-      eq-eqb _ _ (ap (λ n. n % f.reading.width) (groups_counted f.reading.width f.items (λ x. law.wide x fixed) xs)
-      ∙ groups_right f.reading.width (length xs) not_zero)
-
-  groups_back_by : (is_strict : Bool) → TakesBack is_strict f → (p : P) (rest : List View) → rest ≡ [] → AllByRecursion f.Fits (values p)
-      → AllByRecursion IsSized (all_items f.items (values p))
-      → each (length (views_of is_strict (all_items f.items (values p)) ++ rest)) (views_of is_strict (all_items f.items (values p)) ++ rest)
-      ≡ Ok (map f.reading.seen (values p), rest)
-  groups_back_by is_strict law p rest none all sized =
-      let vs = views_of is_strict (all_items f.items (values p)) in
-      let whole : views_of is_strict (all_items f.items (values p)) ++ rest ≡ views_of is_strict (all_items f.items (values p)) =
-      ap (λ ws. vs ++ ws) none ∙ append-nil vs in
-      let many : length (views_of is_strict (all_items f.items (values p))) ≡ length (all_items f.items (values p)) =
-      length-map (all_items f.items (values p)) (λ x. viewed is_strict (encoding x)) in
-      ap (λ ws. each (length ws) ws) whole ∙ each_back is_strict law (values p) (length vs) all sized (omega arith)
-      ∙ ap (λ ws. Ok (map f.reading.seen (values p), ws)) (sym none)
+  -- some groups are a whole number of groups
+  groups_right : (is_strict : Bool) → TakesBack is_strict f → (xs : List A) → (length (all_items f.items xs) % f.reading.width == 0) ≡ true
+  groups_right is_strict law xs =
+      let w = f.reading.width in
+      let many : length (all_items f.items xs) ≡ length xs * f.reading.width + 0 =
+      omega (arith, groups_counted f.reading.width f.items (λ x. law.wide x fixed) xs) in
+      eq-eqb _ _ (ap (λ n. n % w) many ∙ mul-add-mod_self_right (length xs) f.reading.width 0 ∙ mod-eq_of_lt not_zero)
 
   pub groups_back : (is_strict : Bool) → TakesBack is_strict f → TakesBack is_strict (groups values f)
   groups_back is_strict law = record {
-    counted = λ p fit. groups_right_by is_strict law (values p);
+    counted = λ p fit. groups_right is_strict law (values p);
     wide = λ p last. absurd (let no : ⊥ = cc in no);
     back = λ p rest last fit sized.
-        let vs = views_of is_strict (all_items f.items (values p)) ++ rest in
-        ap (λ n. each n vs) (as_many f.reading.width (length vs) not_zero) ∙ groups_back_by is_strict law p rest (last refl) (recursion_from_All f.Fits (values p) fit) sized;
+        let vs = views_of is_strict (all_items f.items (values p)) in
+        let whole : views_of is_strict (all_items f.items (values p)) ++ rest ≡ views_of is_strict (all_items f.items (values p)) =
+        ap (λ ws. vs ++ ws) (last refl) ∙ append-nil vs in
+        let many : length (views_of is_strict (all_items f.items (values p))) ≡ length (all_items f.items (values p)) =
+        length-map (all_items f.items (values p)) (λ x. viewed is_strict (encoding x)) in
+        ap (λ n. each n (vs ++ rest)) (as_many f.reading.width (length (vs ++ rest)) not_zero)
+        ∙ ap (λ ws. each (length ws) ws) whole
+        ∙ each_back is_strict law (values p) (length vs) (recursion_from_All f.Fits (values p) fit) sized (omega arith)
+        ∙ ap (λ ws. Ok (map f.reading.seen (values p), ws)) (sym (last refl));
   }
 
   -- what is known of the groups that follow goes on with one more
@@ -153,25 +157,22 @@ module _ {A P : Type 0} (values : P → List A) (f : FieldsForm A) (fixed : f.re
       (λ ys parts same. each_only law turns g.value.1 rest ys parts (m.is ∙ ap (λ zs. Ok (zs, m.value.1)) same ∙ ap (λ ws. Ok (map f.reading.seen ys, ws)) (ap (λ t. t.1) m.then)))
       (ap (λ t. t.0) m.then)
 
-  pub groups_only : TakesOnly f → TakesOnly (groups values f)
-  groups_only law = record {
-    only = λ p vs rest parts is.
-        let h = each_only law (most_groups f.reading.width (length vs)) vs rest (values p) parts is in (All-from_recursion f.Fits (values p) h.0, h.1);
-  }
-
   each_written : AreSeen f → (xs : List A) → all_items f.reading.items (map f.reading.seen xs) ≡ all_items f.items xs
   each_written law [] = refl
   each_written law (x ∷ xs) = let one = law.written x in let more = each_written law xs in cc
 
-  pub groups_told : AreSeen f → AreSeen (groups values f)
-  groups_told law = record {
-    fits = λ p q. lists_fit f.reading.seen f.Fits law.fits (values p) (values q);
-    written = λ p. each_written law (values p);
-  }
-
   -- that each group is the same number of items, and not none, is proved by `refl`
   pub groups_lawful : AreLawful f → AreLawful (groups values f)
-  groups_lawful law = record { told = groups_told law.told; wide = λ last. absurd (let no : ⊥ = cc in no); possible = groups_possible values f.reading (law.wide fixed); back = λ is_strict. groups_back is_strict (law.back is_strict); exact = groups_only law.exact }
+  groups_lawful law = record {
+    told = record { fits = λ p q. lists_fit f.reading.seen f.Fits law.told.fits (values p) (values q); written = λ p. each_written law.told (values p) };
+    wide = λ last. absurd (let no : ⊥ = cc in no);
+    possible = groups_possible values f.reading (law.wide fixed);
+    back = λ is_strict. groups_back is_strict (law.back is_strict);
+    exact = record {
+      only = λ p vs rest parts is.
+          let h = each_only law.exact (most_groups f.reading.width (length vs)) vs rest (values p) parts is in (All-from_recursion f.Fits (values p) h.0, h.1);
+    };
+  }
 
 -- ---- for bodies of `decode_fields`
 
@@ -194,15 +195,12 @@ module _ {A : Type 0} (r : FieldsReading A) (law : TakeWidth r) (some : 0 < r.wi
 
   -- turns that are as many as the views are enough
   enough_turns : (turns others : ℕ) (vs : List View) → length vs ≤ turns → length vs ≤ others → take_each r.read turns vs ≡ take_each r.read others vs
-  enough_turns zero zero vs few less = refl
-  enough_turns zero (suc others) [] few less = refl
   enough_turns zero (suc others) (v ∷ vs) few less = absurd (omega (arith, few))
-  enough_turns (suc turns) zero [] few less = refl
   enough_turns (suc turns) zero (v ∷ vs) few less = absurd (omega (arith, less))
-  enough_turns (suc turns) (suc others) [] few less = refl
   enough_turns (suc turns) (suc others) (v ∷ vs) few less =
       same_after (r.read (v ∷ vs)).result (r.read (v ∷ vs)).path (λ t. map_taken (λ xs. t.0 ∷ xs) (take_each r.read turns t.1)) (λ t. map_taken (λ xs. t.0 ∷ xs) (take_each r.read others t.1))
       (after_one turns others (r.read (v ∷ vs)).result v vs (λ left many. enough_turns turns others left (omega (arith, many, few)) (omega (arith, many, less))) (law.taken (v ∷ vs)))
+  enough_turns turns others vs few less = refl
 
   -- what a group leaves is less than what it was taken from
   pub less_left : (vs left : List View) (m : r.M) → (r.read vs).result ≡ Ok (m, left) → length left < length vs

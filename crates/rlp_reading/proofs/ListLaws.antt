@@ -1,44 +1,34 @@
 -- Types that are written as lists.
 use Rattle.std.proofs.Common.{◌≡◌, ℕ, ◌^◌, ◌<◌, Bool, true, false, List, [], ◌∷◌, ◌++◌, length, map, refl, sym, ap, ◌∙◌, subst}
 use Rattle.std.proofs.Common.{arith, Result, Ok, Err, Option, None, Some, option_map, IfSome, append-nil, append_assoc, length-append}
-use Rattle.std.proofs.{lemmas.List.Elements.{All-from_recursion, recursion_from_All}, lemmas.List.map-append, lemmas.Simd.map-map}
+use Rattle.std.proofs.{lemmas.List.Elements.{All-from_recursion, recursion_from_All}, lemmas.List.map-append}
 use Rattle.std.specs.List.{All, AllByRecursion}
-use Rattle.rlp_reading.specs.{declared.error.DecoderError.DecoderError, Format.Framing.{items, strict_list_fault}}
-use Rattle.rlp_reading.specs.Views.View.{View, Holds, item_count, item_views, items_fault, strict_view_of, view_of}
-use Rattle.rlp_reading.specs.Form.{Form, Fault, and_then, holding, items_of, list_of_views, list_type, map_fault, map_value, newtype, option, read_each, read_option}
+use Rattle.rlp_reading.specs.{declared.error.DecoderError.DecoderError, Format.Framing.{items}}
+use Rattle.rlp_reading.specs.Views.View.{View, Holds, item_count, item_views, items_fault, strict_view_of}
+use Rattle.rlp_reading.specs.Form.{Form, Fault, and_then, held_type, items_of, list_of_views, list_type, map_fault, map_value, option, read_each, read_option}
 use Rattle.rlp_reading.specs.{Form.{fault_of, seen_fault}, Laws.{ReadsBack, GivesOnly, IsLawful, IsReadBack, IsSeen, IsStrictPart, viewed, views_of}}
 use Rattle.rlp_format.specs.{Format.Encoding.{Item, list_of, AreBytes, encoding, join, IsSized}, Values.Value.option_item}
 use Rattle.rlp_format.proofs.Lemmas.Encodings.{encoding_list, front_sized, small_payload}
-use Rattle.rlp_reading.proofs.Lemmas.Numbered.{item_count-fault, item_count-list, item_count-told, item_views-list}
-use Rattle.rlp_reading.proofs.{Lemmas.StrictLists.{IsPart, item_parts}, Lemmas.StrictReads.{counted_told, told_whole}}
-use Rattle.rlp_reading.proofs.Lemmas.WholeLists.{strict_item_count, strict_items, whole_list, whole_sized}
+use Rattle.rlp_reading.proofs.Lemmas.Numbered.{item_count-fault, item_count-told, counted_told, told_whole}
+use Rattle.rlp_reading.proofs.Lemmas.{StringsHeld.held_begins, WholeLists.{IsPart, held_count, held_views, item_parts, whole_list}}
 
 -- ---- the items of a view
 
 pub held_sized : (is_strict : Bool) (b : List ℕ) (x : Item) → length b < 2 ^ 64 → Holds is_strict b (encoding x) → IsSized x
-held_sized false b x fits (more, is) = front_sized x b more fits is
-held_sized true b x fits is = whole_sized x b fits is
-
-strict_views : (b : List ℕ) (xs : List Item) → IsSized (list_of xs) → b ≡ encoding (list_of xs) → item_views (viewed true b) ≡ views_of true xs
-strict_views b xs sized is = ap (map strict_view_of) (strict_items xs b sized is) ∙ map-map strict_view_of encoding xs
+held_sized is_strict b x fits holds = let (more, is) = held_begins (viewed is_strict b) x holds in front_sized x b more fits is
 
 -- the items of a view that holds a list are the views of its items
 pub items_held : (is_strict : Bool) (b : List ℕ) (xs : List Item) → length b < 2 ^ 64 → Holds is_strict b (encoding (list_of xs))
     → items_of (viewed is_strict b) ≡ Ok (views_of is_strict xs)
-items_held false b xs fits (more, is) =
-    let sized = front_sized (list_of xs) b more fits is in
-    ap (λ r. map_value (λ (n : ℕ). item_views (view_of b)) (seen_fault r)) (item_count-list xs b sized (more, is))
-    ∙ ap Ok (item_views-list xs b sized (more, is))
-items_held true b xs fits is =
-    let sized = whole_sized (list_of xs) b fits is in
-    ap (λ r. map_value (λ (n : ℕ). item_views (strict_view_of b)) (seen_fault r)) (strict_item_count xs b sized is)
-    ∙ ap Ok (strict_views b xs sized is)
+items_held is_strict b xs fits holds =
+    ap (λ r. map_value (λ (n : ℕ). item_views (viewed is_strict b)) (seen_fault r)) (held_count (viewed is_strict b) xs fits holds)
+    ∙ ap Ok (held_views (viewed is_strict b) xs fits holds)
 
 -- a view that holds a list, when read as a list of values, has the views of the items of the list
 pub list_held : (is_strict : Bool) (b : List ℕ) (xs : List Item) → length b < 2 ^ 64 → Holds is_strict b (encoding (list_of xs))
     → list_of_views (viewed is_strict b) ≡ Ok (views_of is_strict xs)
-list_held false b xs fits (more, is) = ap Ok (item_views-list xs b (front_sized (list_of xs) b more fits is) (more, is))
-list_held true b xs fits is = items_held true b xs fits is
+list_held false b xs fits holds = ap Ok (held_views (viewed false b) xs fits holds)
+list_held true b xs fits holds = items_held true b xs fits holds
 
 -- each item of a list that a view holds is sized
 joined_sized : (xs : List Item) → length (join xs) < 2 ^ 64 → AllByRecursion IsSized xs
@@ -67,25 +57,21 @@ strict_parts (f ∷ fs) (part, parts) = (record { is = refl; held = part.held; s
 
 bytes_of_views : (fs : List (List ℕ)) (xs : List Item) → map strict_view_of fs ≡ views_of true xs → fs ≡ map encoding xs
 bytes_of_views [] [] same = refl
-bytes_of_views [] (x ∷ xs) same = absurd (let no : ⊥ = cc in no)
-bytes_of_views (f ∷ fs) [] same = absurd (let no : ⊥ = cc in no)
 bytes_of_views (f ∷ fs) (x ∷ xs) same =
     let heads : strict_view_of f ≡ strict_view_of (encoding x) = cc in
     let tails : map strict_view_of fs ≡ views_of true xs = cc in
     ap (λ v. v.bytes ∷ fs) heads ∙ ap (λ gs. encoding x ∷ gs) (bytes_of_views fs xs tails)
-
-items_are : (b : List ℕ) (vs : List View) → AreBytes b → length b < 2 ^ 64 → strict_list_fault b ≡ None → item_views (strict_view_of b) ≡ vs → AreItems b vs
-items_are b vs bytes fits none same =
-    subst (AreItems b) same (record {
-      parts = strict_parts (items b) (item_parts b bytes fits);
-      whole = λ xs is. whole_list b xs bytes none (bytes_of_views (items b) xs is);
-    })
+bytes_of_views fs xs same = absurd (let no : ⊥ = cc in no)
 
 items_by : (b : List ℕ) (vs : List View) (r : Result ℕ DecoderError) → AreBytes b → length b < 2 ^ 64 → item_count (strict_view_of b) ≡ r
     → map_value (λ (n : ℕ). item_views (strict_view_of b)) (seen_fault r) ≡ Ok vs → AreItems b vs
 items_by b vs (Err e) bytes fits count is = absurd (let no : ⊥ = cc in no)
 items_by b vs (Ok n) bytes fits count is =
-    let same : item_views (strict_view_of b) ≡ vs = cc in items_are b vs bytes fits (told_whole b (counted_told (strict_view_of b) n count)) same
+    let same : item_views (strict_view_of b) ≡ vs = cc in
+    subst (AreItems b) same (record {
+      parts = strict_parts (items b) (item_parts b bytes fits);
+      whole = λ xs is. whole_list b xs bytes (told_whole b (counted_told (strict_view_of b) n count)) (bytes_of_views (items b) xs is);
+    })
 
 -- the items of a strict view make up the whole list
 pub items_only : (b : List ℕ) (vs : List View) → AreBytes b → length b < 2 ^ 64 → items_of (strict_view_of b) ≡ Ok vs → AreItems b vs
@@ -309,33 +295,21 @@ module _ {A : Type 0} (c : Form A) where
 
   -- ---- a type that holds a value of another
 
-  module _ {B : Type 0} (value : B → A) where
-    pub newtype_back : (is_strict : Bool) → ReadsBack is_strict c → ReadsBack is_strict (newtype value c)
-    newtype_back is_strict law = record { back = λ b x. law.back b (value x) }
+  module _ {B : Type 0} (value : B → A) (takes_memory : Bool) where
+    pub value_back : (is_strict : Bool) → ReadsBack is_strict c → ReadsBack is_strict (held_type takes_memory value c)
+    value_back is_strict law = record { back = λ b x. law.back b (value x) }
 
-    pub newtype_only : (is_strict : Bool) → GivesOnly is_strict c → GivesOnly is_strict (newtype value c)
-    newtype_only is_strict law = record { only = λ b x. law.only b (value x) }
+    pub value_only : (is_strict : Bool) → GivesOnly is_strict c → GivesOnly is_strict (held_type takes_memory value c)
+    value_only is_strict law = record { only = λ b x. law.only b (value x) }
 
-    pub newtype_told : IsSeen c → IsSeen (newtype value c)
-    newtype_told law = record { fits = λ x y. law.fits (value x) (value y); written = λ x. law.written (value x) }
+    pub value_told : IsSeen c → IsSeen (held_type takes_memory value c)
+    value_told law = record { fits = λ x y. law.fits (value x) (value y); written = λ x. law.written (value x) }
 
-    pub newtype_lawful : IsLawful c → IsLawful (newtype value c)
-    newtype_lawful law = record { told = newtype_told law.told; back = λ is_strict. newtype_back is_strict (law.back is_strict); exact = newtype_only true law.exact }
+    pub value_read_back : IsReadBack c → IsReadBack (held_type takes_memory value c)
+    value_read_back law = record { told = value_told law.told; back = value_back false law.back }
 
-    pub holding_back : (is_strict : Bool) → ReadsBack is_strict c → ReadsBack is_strict (holding value c)
-    holding_back is_strict law = record { back = λ b x. law.back b (value x) }
-
-    pub holding_only : (is_strict : Bool) → GivesOnly is_strict c → GivesOnly is_strict (holding value c)
-    holding_only is_strict law = record { only = λ b x. law.only b (value x) }
-
-    pub holding_told : IsSeen c → IsSeen (holding value c)
-    holding_told law = record { fits = λ x y. law.fits (value x) (value y); written = λ x. law.written (value x) }
-
-    pub holding_read_back : IsReadBack c → IsReadBack (holding value c)
-    holding_read_back law = record { told = holding_told law.told; back = holding_back false law.back }
-
-    pub holding_lawful : IsLawful c → IsLawful (holding value c)
-    holding_lawful law = record { told = holding_told law.told; back = λ is_strict. holding_back is_strict (law.back is_strict); exact = holding_only true law.exact }
+    pub value_lawful : IsLawful c → IsLawful (held_type takes_memory value c)
+    value_lawful law = record { told = value_told law.told; back = λ is_strict. value_back is_strict (law.back is_strict); exact = value_only true law.exact }
 
 -- a lawful codec is read back
 pub read_back : {A : Type 0} {c : Form A} → IsLawful c → IsReadBack c

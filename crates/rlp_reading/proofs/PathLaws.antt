@@ -83,10 +83,9 @@ group_found {M} read n (suc turns) (v ∷ vs) p some more is =
 
 -- no turn is left, or no view
 pub no_group : {M : Type 0} (read : List View → Taken M) (n turns : ℕ) (vs : List View) → (turns ≡ 0) ⊎ (vs ≡ []) → fault_path (in_list n (take_each read turns vs)) ≡ None
-no_group read n zero vs none = refl
-no_group read n (suc turns) [] none = refl
 no_group read n (suc turns) (v ∷ vs) (inl none) = absurd (let no : ⊥ = cc in no)
 no_group read n (suc turns) (v ∷ vs) (inr none) = absurd (let no : ⊥ = cc in no)
+no_group read n turns vs none = refl
 
 -- what a result leaves, or its fault
 abbrev pub left_of : {A : Type 0} → Result (A × List View) (List View × Fault) → Result (List View) (List View × Fault)

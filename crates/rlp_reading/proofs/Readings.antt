@@ -12,8 +12,8 @@ use Rattle.rlp_reading.specs.Form.{Fault, Faults, Form, Gives, Reading, and_then
 use Rattle.rlp_reading.specs.Form.{inconsistent_len, incorrect_list_len, invalid_indirection, invalid_len, is_too_big, is_too_short, items_of, list_len_with_zero}
 use Rattle.rlp_reading.specs.Form.{map_value, option_reading, out_of_memory, read_option, reading_at, seen_fault}
 use Rattle.rlp_reading.specs.{Form.{byte_array, byte_string, number, option, raw_item, text, truth_value}, Laws.HasOneAnswer}
-use Rattle.rlp_reading.proofs.{Lemmas.Numbered.item_at-slice_get, Lemmas.StrictLists.{IsPart, item_parts}}
-use Rattle.rlp_reading.proofs.{Corollaries.{not_both, one_fault, one_value}, ListLaws.{option_written, same_written}}
+use Rattle.rlp_reading.proofs.{Lemmas.Numbered.item_at-slice_get, Lemmas.WholeLists.{IsPart, item_parts}, Corollaries.{not_both, one_fault, one_value}}
+use Rattle.rlp_reading.proofs.ListLaws.{option_written, same_written}
 use Rattle.std.specs.List.{AllByRecursion, slice_get}
 
 -- ---- faults
@@ -38,18 +38,8 @@ abbrev fault_name : Fault → List ℕ
 fault_name f = error_name (fault_some f).0
 
 named : (e : DecoderError) → error_name e ≡ fault_name (fault_of e)
-named RlpIsTooBig = refl
-named RlpIsTooShort = refl
-named RlpExpectedToBeList = refl
-named RlpExpectedToBeData = refl
-named RlpIncorrectListLen = refl
-named RlpDataLenWithZeroPrefix = refl
-named RlpListLenWithZeroPrefix = refl
-named RlpInvalidIndirection = refl
-named RlpInconsistentLengthAndData = refl
-named RlpInvalidLength = refl
 named (Custom text) = refl
-named OutOfMemory = refl
+named e = refl
 
 same_fault : (e f : DecoderError) → fault_of e ≡ fault_of f → IsSameFault e f
 same_fault e f same = named e ∙ ap fault_name same ∙ sym (named f)
@@ -119,21 +109,9 @@ option_whole c whole = record { some = option_some c whole; written = option_wri
 
 -- ---- options
 
-part_by : (b : List ℕ) (strict : Bool) (fs : List (List ℕ)) (w : View) → AllByRecursion IsPart fs → map (λ b. record { bytes = b; is_strict = strict }) fs ≡ w ∷ []
-    → AreBytes w.bytes × (length w.bytes < 2 ^ 64)
-part_by b strict [] w parts is = absurd (let no : ⊥ = cc in no)
-part_by b strict (f ∷ fs) w (part, parts) is =
-    let same : record { bytes = f; is_strict = strict } ≡ w = cc in
-    let bytes : f ≡ w.bytes = ap (λ (w : View). w.bytes) same in
-    (subst AreBytes bytes part.held, subst (λ b. length b < 2 ^ 64) bytes part.short)
-
 lone_by : (v w : View) (r : Result ℕ DecoderError) → map_value (λ (n : ℕ). item_views v) (seen_fault r) ≡ Ok (w ∷ []) → item_views v ≡ w ∷ []
 lone_by v w (Ok n) is = let same : item_views v ≡ w ∷ [] = cc in same
 lone_by v w (Err e) is = absurd (let no : ⊥ = cc in no)
-
--- the one item of a view that is bytes is bytes
-lone_item : (v w : View) → AreBytes v.bytes → length v.bytes < 2 ^ 64 → items_of v ≡ Ok (w ∷ []) → AreBytes w.bytes × (length w.bytes < 2 ^ 64)
-lone_item v w bytes short is = part_by v.bytes v.is_strict (items v.bytes) w (item_parts v.bytes bytes short) (lone_by v w (item_count v) is)
 
 got_by : (strict : Bool) (fs : List (List ℕ)) (w : View) (i : ℕ) → AllByRecursion IsPart fs
     → slice_get (map (λ b. record { bytes = b; is_strict = strict }) fs) i ≡ Some w → AreBytes w.bytes × (length w.bytes < 2 ^ 64)
@@ -148,90 +126,66 @@ got_by strict (f ∷ fs) w (suc i) (part, parts) is = got_by strict fs w i parts
 part_at : (v w : View) (i : ℕ) → AreBytes v.bytes → length v.bytes < 2 ^ 64 → item_at v i ≡ Ok w → AreBytes w.bytes × (length w.bytes < 2 ^ 64)
 part_at v w i bytes short is = got_by v.is_strict (items v.bytes) w i (item_parts v.bytes bytes short) (item_at-slice_get v w i is)
 
+-- the one item of a view that is bytes is bytes
+lone_item : (v w : View) → AreBytes v.bytes → length v.bytes < 2 ^ 64 → items_of v ≡ Ok (w ∷ []) → AreBytes w.bytes × (length w.bytes < 2 ^ 64)
+lone_item v w bytes short is =
+    got_by v.is_strict (items v.bytes) w 0 (item_parts v.bytes bytes short) (ap (λ vs. slice_get vs 0) (lone_by v w (item_count v) is))
+
 module _ {A : Type 0} (item : A → Item) (r : Reading A)
     (law : (v : View) → AreBytes v.bytes → length v.bytes < 2 ^ 64 → HasOneReading item (Gives r v) (Faults r v)) where
   abbrev read_some : List View → Result (Option r.M) Fault
   read_some vs = (read_option r.read vs).result
 
-  abbrev IsOne : Result (Option r.M) Fault → Type 0
-  IsOne a = HasOneReading (option_item item) (λ o. a ≡ Ok (option_map r.seen o)) (λ e. a ≡ Err (fault_of e))
-
-  faulty_one : (f : Fault) → IsOne (Err f)
-  faulty_one f = record {
-    some = let h = fault_some f in inr (h.0, ap Err (sym h.1));
-    one_value = λ o u given also. absurd (let no : ⊥ = cc in no);
-    one_fault = λ e g bad also. same_fault e g (let same = sym bad ∙ also in cc);
-    not_both = λ o e given bad. let same = sym given ∙ bad in cc;
-  }
-
-  none_one : IsOne (Ok None)
-  none_one = record { some = inl (None, refl); one_value = none_same; one_fault = λ e f bad also. absurd (let no : ⊥ = cc in no); not_both = λ o e given bad. cc }
+  some_option : (v : View) → AreBytes v.bytes → length v.bytes < 2 ^ 64 → (a : Result (List View) Fault) → items_of v ≡ a
+      → ((o : Option A) × (and_then a read_some ≡ Ok (option_map r.seen o))) ⊎ ((e : DecoderError) × (and_then a read_some ≡ Err (fault_of e)))
+  some_option v bytes short (Err f) is = let h = fault_some f in inr (h.0, ap Err (sym h.1))
+  some_option v bytes short (Ok []) is = inl (None, refl)
+  some_option v bytes short (Ok (w ∷ u ∷ vs)) is = inr (RlpIncorrectListLen, refl)
+  some_option v bytes short (Ok (w ∷ [])) is = let part = lone_item v w bytes short is in of_item (law w part.0 part.1).some
     where
-      none_same : (o u : Option A) → (let a : Result (Option r.M) Fault = Ok None in a) ≡ Ok (option_map r.seen o)
-          → (let a : Result (Option r.M) Fault = Ok None in a) ≡ Ok (option_map r.seen u) → option_item item o ≡ option_item item u
-      none_same None None given also = refl
-      none_same None (Some y) given also = absurd (let no : ⊥ = cc in no)
-      none_same (Some x) u given also = absurd (let no : ⊥ = cc in no)
-
-  some_one : (w : View) → HasOneReading item (Gives r w) (Faults r w) → IsOne (map_value Some (r.read w).result)
-  some_one w one = record { some = some_of one.some; one_value = same_of; one_fault = fault_by (r.read w).result refl; not_both = both_by (r.read w).result refl }
-    where
-      some_of : ((x : A) × Gives r w x) ⊎ ((e : DecoderError) × Faults r w e)
+      of_item : ((x : A) × Gives r w x) ⊎ ((e : DecoderError) × Faults r w e)
           → ((o : Option A) × (map_value Some (r.read w).result ≡ Ok (option_map r.seen o))) ⊎ ((e : DecoderError) × (map_value Some (r.read w).result ≡ Err (fault_of e)))
-      some_of (inl (x, given)) = inl (Some x, ap (map_value Some) given)
-      some_of (inr (e, bad)) = inr (e, ap (map_value Some) bad)
+      of_item (inl (x, given)) = inl (Some x, ap (map_value Some) given)
+      of_item (inr (e, bad)) = inr (e, ap (map_value Some) bad)
 
-      given_by : (a : Result r.M Fault) (o : Option A) → map_value Some a ≡ Ok (option_map r.seen o) → (x : A) × (o ≡ Some x) × (a ≡ Ok (r.seen x))
-      given_by (Ok m) None is = absurd (let no : ⊥ = cc in no)
-      given_by (Ok m) (Some x) is = (x, refl, let same : Some m ≡ Some (r.seen x) = cc in let inner : m ≡ r.seen x = cc in ap Ok inner)
-      given_by (Err f) o is = absurd (let no : ⊥ = cc in no)
+  some_taken : (a : Result r.M Fault) (x : A) → map_value Some a ≡ Ok (Some (r.seen x)) → a ≡ Ok (r.seen x)
+  some_taken (Ok m) x is = let same : Some m ≡ Some (r.seen x) = cc in let inner : m ≡ r.seen x = cc in ap Ok inner
+  some_taken (Err f) x is = absurd (let no : ⊥ = cc in no)
 
-      same_of : (o u : Option A) → map_value Some (r.read w).result ≡ Ok (option_map r.seen o) → map_value Some (r.read w).result ≡ Ok (option_map r.seen u)
-          → option_item item o ≡ option_item item u
-      same_of o u given also =
-          let x = given_by (r.read w).result o given in
-          let y = given_by (r.read w).result u also in
-          let same : item x.0 ≡ item y.0 = one.one_value x.0 y.0 x.2 y.2 in
-          ap (option_item item) x.1 ∙ ap (λ i. list_of (i ∷ [])) same ∙ sym (ap (option_item item) y.1)
-
-      fault_by : (a : Result r.M Fault) → (r.read w).result ≡ a → (e f : DecoderError) → map_value Some (r.read w).result ≡ Err (fault_of e)
-          → map_value Some (r.read w).result ≡ Err (fault_of f) → IsSameFault e f
-      fault_by a is e f bad also = same_fault e f (let same = sym bad ∙ also in cc)
-
-      both_by : (a : Result r.M Fault) → (r.read w).result ≡ a → (o : Option A) (e : DecoderError) → map_value Some (r.read w).result ≡ Ok (option_map r.seen o)
-          → ¬ (map_value Some (r.read w).result ≡ Err (fault_of e))
-      both_by a is o e given bad = let same = sym given ∙ bad in cc
-
-  option_by : (v : View) → AreBytes v.bytes → length v.bytes < 2 ^ 64 → (a : Result (List View) Fault) → items_of v ≡ a → IsOne (and_then a read_some)
-  option_by v bytes short (Err f) is = faulty_one f
-  option_by v bytes short (Ok []) is = none_one
-  option_by v bytes short (Ok (w ∷ [])) is = let part = lone_item v w bytes short is in some_one w (law w part.0 part.1)
-  option_by v bytes short (Ok (w ∷ u ∷ vs)) is = faulty_one incorrect_list_len
+  alike_options : (v : View) → AreBytes v.bytes → length v.bytes < 2 ^ 64 → (a : Result (List View) Fault) → items_of v ≡ a → (o u : Option A)
+      → and_then a read_some ≡ Ok (option_map r.seen o) → and_then a read_some ≡ Ok (option_map r.seen u) → option_item item o ≡ option_item item u
+  alike_options v bytes short a is None None given also = refl
+  alike_options v bytes short a is None (Some y) given also = absurd (let same = sym given ∙ also in let no : ⊥ = cc in no)
+  alike_options v bytes short a is (Some x) None given also = absurd (let same = sym given ∙ also in let no : ⊥ = cc in no)
+  alike_options v bytes short (Ok (w ∷ [])) is (Some x) (Some y) given also =
+      let part = lone_item v w bytes short is in
+      ap (λ i. list_of (i ∷ []))
+      ((law w part.0 part.1).one_value x y (some_taken (r.read w).result x given) (some_taken (r.read w).result y also))
+  alike_options v bytes short a is (Some x) (Some y) given also = absurd (let no : ⊥ = cc in no)
 
   -- options of a type that gives one value or has one fault do so too
   pub option_one : (v : View) → AreBytes v.bytes → length v.bytes < 2 ^ 64
       → HasOneReading (option_item item) (Gives (option_reading r) v) (Faults (option_reading r) v)
-  option_one v bytes short = option_by v bytes short (items_of v) refl
-
--- ---- items by number
-
-module _ {A : Type 0} (item : A → Item) (r : Reading A)
-    (law : (v : View) → AreBytes v.bytes → length v.bytes < 2 ^ 64 → HasOneReading item (Gives r v) (Faults r v)) where
-  abbrev IsOneAt : Result r.M Fault → Type 0
-  IsOneAt a = HoldsOrHasOneFault ((x : A) × (a ≡ Ok (r.seen x))) (λ e. a ≡ Err (fault_of e))
-
-  item_by : (found : Result View DecoderError) → ((w : View) → found ≡ Ok w → AreBytes w.bytes × (length w.bytes < 2 ^ 64))
-      → IsOneAt (and_then (seen_fault found) (λ w. (r.read w).result))
-  item_by (Ok w) part =
-      let one = let held = part w refl in law w held.0 held.1 in
-      record { some = one.some; one_fault = one.one_fault; not_both = λ e given bad. one.not_both given.0 e given.1 bad }
-  item_by (Err f) part = record {
-    some = inr (f, refl);
-    one_fault = λ e g bad also. same_fault e g (let same = sym bad ∙ also in cc);
-    not_both = λ e given bad. let same = given.1 in cc;
+  option_one v bytes short = record {
+    some = some_option v bytes short (items_of v) refl;
+    one_value = alike_options v bytes short (items_of v) refl;
+    one_fault = λ e f bad also. same_fault e f (one_fault (option_reading r) v e f bad also);
+    not_both = not_both (option_reading r) v;
   }
+
+  -- ---- items by number
+
+  some_item : (found : Result View DecoderError) → ((w : View) → found ≡ Ok w → AreBytes w.bytes × (length w.bytes < 2 ^ 64))
+      → ((x : A) × (and_then (seen_fault found) (λ w. (r.read w).result) ≡ Ok (r.seen x)))
+      ⊎ ((e : DecoderError) × (and_then (seen_fault found) (λ w. (r.read w).result) ≡ Err (fault_of e)))
+  some_item (Ok w) part = let held = part w refl in (law w held.0 held.1).some
+  some_item (Err f) part = inr (f, refl)
 
   -- an item by its number gives some value or has one fault, if each item gives one value or has one fault
   pub item_one : (v : View) (i : ℕ) → AreBytes v.bytes → length v.bytes < 2 ^ 64
       → HoldsOrHasOneFault ((x : A) × Gives (reading_at i r) v x) (Faults (reading_at i r) v)
-  item_one v i bytes short = item_by (item_at v i) (λ w is. part_at v w i bytes short is)
+  item_one v i bytes short = record {
+    some = some_item (item_at v i) (λ w is. part_at v w i bytes short is);
+    one_fault = λ e f bad also. same_fault e f (one_fault (reading_at i r) v e f bad also);
+    not_both = λ e given. not_both (reading_at i r) v given.0 e given.1;
+  }

@@ -1,20 +1,20 @@
 -- Types that are written as one string.
-use Rattle.std.proofs.Common.{◌≡◌, ℕ, zero, suc, ◌^◌, ◌<◌, ◌≤◌, ⊎_elim, Bool, true, false, ltb, ne_eqb, List, [], ◌∷◌, ◌++◌, length, get_or, refl, sym, ap, ◌∙◌, subst}
-use Rattle.std.proofs.Common.{◌≢◌, Fits, w8, arith, Result, Ok, Err, IsUtf8, le-ltb, ltb-false, pos_of_ne-zero}
+use Rattle.std.proofs.Common.{if◌then◌else◌, ◌≡◌, ℕ, zero, suc, ◌^◌, ◌<◌, ◌≤◌, ⊎_elim, Bool, true, false, ltb, ne_eqb, List, [], ◌∷◌, ◌++◌, length, get_or, refl, sym, ap}
+use Rattle.std.proofs.Common.{◌∙◌, subst, ◌≢◌, Fits, w8, arith, Result, Ok, Err, IsUtf8, le-ltb, ltb-false, pos_of_ne-zero, ◌↔◌}
 use Rattle.std.proofs.{lemmas.Bool.{cases_Bool, cond-true, cond-false, eqb-false}, lemmas.Str.{IsUtf8-from_is_utf8, is_utf8-from_IsUtf8}}
 use Rattle.std.proofs.lemmas.List.Elements.{All-from_recursion, recursion_from_All}
 use Rattle.std.specs.{Bool.⊤, Prelude.codes, Str.is_utf8, Int.Digits.number_from_digits}
-use Rattle.rlp_reading.specs.{declared.error.DecoderError.DecoderError, Format.Framing.IsString, Views.View.{View, HoldsString, view_string}}
-use Rattle.rlp_reading.specs.Values.ValueReading.{GivesNumber}
-use Rattle.rlp_reading.specs.Form.{Fault, and_then, custom, expected_data, invalid_indirection, is_too_big, is_too_short, seen_fault}
-use Rattle.rlp_reading.specs.Form.{string_of, number_of, bit_of, text_of, fixed_of, begins_with_zero}
-use Rattle.rlp_reading.specs.{Form.{string_type, number, truth_value, byte_string, text, byte_array}, Laws.{ReadsBack, GivesOnly, IsLawful}}
 use Rattle.rlp_format.specs.Format.Encoding.{string, AreBytes, big_endian, written_header, encoding, string_encoding, is_low_byte}
 use Rattle.rlp_format.specs.Values.Value.{FitsBytes, bit}
 use Rattle.rlp_format.proofs.Lemmas.Digits.{big_endian_first, big_endian_value, bytes_held, big_endian_zero, digits_fit, digits_again}
 use Rattle.rlp_format.proofs.Lemmas.Encodings.{front_sized}
-use Rattle.rlp_reading.proofs.{Lemmas.OneReading.{front_bytes, back_bytes, few_digits}, Lemmas.Reading.Bytes}
-use Rattle.rlp_reading.proofs.{Lemmas.StringsHeld.{ReadsHeld, held_begins, held_only, held_reads}, Lemmas.Told.string_sized}
+use Rattle.rlp_reading.specs.{declared.error.DecoderError.DecoderError, Format.Framing.IsString, Views.View.{View, HoldsString, view_string}}
+use Rattle.rlp_reading.specs.Values.ValueReading.{GivesNumber}
+use Rattle.rlp_reading.specs.Form.{Fault, and_then, custom, expected_data, seen_fault, string_of, number_of}
+use Rattle.rlp_reading.specs.Form.{bit_of, text_of, fixed_of, begins_with_zero, string_type, number, truth_value, byte_string, text, byte_array, map_value}
+use Rattle.rlp_reading.specs.{Laws.{ReadsBack, GivesOnly, IsLawful}, Kinds.read_kind}
+use Rattle.rlp_reading.proofs.Lemmas.Reading.{front_bytes, back_bytes, Bytes}
+use Rattle.rlp_reading.proofs.Lemmas.StringsHeld.{few_digits, ReadsHeld, held_begins, held_only, held_reads, string_sized}
 
 -- ---- the bytes of a string
 
@@ -73,6 +73,16 @@ module _ {A M : Type 0} (Fits : A → Type 0) (bytes : A → List ℕ) (seen : A
   pub string_lawful : IsLawful (string_type Fits bytes seen written read takes_memory)
   string_lawful = record { told = record { fits = law.fits; written = λ x. ap string (law.same x) }; back = string_back; exact = string_only true }
 
+-- ---- what a test lets through
+
+-- a value is not the fault of a test
+pub no_fault : {A : Type 0} (b : Bool) (e : Fault) (r : Result A Fault) (x : A) → (if b then Err e else r) ≡ Ok x → (b ≡ false) × (r ≡ Ok x)
+no_fault true e r x is = absurd (let no : ⊥ = cc in no)
+no_fault false e r x is = (refl, is)
+
+pub ok_value : {A : Type 0} (x y : A) → (let r : Result A Fault = Ok x in r) ≡ Ok y → x ≡ y
+ok_value x y is = cc
+
 -- ---- numbers
 
 not_zero : (d : List ℕ) → 0 < get_or d 0 0 → begins_with_zero d ≡ false
@@ -92,23 +102,19 @@ number_back width n fit =
     cond-false (ltb width (length (big_endian n))) _ _ (le-ltb _ _ (few_digits width n fit))
     ∙ cond-false (begins_with_zero (big_endian n)) _ _ (written_first n) ∙ ap Ok (big_endian_value n)
 
-number_only_by : (width : ℕ) (d : List ℕ) (n : ℕ) (long zero_first : Bool) → AreBytes d → ltb width (length d) ≡ long → begins_with_zero d ≡ zero_first
-    → number_of width d ≡ Ok n → FitsBytes width n × (d ≡ big_endian n)
-number_only_by width d n true zero_first bytes long leads is =
-    let r : number_of width d ≡ Err is_too_big = cond-true (ltb width (length d)) _ _ long in absurd (let no : ⊥ = cc in no)
-number_only_by width d n false true bytes long leads is =
-    let r : number_of width d ≡ Err invalid_indirection = cond-false (ltb width (length d)) _ _ long ∙ cond-true (begins_with_zero d) _ _ leads in absurd (let no : ⊥ = cc in no)
-number_only_by width d n false false bytes long leads is =
-    let r : number_of width d ≡ Ok (number_from_digits 256 d) = cond-false (ltb width (length d)) _ _ long ∙ cond-false (begins_with_zero d) _ _ leads in
-    let value : number_from_digits 256 d ≡ n = cc in (
-      subst (FitsBytes width) value (digits_fit width d bytes (ltb-false _ _ long)),
-      sym (again d bytes leads) ∙ ap big_endian value,
+number_only : (width : ℕ) (d : List ℕ) (n : ℕ) → AreBytes d → number_of width d ≡ Ok n → FitsBytes width n × (d ≡ big_endian n)
+number_only width d n bytes is =
+    let few = no_fault (ltb width (length d)) _ _ n is in
+    let leads = no_fault (begins_with_zero d) _ _ n few.1 in
+    let value : number_from_digits 256 d ≡ n = ok_value _ n leads.1 in (
+      subst (FitsBytes width) value (digits_fit width d bytes (ltb-false _ _ few.0)),
+      sym (again d bytes leads.0) ∙ ap big_endian value,
     )
 
 pub number_strings : (width : ℕ) → ReadsStrings (FitsBytes width) big_endian (λ n. n) big_endian (number_of width)
 number_strings width = record {
   back = λ n fit short. number_back width n fit;
-  only = λ d n bytes short is. number_only_by width d n (ltb width (length d)) (begins_with_zero d) bytes refl refl is;
+  only = λ d n bytes short is. number_only width d n bytes is;
   fits = λ m n same fit. subst (FitsBytes width) same fit;
   same = λ n. refl;
 }
@@ -124,16 +130,14 @@ bit_back true = refl
 bit_back false = refl
 
 bit_only : (n : ℕ) (b : Bool) → bit_of n ≡ Ok b → n ≡ bit b
-bit_only zero true is = absurd (let no : ⊥ = cc in no)
 bit_only zero false is = refl
 bit_only (suc zero) true is = refl
-bit_only (suc zero) false is = absurd (let no : ⊥ = cc in no)
-bit_only (suc (suc n)) b is = absurd (let no : ⊥ = cc in no)
+bit_only n b is = absurd (let no : ⊥ = cc in no)
 
 truth_only_by : (d : List ℕ) (b : Bool) (r : Result ℕ Fault) → AreBytes d → number_of 1 d ≡ r → and_then r bit_of ≡ Ok b → d ≡ big_endian (bit b)
 truth_only_by d b (Err e) bytes is same = absurd (let no : ⊥ = cc in no)
 truth_only_by d b (Ok n) bytes is same =
-    (number_only_by 1 d n (ltb 1 (length d)) (begins_with_zero d) bytes refl refl is).1 ∙ ap big_endian (bit_only n b same)
+    (number_only 1 d n bytes is).1 ∙ ap big_endian (bit_only n b same)
 
 pub truth_strings : ReadsStrings (λ b. ⊤) (λ b. big_endian (bit b)) (λ b. b) (λ b. big_endian (bit b)) (λ d. and_then (number_of 1 d) bit_of)
 truth_strings = record {
@@ -171,26 +175,18 @@ module _ {B : Type 0} (bytes : B → List ℕ) where
 
 -- ---- arrays
 
-array_only_by : (n : ℕ) (d a : List ℕ) (short long : Bool) → ltb (length d) n ≡ short → ltb n (length d) ≡ long → fixed_of n d ≡ Ok a
-    → (length a ≡ n) × (d ≡ a)
-array_only_by n d a true long less more is = let r : fixed_of n d ≡ Err is_too_short = cond-true (ltb (length d) n) _ _ less in absurd (let no : ⊥ = cc in no)
-array_only_by n d a false true less more is =
-    let r : fixed_of n d ≡ Err is_too_big = cond-false (ltb (length d) n) _ _ less ∙ cond-true (ltb n (length d)) _ _ more in absurd (let no : ⊥ = cc in no)
-array_only_by n d a false false less more is =
-    let r : fixed_of n d ≡ Ok d = cond-false (ltb (length d) n) _ _ less ∙ cond-false (ltb n (length d)) _ _ more in
-    let same : d ≡ a = cc in
-    let up : n ≤ length d = ltb-false _ _ less in
-    let down : length d ≤ n = ltb-false _ _ more in
-    (omega (arith, ap length same), same)
-
-array_back : (n : ℕ) (a : List ℕ) → length a ≡ n → fixed_of n a ≡ Ok a
-array_back n a is =
-    cond-false (ltb (length a) n) _ _ (le-ltb _ _ (omega arith)) ∙ cond-false (ltb n (length a)) _ _ (le-ltb _ _ (omega arith))
+array_only : (n : ℕ) (d a : List ℕ) → fixed_of n d ≡ Ok a → (length a ≡ n) × (d ≡ a)
+array_only n d a is =
+    let up = no_fault (ltb (length d) n) _ _ a is in
+    let down = no_fault (ltb n (length d)) _ _ a up.1 in
+    let same : d ≡ a = ok_value d a down.1 in
+    (omega (arith, ap length same, ltb-false _ _ up.0, ltb-false _ _ down.0), same)
 
 pub array_strings : (n : ℕ) → ReadsStrings (λ a. length a ≡ n) (λ a. a) (λ a. a) (λ a. a) (fixed_of n)
 array_strings n = record {
-  back = λ a fit short. array_back n a fit;
-  only = λ d a bytes short is. array_only_by n d a (ltb (length d) n) (ltb n (length d)) refl refl is;
+  back = λ a fit short.
+      cond-false (ltb (length a) n) _ _ (le-ltb _ _ (omega arith)) ∙ cond-false (ltb n (length a)) _ _ (le-ltb _ _ (omega arith));
+  only = λ d a bytes short is. array_only n d a is;
   fits = λ a d same fit. subst (λ a. length a ≡ n) same fit;
   same = λ a. refl;
 }
@@ -267,3 +263,30 @@ text_scalar bytes = string_only _ _ _ _ _ _ (text_strings bytes) false
 
 pub array_scalar : (n : ℕ) → GivesOnly false (byte_array n)
 array_scalar n = string_only _ _ _ _ _ _ (array_strings n) false
+
+-- ---- types whose values are strings of several kinds, such as a byte that has a meaning or a hash
+
+same_value : {M : Type 0} (m n : M) → (let r : Result M Fault = Ok m in r) ≡ Ok n → m ≡ n
+same_value m n is = cc
+
+module _ {A K : Type 0} (Fits : A → Type 0) (bytes : A → List ℕ) (kind : A → K) (kind_of : List ℕ → Result K Fault) where
+  -- a value fits exactly if its bytes are a string of its kind
+  pub record HaveKinds : Type 0 where
+    pub of_kind : (x : A) → Fits x ↔ (kind_of (bytes x) ≡ Ok (kind x))
+
+  kind_only_by : (d : List ℕ) (x : A) (r : Result K Fault) → kind_of d ≡ r → read_kind kind_of d ≡ Ok (kind x, bytes x) → (kind_of d ≡ Ok (kind x)) × (d ≡ bytes x)
+  kind_only_by d x (Err e) is given = absurd (let r : read_kind kind_of d ≡ Err e = ap (λ r. map_value (λ k. (k, d)) r) is in let no : ⊥ = cc in no)
+  kind_only_by d x (Ok k) is given =
+      let r : read_kind kind_of d ≡ Ok (k, d) = ap (λ r. map_value (λ k. (k, d)) r) is in
+      let same : (k, d) ≡ (kind x, bytes x) = same_value _ _ (sym r ∙ given) in
+      (is ∙ ap Ok (ap (λ m. m.0) same), ap (λ m. m.1) same)
+
+  pub kinds_read : HaveKinds → ReadsStrings Fits bytes (λ x. (kind x, bytes x)) (λ m. m.1) (read_kind kind_of)
+  kinds_read law = record {
+    back = λ x fit short. ap (map_value (λ k. (k, bytes x))) ((law.of_kind x).0 fit);
+    only = λ d x held short is.
+        let h = kind_only_by d x (kind_of d) refl is in
+        ((law.of_kind x).1 (ap kind_of (sym h.1) ∙ h.0), h.1);
+    fits = λ x y same fit. (law.of_kind y).1 (ap kind_of (sym (ap (λ m. m.1) same)) ∙ (law.of_kind x).0 fit ∙ ap Ok (ap (λ m. m.0) same));
+    same = λ x. refl;
+  }

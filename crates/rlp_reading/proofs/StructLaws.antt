@@ -1,12 +1,11 @@
 -- Structs are read back, and strictly from nothing else.
 use Rattle.std.proofs.Common.{Bool, Err, List, Ok, Result, [], ap, append-nil, arith, false, leb, length, refl, sym, true, ℕ, ◌-◌, ◌&&◌, ◌<◌, ◌^◌, ◌∙◌, ◌∷◌, ◌≡◌, ◌≤◌}
 use Rattle.std.proofs.{lemmas.Bool.lt-leb, lemmas.List.length-map}
-use Rattle.std.specs.List.{AllByRecursion}
-use Rattle.rlp_format.specs.Format.Encoding.{IsSized, encoding, list_of}
+use Rattle.rlp_format.specs.Format.Encoding.{encoding, list_of}
 use Rattle.rlp_reading.specs.Views.View.{View, strict_view_of}
 use Rattle.rlp_reading.specs.Form.{Answer, Fault, FieldsForm, Path, Taken, and_then, go_on, here, if_possible, in_list, items_of, map_fault, map_value, path_by, path_in, read_struct, struct_of, all_taken, take_all, incorrect_list_len}
 use Rattle.rlp_reading.specs.Laws.{AreLawful, AreSeen, GivesOnly, IsLawful, IsSeen, ReadsBack, TakesBack, TakesOnly, viewed, views_of}
-use Rattle.rlp_reading.proofs.{ListLaws.{not_faulty, goes_on, is_mapped, items_held, items_only, items_sized}, FieldLaws.ok_same}
+use Rattle.rlp_reading.proofs.{ListLaws.{goes_on, items_held, items_only, items_sized}}
 
 -- ---- for bodies of `decode`
 
@@ -67,51 +66,30 @@ module _ {P : Type 0} (f : FieldsForm P) where
   abbrev read_items : List View → Result f.reading.M Fault
   read_items vs = (read_struct f.reading.accepts f.reading.read vs).result
 
-  struct_by : (is_strict : Bool) → TakesBack is_strict f → (p : P) → f.Fits p → AllByRecursion IsSized (f.items p)
-      → (read_struct f.reading.accepts f.reading.read (views_of is_strict (f.items p))).result ≡ Ok (f.reading.seen p)
-  struct_by is_strict law p fit sized =
-      let vs : List View = views_of is_strict (f.items p) in
-      let many : length (views_of is_strict (f.items p)) ≡ length (f.items p) = length-map (f.items p) (λ x. viewed is_strict (encoding x)) in
-      ap (λ (a : Answer f.reading.M Fault). a.result) (ap (λ right. if_possible right (in_list (length vs) (take_all f.reading.read vs))) (ap f.reading.accepts many ∙ law.counted p fit))
-      ∙ ap (λ r. outcome (ended r))
-      (ap (λ vs. (f.reading.read vs).result) (sym (append-nil (views_of is_strict (f.items p)))) ∙ law.back p [] (λ fixed. refl) fit sized)
-
   pub struct_back : (is_strict : Bool) → TakesBack is_strict f → ReadsBack is_strict (struct_of f)
   struct_back is_strict law = record {
     back = λ b p fits fit holds.
+        let vs : List View = views_of is_strict (f.items p) in
+        let many : length (views_of is_strict (f.items p)) ≡ length (f.items p) = length-map (f.items p) (λ x. viewed is_strict (encoding x)) in
         ap (λ r. and_then r read_items) (items_held is_strict b (f.items p) fits holds)
-        ∙ struct_by is_strict law p fit (items_sized is_strict b (f.items p) fits holds);
+        ∙ ap (λ (a : Answer f.reading.M Fault). a.result) (ap (λ right. if_possible right (in_list (length vs) (take_all f.reading.read vs))) (ap f.reading.accepts many ∙ law.counted p fit))
+        ∙ ap (λ r. outcome (ended r)) (ap (λ vs. (f.reading.read vs).result) (sym (append-nil (views_of is_strict (f.items p))))
+        ∙ law.back p [] (λ fixed. refl) fit (items_sized is_strict b (f.items p) fits holds));
   }
 
-  record IsAllTaken (vs : List View) (p : P) : Type 0 where
-    is : (f.reading.read vs).result ≡ Ok (f.reading.seen p, [])
-
-  none_by : (x : f.reading.M) (vs : List View) (y : f.reading.M × List View) → (all_taken x vs).result ≡ Ok y → (vs ≡ []) × (x ≡ y.0)
-  none_by x [] y is = (refl, ap (λ t. t.0) (ok_same _ y is))
-  none_by x (v ∷ vs) y is = absurd (let no : ⊥ = cc in no)
-
-  possible_by : (right : Bool) (a : Answer f.reading.M Fault) (m : f.reading.M) → (if_possible right a).result ≡ Ok m → a.result ≡ Ok m
-  possible_by true a m is = is
-  possible_by false a m is = absurd (let no : ⊥ = cc in no)
-
-  taken_by : (vs : List View) (p : P) → (read_struct f.reading.accepts f.reading.read vs).result ≡ Ok (f.reading.seen p) → IsAllTaken vs p
-  taken_by vs p is =
-      let all : Result (f.reading.M × List View) (List View × Fault) = ended (f.reading.read vs).result in
-      let m = is_mapped all (λ (t : f.reading.M × List View). t.0) (f.reading.seen p)
-      (not_faulty (λ e. e.1) (map_value (λ (t : f.reading.M × List View). t.0) all) (f.reading.seen p)
-      (possible_by (f.reading.accepts (length vs)) (in_list (length vs) (take_all f.reading.read vs)) (f.reading.seen p) is)) in
-      let g = goes_on (f.reading.read vs).result (λ (t : f.reading.M × List View). (all_taken t.0 t.1).result) m.value m.is in
-      let h = none_by g.value.0 g.value.1 m.value g.then in
-      let same : g.value ≡ (f.reading.seen p, []) = ap (λ ws. (g.value.0, ws)) h.0 ∙ ap (λ x. (x, [])) (h.1 ∙ m.then) in
-      record { is = g.is ∙ ap Ok same }
+  all_of : (right : Bool) (n : ℕ) (r : Result (f.reading.M × List View) (List View × Fault)) (path : Path) (m : f.reading.M)
+      → (if_possible right (in_list n (record { result = ended r; path = path }))).result ≡ Ok m → r ≡ Ok (m, [])
+  all_of true n (Ok (x, [])) path m is = let same : x ≡ m = cc in ap (λ y. Ok (y, [])) same
+  all_of right n r path m is = absurd (let no : ⊥ = cc in no)
 
   pub struct_only : TakesOnly f → GivesOnly true (struct_of f)
   struct_only law = record {
     only = λ b p bytes fits is.
         let g = goes_on (items_of (strict_view_of b)) read_items (f.reading.seen p) is in
         let are = items_only b g.value bytes fits g.is in
-        let t = taken_by g.value p g.then in
-        let h = law.only p g.value [] are.parts t.is in
+        let all = take_all f.reading.read g.value in
+        let is = all_of (f.reading.accepts (length g.value)) (length g.value) (f.reading.read g.value).result all.path (f.reading.seen p) g.then in
+        let h = law.only p g.value [] are.parts is in
         (h.0, are.whole (f.items p) (h.1 ∙ append-nil (views_of true (f.items p))));
   }
 

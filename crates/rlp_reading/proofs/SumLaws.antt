@@ -1,37 +1,23 @@
 -- Values of several types are read back, and strictly from nothing else.
-use Rattle.std.proofs.Common.{◌≡◌, ℕ, ◌^◌, ◌<◌, ◌⊎◌, inl, inr, ⊎_elim, ◌==◌, Bool, true, false, List, [], ◌∷◌, length, refl, sym, ap, ◌∙◌, subst}
-use Rattle.std.proofs.{Common.{arith, Result, Ok, Err, append-nil, eq-eqb}, lemmas.Bool.{cases_lt, cond-true, cond-false, lt-leb}}
+use Rattle.std.proofs.Common.{◌≡◌, ℕ, ◌^◌, ◌<◌, ◌⊎◌, inl, inr, ◌==◌, Bool, true, false, List, [], ◌∷◌, length, refl, sym, ap, ◌∙◌, subst}
+use Rattle.std.proofs.{Common.{arith, Result, Ok, Err, eq-eqb}, lemmas.Bool.{cond-true, cond-false}}
 use Rattle.std.proofs.{lemmas.Bool.eqb-true, lemmas.List.Elements.{All-from_recursion, recursion_from_All}}
-use Rattle.rlp_reading.specs.{declared.error.DecoderError.TheVariants.RlpExpectedToBeData, Format.Framing.{begins_as_list, IsString}}
+use Rattle.rlp_reading.specs.{Format.Framing.{begins_as_list}}
 use Rattle.rlp_reading.specs.{Views.View.{View, Holds, strict_view_of}, Values.Sums.{OnSum, sum_item}}
 use Rattle.rlp_reading.specs.Form.{Answer, Form, Fault, and_then, custom, items_of, map_value, number}
 use Rattle.rlp_reading.specs.Sums.{CasesForm, Unless, and_case, envelope, envelope_of, enveloped, last_case, list_or_string, read_either, read_first, read_last, read_tagged, seen_envelope, sum_map, tagged_list}
 use Rattle.rlp_reading.specs.Laws.{CasesAreLawful, ReadsBack, GivesOnly, IsLawful, IsStrictPart, viewed, views_of}
-use Rattle.rlp_format.specs.Format.Encoding.{Item, is_list, list, string, AreBytes, BeginsWith, IsSized, encoding}
+use Rattle.rlp_format.specs.Format.Encoding.{Item, is_list, AreBytes, encoding}
 use Rattle.rlp_format.specs.Values.Value.{FitsBytes, number_item}
-use Rattle.rlp_reading.proofs.{Lemmas.Strings.{string_list, string_only}, Lemmas.Sums.list_first}
-use Rattle.rlp_reading.proofs.ListLaws.{goes_on, held_itself, is_mapped, item_back, item_only, items_held, items_only, items_sized, same_written}
+use Rattle.rlp_reading.proofs.ListLaws.{goes_on, held_itself, item_back, item_only, items_held, items_only, items_sized, same_written}
 use Rattle.rlp_reading.proofs.StringLaws.{ReadsStrings, number_lawful, string_lawful}
 use Rattle.std.specs.List.{AllByRecursion}
+use Rattle.rlp_reading.proofs.{Lemmas.Views.front_kind, Lemmas.StringsHeld.held_begins, ListLaws.held_sized}
 
 -- ---- lists and strings
 
-string_first : (b d : List ℕ) → length b < 2 ^ 64 → IsString b d → begins_as_list b ≡ false
-string_first [] d fits begins = refl
-string_first (first ∷ rest) d fits begins =
-    ⊎_elim
-    (λ low. lt-leb 0xc0 first low)
-    (λ high. let same : Ok d ≡ Err RlpExpectedToBeData = sym (string_only (first ∷ rest) d fits begins) ∙ string_list first rest high in absurd (let no : ⊥ =
-    cc in no))
-    (cases_lt first 0xc0)
-
-not_list_first : (x : Item) (b : List ℕ) → length b < 2 ^ 64 → BeginsWith b (encoding x) → is_list x ≡ false → begins_as_list b ≡ false
-not_list_first (string d) b fits begins kind = string_first b d fits begins
-not_list_first (list xs) b fits begins kind = cc
-
-begins_by : (is_strict : Bool) (b s : List ℕ) → Holds is_strict b s → BeginsWith b s
-begins_by false b s holds = holds
-begins_by true b s holds = ([], holds ∙ sym (append-nil s))
+held_kind : (is_strict : Bool) (b : List ℕ) (x : Item) → length b < 2 ^ 64 → Holds is_strict b (encoding x) → begins_as_list b ≡ is_list x
+held_kind is_strict b x fits holds = front_kind x b (held_sized is_strict b x fits holds) (held_begins (viewed is_strict b) x holds)
 
 -- answers that are equal have equal results
 whole : {M : Type 0} {a b : Answer M Fault} → a ≡ b → a.result ≡ b.result
@@ -39,17 +25,13 @@ whole {M} same = ap (λ (a : Answer M Fault). a.result) same
 
 -- ---- a value that was put on one side
 
-same_left : {M N : Type 0} (x y : M) → (let z : M ⊎ N = inl x in z) ≡ inl y → x ≡ y
-same_left x y is = cc
-
-same_right : {M N : Type 0} (x y : N) → (let z : M ⊎ N = inr x in z) ≡ inr y → x ≡ y
-same_right x y is = cc
-
 left_taken : {M N : Type 0} (r : Result M Fault) (y : M) → map_value {B = M ⊎ N} inl r ≡ Ok (inl y) → r ≡ Ok y
-left_taken {M} {N} r y is = let m = is_mapped r (λ (x : M). (let z : M ⊎ N = inl x in z)) (inl y) is in m.is ∙ ap Ok (same_left m.value y m.then)
+left_taken (Ok x) y is = cc
+left_taken (Err e) y is = absurd (let no : ⊥ = cc in no)
 
 right_taken : {M N : Type 0} (r : Result N Fault) (y : N) → map_value {B = M ⊎ N} inr r ≡ Ok (inr y) → r ≡ Ok y
-right_taken {M} {N} r y is = let m = is_mapped r (λ (x : N). (let z : M ⊎ N = inr x in z)) (inr y) is in m.is ∙ ap Ok (same_right m.value y m.then)
+right_taken (Ok x) y is = cc
+right_taken (Err e) y is = absurd (let no : ⊥ = cc in no)
 
 not_left : {M N : Type 0} (r : Result M Fault) (y : N) → map_value {B = M ⊎ N} inl r ≡ Ok (inr y) → ⊥
 not_left (Ok x) y is = cc
@@ -63,10 +45,9 @@ module _ {A B M N : Type 0} (seen : A → M) (other : B → N) where
   -- if contracts see two values of a sum alike and one of the two fits, both fit
   pub sums_fit : (Fits : A → Type 0) (Also : B → Type 0) → ((x y : A) → seen x ≡ seen y → Fits x → Fits y) → ((x y : B) → other x ≡ other y → Also x → Also y)
       → (s t : A ⊎ B) → sum_map seen other s ≡ sum_map seen other t → OnSum Fits Also s → OnSum Fits Also t
-  sums_fit Fits Also left right (inl x) (inl y) same fit = left x y (same_left _ _ same) fit
-  sums_fit Fits Also left right (inl x) (inr y) same fit = absurd (let no : ⊥ = cc in no)
-  sums_fit Fits Also left right (inr x) (inl y) same fit = absurd (let no : ⊥ = cc in no)
-  sums_fit Fits Also left right (inr x) (inr y) same fit = right x y (same_right _ _ same) fit
+  sums_fit Fits Also left right (inl x) (inl y) same fit = left x y (let one : seen x ≡ seen y = cc in one) fit
+  sums_fit Fits Also left right (inr x) (inr y) same fit = right x y (let one : other x ≡ other y = cc in one) fit
+  sums_fit Fits Also left right s t same fit = absurd (let no : ⊥ = cc in no)
 
   -- a sum is written as contracts see it if the values of both types are
   pub sums_written : (item : A → Item) (also : B → Item) (of : M → Item) (by : N → Item) → ((x : A) → of (seen x) ≡ item x) → ((y : B) → by (other y) ≡ also y)
@@ -79,10 +60,10 @@ module _ {A B : Type 0} (c : Form A) (d : Form B) (lists : (x : A) → is_list (
       → Holds is_strict b (encoding (sum_item c.item d.item s))
       → (read_either c.reading.read d.reading.read (viewed is_strict b)).result ≡ Ok (sum_map c.reading.seen d.reading.seen s)
   either_back_by is_strict law other b (inl x) fits fit holds =
-      whole (cond-true (begins_as_list b) _ _ (list_first (c.item x) b fits (begins_by is_strict b (encoding (c.item x)) holds) (lists x)))
+      whole (cond-true (begins_as_list b) _ _ (held_kind is_strict b (c.item x) fits holds ∙ lists x))
       ∙ ap (map_value inl) (law.back b x fits fit holds)
   either_back_by is_strict law other b (inr y) fits fit holds =
-      whole (cond-false (begins_as_list b) _ _ (not_list_first (d.item y) b fits (begins_by is_strict b (encoding (d.item y)) holds) (strings y)))
+      whole (cond-false (begins_as_list b) _ _ (held_kind is_strict b (d.item y) fits holds ∙ strings y))
       ∙ ap (map_value inr) (other.back b y fits fit holds)
 
   either_only_by : GivesOnly true c → GivesOnly true d → (b : List ℕ) (s : A ⊎ B) (kind : Bool) → AreBytes b → length b < 2 ^ 64 → begins_as_list b ≡ kind
@@ -214,19 +195,8 @@ module _ {A : Type 0} (width : ℕ) (cases : CasesForm A) (law : CasesAreLawful 
   abbrev read_pair : List View → Result cases.M Fault
   read_pair vs = (read_tagged width cases.read vs).result
 
-  tagged_back_by : (is_strict : Bool) (x : A) → FitsBytes width (cases.tag x) → cases.Fits x → IsSized (number_item (cases.tag x)) → IsSized (cases.item x)
-      → (read_tagged width cases.read (views_of is_strict (number_item (cases.tag x) ∷ cases.item x ∷ []))).result ≡ Ok (cases.seen x)
-  tagged_back_by is_strict x tag_fits fit sized small =
-      let second = viewed is_strict (encoding (cases.item x)) in
-      ap (λ r. and_then r (λ tag. (cases.read tag second).result))
-      (item_back (number width) is_strict ((number_lawful width).back is_strict) (cases.tag x) sized tag_fits)
-      ∙ law.back is_strict (encoding (cases.item x)) x small fit (held_itself is_strict (encoding (cases.item x)))
-
   tagged_only_by : (vs : List View) (x : A) → AllByRecursion IsStrictPart vs → (read_tagged width cases.read vs).result ≡ Ok (cases.seen x)
       → (FitsBytes width (cases.tag x) × cases.Fits x) × (vs ≡ views_of true (number_item (cases.tag x) ∷ cases.item x ∷ []))
-  tagged_only_by [] x parts is = absurd (let no : ⊥ = cc in no)
-  tagged_only_by (v ∷ []) x parts is = absurd (let no : ⊥ = cc in no)
-  tagged_only_by (v ∷ w ∷ u ∷ vs) x parts is = absurd (let no : ⊥ = cc in no)
   tagged_only_by (v ∷ w ∷ []) x (one, (two, parts)) is =
       let g = goes_on ((number width).reading.read v).result (λ tag. (cases.read tag w).result) (cases.seen x) is in
       let h = item_only (number width) (number_lawful width).exact v g.value one g.is in
@@ -235,6 +205,7 @@ module _ {A : Type 0} (width : ℕ) (cases : CasesForm A) (law : CasesAreLawful 
         ap (λ v. v ∷ w ∷ []) (h.1 ∙ ap (λ n. viewed true (encoding (number_item n))) hs.1)
             ∙ ap (λ w. viewed true (encoding (number_item (cases.tag x))) ∷ w ∷ []) (two.is ∙ ap strict_view_of hs.2),
       )
+  tagged_only_by vs x parts is = absurd (let no : ⊥ = cc in no)
 
   pub tagged_lawful : IsLawful (tagged_list width cases)
   tagged_lawful = record {
@@ -249,7 +220,9 @@ module _ {A : Type 0} (width : ℕ) (cases : CasesForm A) (law : CasesAreLawful 
       back = λ b x fits fit holds.
           let sized = items_sized is_strict b (number_item (cases.tag x) ∷ cases.item x ∷ []) fits holds in
           ap (λ r. and_then r read_pair) (items_held is_strict b (number_item (cases.tag x) ∷ cases.item x ∷ []) fits holds)
-          ∙ tagged_back_by is_strict x fit.0 fit.1 sized.0 sized.1.0;
+          ∙ ap (λ r. and_then r (λ tag. (cases.read tag (viewed is_strict (encoding (cases.item x)))).result))
+          (item_back (number width) is_strict ((number_lawful width).back is_strict) (cases.tag x) sized.0 fit.0)
+          ∙ law.back is_strict (encoding (cases.item x)) x sized.1.0 fit.1 (held_itself is_strict (encoding (cases.item x)));
     };
     exact = record {
       only = λ b x bytes fits is.

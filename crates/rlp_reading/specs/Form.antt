@@ -286,17 +286,21 @@ option c = record { Fits = λ o. IfSome o c.Fits; item = option_item c.item; rea
 abbrev pub list_type : {A B : Type 0} → (B → List A) → Form A → Form B
 list_type values c = record { Fits = λ b. All c.Fits (values b); item = λ b. list_of (map c.item (values b)); reading = list_reading values c.reading }
 
--- A type that holds one value, and allocates no memory for the value.
-abbrev pub newtype : {A B : Type 0} → (B → A) → Form A → Form B
-newtype value c = record {
+-- A type that holds one value, in memory that reading allocates or not, as the Bool says.
+abbrev pub held_type : {A B : Type 0} → Bool → (B → A) → Form A → Form B
+held_type takes_memory value c = record {
   Fits = λ b. c.Fits (value b);
   item = λ b. c.item (value b);
-  reading = held_reading c.reading.takes_memory value c.reading;
+  reading = held_reading takes_memory value c.reading;
 }
+
+-- A type that holds one value, and allocates no memory for the value.
+abbrev pub newtype : {A B : Type 0} → (B → A) → Form A → Form B
+newtype value c = held_type c.reading.takes_memory value c
 
 -- A type that holds one value in memory, such as a box.
 abbrev pub holding : {A B : Type 0} → (B → A) → Form A → Form B
-holding value c = record { Fits = λ b. c.Fits (value b); item = λ b. c.item (value b); reading = held_reading true value c.reading }
+holding value c = held_type true value c
 
 -- Numbers that are kept as n bytes.
 abbrev pub uint : (n : ℕ) → Form (Uint n)

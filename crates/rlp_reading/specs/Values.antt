@@ -2,8 +2,6 @@
 pub use Rattle.rlp_format.specs.Values.Value
 -- which bytes give which value, and which fault
 pub mod ValueReading
--- which views give which list of values
-pub mod ListReading
 -- what it means that decoding undoes encoding
 pub mod RoundTrip
 -- what the fault of a struct prints

@@ -110,7 +110,7 @@ pub fn framing_of(bytes: &[u8]) -> Result<PayloadInfo, DecoderError>
 
 /// Returns the header if the bytes are exactly one framed item, and else the strict fault of the
 /// bytes.
-#[tactic(auto, using(crate::proofs::Views::Fronts::strict_fronts))]
+#[tactic(auto, using(crate::proofs::Lemmas::Fronts::strict_fronts))]
 pub fn whole_framing(bytes: &[u8]) -> Result<PayloadInfo, DecoderError>
     ensures fault { MatchResult result (λ _. strict_fault bytes.now ≡ None)
         (λ e. strict_fault bytes.now ≡ Some e) }
@@ -126,7 +126,7 @@ pub fn whole_framing(bytes: &[u8]) -> Result<PayloadInfo, DecoderError>
 
 /// Returns the item if the bytes are exactly one framed item, and else the strict fault of the
 /// bytes.
-#[tactic(auto, using(crate::proofs::Views::Fronts::strict_fronts))]
+#[tactic(auto, using(crate::proofs::Lemmas::Fronts::strict_fronts))]
 pub fn whole_framed<'a>(bytes: &'a [u8]) -> Result<Framed<'a>, DecoderError>
     ensures fault { MatchResult result (λ _. strict_fault bytes.now ≡ None)
         (λ e. strict_fault bytes.now ≡ Some e) }
@@ -142,7 +142,7 @@ pub fn whole_framed<'a>(bytes: &'a [u8]) -> Result<Framed<'a>, DecoderError>
 }
 
 /// Returns whether other bytes follow the framed item that the bytes begin with.
-#[tactic(auto, using(crate::proofs::Views::Fronts::strict_fronts))]
+#[tactic(auto, using(crate::proofs::Lemmas::Fronts::strict_fronts))]
 pub fn is_followed(bytes: &[u8]) -> bool
     ensures { result ≡ is_followed bytes.now }
 {

@@ -9,6 +9,7 @@ ghost use Rattle.rlp_reading.specs.Format.Framing.{HasHeader, ReadsHeader, heade
 ghost use Rattle.rlp_reading.specs.{Views.Text.{text, text_by}, Views.Depth.{depth, depth_by}};
 
 /// The digits of a number are below 256, have no leading zero, and belong to no other number.
+#[tactic(auto, using(rlp_format::proofs::Lemmas::Digits::big_endian_bytes, rlp_format::proofs::Lemmas::Digits::big_endian_first, rlp_format::proofs::Lemmas::Digits::big_endian_value, rlp_format::proofs::Lemmas::Digits::digits_again))]
 pub fn digits_are_canonical()
     ensures bytes { (n : ℕ) → AreBytes (big_endian n) }
     ensures no_leading_zero { (n : ℕ) → 0 < n → 0 < get_or (big_endian n) 0 0 }
@@ -18,7 +19,7 @@ pub fn digits_are_canonical()
 {}
 
 /// No written header is a prefix of another written header.
-#[tactic(auto, using(rlp_format::proofs::Lemmas::Headers::written_header_prefix_free))]
+#[tactic(auto, using(crate::proofs::Lemmas::Views::written_header_prefix_free))]
 pub fn headers_are_prefix_free()
     ensures { (base1 base2 m n : ℕ) (x y : List ℕ) → IsBase base1 → IsBase base2 → m < 2 ^ 64
         → n < 2 ^ 64
@@ -61,7 +62,7 @@ pub fn frame_is_of_framed(bytes: &[u8])
 
 /// For items with encodings shorter than 2^64 bytes, no encoding is a prefix of the encoding of
 /// another item, whatever follows the two.
-#[tactic(auto, using(rlp_format::proofs::Lemmas::Encodings::prefix_free))]
+#[tactic(auto, using(crate::proofs::Lemmas::Items::prefix_free))]
 pub fn encoding_is_prefix_free()
     ensures { (x y : Item) (p q : List ℕ) → IsSized x → IsSized y
         → encoding x ++ p ≡ encoding y ++ q → x ≡ y }
@@ -74,7 +75,7 @@ pub fn encoding_in_front_is_unique(bytes: &[u8])
 {}
 
 /// The joined encodings of two lists of items are equal if and only if the lists are equal.
-#[tactic(auto, using(rlp_format::proofs::Lemmas::Encodings::join_same))]
+#[tactic(auto, using(crate::proofs::Lemmas::Items::join_same))]
 pub fn join_is_injective()
     ensures { (xs ys : List Item) → All IsSized xs → All IsSized ys → (join xs ≡ join ys)
         ↔ (xs ≡ ys) }
@@ -147,7 +148,7 @@ pub fn text_and_depth_go_by_items(bytes: &[u8])
 
 /// Bytes that follow a framed item don't change the item's framing, value, items, text and depth.
 /// `c0ff` reads as `c0`, and `8005` as `80`.
-#[tactic(auto, using(crate::proofs::Format::Following::followed))]
+#[tactic(auto, using(crate::proofs::Lemmas::Texts::followed))]
 pub fn what_follows_makes_no_difference()
     ensures framing { (f more : List ℕ) → IsFramedItem f → framing (f ++ more) ≡ framing f }
     ensures value { (f more : List ℕ) → IsFramedItem f → value (f ++ more) ≡ value f }
@@ -157,7 +158,7 @@ pub fn what_follows_makes_no_difference()
 {}
 
 /// Bytes that begin with the encoding of an item have the depth of the item.
-#[tactic(auto, using(crate::proofs::Lemmas::Depths::depth_of_item, rlp_format::proofs::Lemmas::Encodings::front_sized))]
+#[tactic(auto, using(crate::proofs::Lemmas::Texts::depth_of_item, rlp_format::proofs::Lemmas::Encodings::front_sized))]
 pub fn encoding_has_its_depth(bytes: &[u8])
     ensures { (x : Item) → BeginsWith bytes.now (encoding x) → depth bytes.now ≡ item_depth x }
 {}

@@ -39,7 +39,7 @@ fn digits_at_once(digits: &[u8]) -> usize
 /// Tests whether these are the digits of a number of at most `width` bytes: first the number of
 /// digits, and then the first digit.
 #[inline(always)]
-#[tactic(auto, using(crate::proofs::Lemmas::Numbers::digit_faults))]
+#[tactic(auto, using(crate::proofs::Lemmas::StringsHeld::digit_faults))]
 pub fn check_digits(digits: &[u8], width: usize) -> Result<(), DecoderError>
     ensures few { IfOk result (λ _. length digits.now ≤ width) }
     ensures value { IfOk result (λ _. FitsBytes width (number_from_digits 256 digits.now)

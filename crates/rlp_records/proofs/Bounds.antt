@@ -5,8 +5,8 @@ use Rattle.std.proofs.{Common.{arith, le-ltb, lt-ltb, Result, Ok, Err, IfOk, IfE
 use Rattle.std.proofs.lemmas.Slice.Eq.{bytes_eq-Decides}
 use Rattle.rlp.specs.{DecoderError.DecoderError, DecoderError.TheVariants.OutOfMemory, Format.Encoding.{Item, encoding}}
 use Rattle.rlp.specs.{Format.Framing.IsCanonicalWithin, Format.TreeFaults.tree_fault, Values.RawItem.raw_item_of, Views.View.{View, strict_view_of}}
-use Rattle.rlp_format.proofs.Lemmas.Encodings.{encoding_same}
-use Rattle.rlp_reading.proofs.Lemmas.RawItems.{raw_item_of-encoding, shallow_within}
+use Rattle.rlp_reading.proofs.Lemmas.Items.{encoding_same}
+use Rattle.rlp_reading.proofs.RawLaws.{raw_item_of-encoding, shallow_within}
 use Rattle.rlp_reading.specs.{Format.Walk.IsWalked, declared.flat.FlatItem.FlatItem, declared.flat.TreeFault.TreeFault}
 use Rattle.rlp_reading.specs.{declared.flat.TreeFault.TheVariants.{Decoding, TooDeep}, Form.{Answer, Fault, Form, custom, fault_of}, Laws.IsLawful}
 use Rattle.rlp_records.specs.Bounded.{IsBounded, IsWithinBounds, bound_fault, count_fault, depth_fault, is_encoding, items_in, items_in_envelopes, read_bounded, unless_fault}

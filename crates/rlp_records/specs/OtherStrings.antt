@@ -7,7 +7,7 @@ use Rattle.rlp.specs.Views.View.{View, Holds, HoldsItem, strict_view_of, view_st
 use Rattle.rlp_reading.specs.{Format.Framing.read_string, Form.{Answer, Fault, Form, here, map_answer, map_value, seen_fault, string_of}}
 use Rattle.rlp_reading.specs.{Laws.{GivesOnly, IsLawful, viewed}, Sums.{CasesForm, envelope, sum_map}}
 use Rattle.rlp_reading.proofs.{Lemmas.Strings.string_list, Lemmas.StringsHeld.{ReadsHeld, held_begins, held_fault, held_only, held_reads}}
-use Rattle.rlp_reading.proofs.{Lemmas.Sums.list_first, SumLaws.{sums_fit, sums_written}}
+use Rattle.rlp_reading.proofs.{Lemmas.Views.list_first, SumLaws.{sums_fit, sums_written}}
 use Rattle.rlp_records.specs.OtherEnvelope.{IsOther, authorization_magic, is_other, is_other_type}
 
 -- What a view whose string is r gives: the string, if `is` holds for it, and else what the type gives.

@@ -2,9 +2,7 @@
 
 ghost use Rattle.rlp_records.specs.Address.{address};
 
-use rlp::{
-    Decodable, DecodePlaced, DecoderError, Encodable, Rlp, RlpStream, RoundTrip, StrictRead,
-};
+use rlp::{DecoderError, Encodable, Record, Rlp, RlpStream};
 use std::alloc::{AllocError, Global};
 
 /// The address of an account: 20 bytes.
@@ -26,25 +24,17 @@ impl Encodable for Address {
 
 /// Read as an array of 20 bytes. Fails with `RlpIsTooShort` if the string is shorter, and with
 /// `RlpIsTooBig` if it is longer. It doesn't allocate.
-impl Decodable for Address {
+impl Record for Address {
     ghost reading = { address.reading };
 
     fn decode(alloc: Global, rlp: &Rlp<'_>) -> Result<Address, DecoderError> {
         let bytes = rlp.as_val(alloc)?;
         Ok(Address(bytes))
     }
-}
 
-impl DecodePlaced for Address {
     fn put_path(_alloc: Global, _rlp: &Rlp<'_>, _path: &mut Vec<usize>) -> Result<(), AllocError> {
         Ok(())
     }
-}
 
-impl RoundTrip for Address {
-    ghost round_trip = { address.reads_back };
-}
-
-impl StrictRead for Address {
-    ghost strict = { address.reads_strictly };
+    ghost lawful = { address.reads_strictly };
 }

@@ -1,10 +1,11 @@
 //! Hashes: strings of 32 bytes.
 
-ghost use Rattle.rlp_records.specs.Hash.{hash};
+ghost use Rattle.std.specs.Prelude.{IfOk, OnOk};
+ghost use Rattle.rlp.specs.Format.Encoding.{encoding};
+ghost use Rattle.rlp_records.specs.{Hash.hash, Hashing.IsHashOf};
 
-use rlp::{
-    Decodable, DecodePlaced, DecoderError, Encodable, Rlp, RlpStream, RoundTrip, StrictRead,
-};
+use crate::keccak256;
+use rlp::{DecoderError, Encodable, Record, Rlp, RlpStream};
 use std::alloc::{AllocError, Global};
 
 /// A hash of 32 bytes: a Keccak-256 hash or the root of a trie, as in section 4.3 and appendix B of
@@ -25,25 +26,27 @@ impl Encodable for Hash {
 
 /// Read as an array of 32 bytes. Fails with `RlpIsTooShort` if the string is shorter, and with
 /// `RlpIsTooBig` if it is longer. It doesn't allocate.
-impl Decodable for Hash {
+impl Record for Hash {
     ghost reading = { hash.reading };
 
     fn decode(alloc: Global, rlp: &Rlp<'_>) -> Result<Hash, DecoderError> {
         let bytes = rlp.as_val(alloc)?;
         Ok(Hash(bytes))
     }
-}
 
-impl DecodePlaced for Hash {
     fn put_path(_alloc: Global, _rlp: &Rlp<'_>, _path: &mut Vec<usize>) -> Result<(), AllocError> {
         Ok(())
     }
+
+    ghost lawful = { hash.reads_strictly };
 }
 
-impl RoundTrip for Hash {
-    ghost round_trip = { hash.reads_back };
-}
-
-impl StrictRead for Hash {
-    ghost strict = { hash.reads_strictly };
+/// Returns the hash of the encoding of a value, such as a header, whose hash names the block. Fails
+/// as [`rlp::encode`] does.
+pub fn encoding_hash<E: Encodable>(alloc: Global, value: &E) -> Result<Hash, AllocError>
+    ensures fits { OnOk result (E.fits value.now) }
+    ensures hash { IfOk result (λ h. IsHashOf h (encoding (E.item value.now))) }
+{
+    let encoding = rlp::encode(alloc, value)?;
+    Ok(Hash(keccak256(encoding.as_slice())))
 }

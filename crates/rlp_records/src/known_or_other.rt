@@ -8,9 +8,7 @@ ghost use Rattle.rlp_records.specs.declared.known_or_other.KnownOrOther.{KnownOr
 
 use crate::{Eip2718, Hash, OtherEnvelope, keccak256};
 use bytes::BytesMut;
-use rlp::{
-    Decodable, DecodePlaced, DecoderError, Encodable, Rlp, RlpStream, RoundTrip, StrictRead,
-};
+use rlp::{DecoderError, Encodable, Record, Rlp, RlpStream};
 use std::alloc::{AllocError, Global};
 
 /// A transaction or a receipt of any type. A value of an unknown type is kept as its bytes, and
@@ -112,7 +110,7 @@ impl<T: Eip2718> Encodable for KnownOrOther<T> {
 }
 
 /// Reading fails as [`Eip2718::decode_item`] does, but not for the string of an [`OtherEnvelope`].
-impl<T: Eip2718> Decodable for KnownOrOther<T> {
+impl<T: Eip2718> Record for KnownOrOther<T> {
     ghost reading = { (with_others T.types).reading };
 
     fn decode(alloc: Global, rlp: &Rlp<'_>) -> Result<KnownOrOther<T>, DecoderError> {
@@ -127,18 +125,10 @@ impl<T: Eip2718> Decodable for KnownOrOther<T> {
             }
         }
     }
-}
 
-impl<T: Eip2718> DecodePlaced for KnownOrOther<T> {
     fn put_path(alloc: Global, rlp: &Rlp<'_>, path: &mut Vec<usize>) -> Result<(), AllocError> {
         T::put_item_path(alloc, rlp, path)
     }
-}
 
-impl<T: Eip2718> RoundTrip for KnownOrOther<T> {
-    ghost round_trip = { (with_others T.types).reads_back };
-}
-
-impl<T: Eip2718> StrictRead for KnownOrOther<T> {
-    ghost strict = { (with_others T.types).reads_strictly };
+    ghost lawful = { (with_others T.types).reads_strictly };
 }

@@ -9,7 +9,6 @@ mod envelope;
 mod envelope_items;
 mod enveloped;
 mod hash;
-mod hashing;
 mod keccak;
 mod known_or_other;
 pub mod laws;
@@ -23,8 +22,7 @@ pub use envelope::{
     from_envelope, to_envelope, typed_list,
 };
 pub use enveloped::Enveloped;
-pub use hash::Hash;
-pub use hashing::encoding_hash;
+pub use hash::{Hash, encoding_hash};
 pub use keccak::keccak256;
 pub use known_or_other::KnownOrOther;
 pub use other_envelope::OtherEnvelope;

@@ -6,8 +6,5 @@ pub mod ItemLemmas
 pub mod Hashes
 -- what bytes give
 pub mod Readings
--- bytes that stand by themselves
-pub mod Alone
 -- lines that are shown
 pub mod LineLemmas
-pub mod OnlyAlone

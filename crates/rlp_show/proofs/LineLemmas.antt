@@ -1,5 +1,5 @@
 -- Lines whose digits are shown without a fault.
-use Rattle.std.proofs.Common.{◌≡◌, ◌^◌, ◌<◌, ◌≤◌, ◌==◌, ◌-◌, if◌then◌else◌, ℕ, Bool, true, false, Some, Result, Ok, Err, List, drop, length, take, codes, refl, sym, ap, ◌∙◌, arith, length-drop, length-take, nat_eq, slice_index}
+use Rattle.std.proofs.Common.{◌≡◌, ◌^◌, ◌<◌, ◌≤◌, ◌==◌, ◌-◌, ◌⊎◌, inl, inr, if◌then◌else◌, ℕ, Bool, true, false, Some, Result, Ok, Err, List, drop, length, take, codes, refl, sym, ap, ◌∙◌, arith, length-drop, length-take, nat_eq, slice_index}
 use Rattle.std.proofs.lemmas.List.Elements.{All-from_get_or}
 use Rattle.std.specs.{List.starts_with, Result.result_ok, Str.Lines.strip_carriage_return}
 use Rattle.hex.proofs.HexLemmas.{decode_of-ok}
@@ -8,8 +8,15 @@ use Rattle.rlp.specs.{Format.Encoding.AreBytes, Format.Encoding.encoding, Format
 use Rattle.rlp_reading.specs.{Form.Fault, Form.Reading, Form.map_value, Laws.GivesOnly, Laws.form_of}
 use Rattle.rlp_reading.proofs.ListLaws.{is_mapped}
 use Rattle.rlp_lines.specs.Digits.{bytes_in, digits_of}
+use Rattle.rlp_records.specs.{Alone.bytes_alone, Eip2718.typed_alone, KnownOrOther.any_alone}
+use Rattle.rlp_records.proofs.{TypedSums.typed_strings, OtherTypes.any_strings}
+use Rattle.rlp_headers.specs.TypedReceipt.{any_receipt, receipt_types}
+use Rattle.rlp_transactions.specs.{Transaction.any_transaction, Transaction.transaction_types}
+use Rattle.rlp_transactions.specs.UnsignedTransaction.{unsigned_transaction, unsigned_types}
 use Rattle.rlp_show.specs.Answers.{IsAnswered, IsRead, own_name, shown_text, text_answer}
-use Rattle.rlp_show.specs.{Value.Value, Input.bytes_or_node, Shown.ShowsAs, Shown.kind_shown, declared.kind.Kind.Kind}
+use Rattle.rlp_show.specs.Shown.{ShowsAs, kind_shown, receipt_shown, signed_shown, transaction_shown, unsigned_or}
+use Rattle.rlp_show.specs.{Records.any_receipt_display, Transactions.any_transaction_display, Transactions.unsigned_display}
+use Rattle.rlp_show.specs.{Value.Value, Input.bytes_or_node, declared.kind.Kind.Kind}
 
 length-if : (t : Bool) (x y : List ℕ) (n : ℕ) → length x ≤ n → length y ≤ n → length (if t then x else y) ≤ n
 length-if true x y n h k = h
@@ -55,3 +62,31 @@ pub only_read : {A : Type 0} (Fits : A → Type 0) (item : A → Item) (r : Read
     → IsRead (λ x. Fits x × (b ≡ encoding (item x))) r shown v
 only_read Fits item r law shown b v slice is =
     read_by (λ x. Fits x × (b ≡ encoding (item x))) r shown (r.read (strict_view_of b)).result v is (λ x same. law.only b x slice.0 slice.1 same)
+
+-- ---- transactions and receipts by themselves
+
+pub receipt_only : (b : List ℕ) (v : Value) → AreBytes b × (length b < 2 ^ 64) → (receipt_shown b).result ≡ Ok v
+    → IsRead (λ r. any_receipt.Fits r × (b ≡ bytes_alone (any_receipt.item r))) any_receipt.reading any_receipt_display.shown v
+receipt_only b v slice is =
+    read_by (λ r. any_receipt.Fits r × (b ≡ bytes_alone (any_receipt.item r))) any_receipt.reading any_receipt_display.shown (any_alone receipt_types b).result v is
+    (λ r same. (any_strings receipt_types).only b r slice.0 slice.1 same)
+
+-- a transaction that isn't signed, or one that is
+abbrev IsUnsigned : List ℕ → Value → Type 0
+IsUnsigned b v =
+    IsRead (λ t. unsigned_transaction.Fits t × (b ≡ bytes_alone (unsigned_transaction.item t))) unsigned_transaction.reading unsigned_display.shown v
+
+abbrev IsSigned : List ℕ → Value → Type 0
+IsSigned b v = IsRead (λ t. any_transaction.Fits t × (b ≡ bytes_alone (any_transaction.item t))) any_transaction.reading any_transaction_display.shown v
+
+pub transaction_only : (b : List ℕ) (v : Value) → AreBytes b × (length b < 2 ^ 64) → (transaction_shown b).result ≡ Ok v → IsUnsigned b v ⊎ IsSigned b v
+transaction_only b v slice is = by (typed_alone unsigned_types b).result refl is
+  where
+    by : (r : Result unsigned_transaction.reading.M Fault) → (typed_alone unsigned_types b).result ≡ r → (unsigned_or (signed_shown b) r).result ≡ Ok v
+        → IsUnsigned b v ⊎ IsSigned b v
+    by (Ok m) given is =
+        inl (read_by (λ t. unsigned_transaction.Fits t × (b ≡ bytes_alone (unsigned_transaction.item t))) unsigned_transaction.reading unsigned_display.shown
+        (Ok m) v is (λ t same. (typed_strings unsigned_types).only b t slice.0 slice.1 (given ∙ same)))
+    by (Err e) given is =
+        inr (read_by (λ t. any_transaction.Fits t × (b ≡ bytes_alone (any_transaction.item t))) any_transaction.reading any_transaction_display.shown
+        (any_alone transaction_types b).result v is (λ t same. (any_strings transaction_types).only b t slice.0 slice.1 same))

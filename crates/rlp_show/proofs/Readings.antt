@@ -1,8 +1,10 @@
 -- What bytes give is what was read of them.
-use Rattle.std.proofs.Common.{◌≡◌, ◌≢◌, ◌++◌, ◌⊎◌, inl, inr, ℕ, List, sym, ap, ◌∙◌, subst, Result, Ok, Err, OnOk}
-use Rattle.rlp.specs.{DecoderError.DecoderError, DecoderError.TheVariants.OutOfMemory, Views.View.View, Views.View.strict_view_of}
-use Rattle.rlp_reading.specs.Form.{Answer, Fault, Path, fault_of, map_answer, map_value}
-use Rattle.rlp_show.specs.{Shown.Shown, Value.Value, Answers.kind_text, Answers.shown_text, Answers.value_text, declared.answers.Form.Form}
+use Rattle.std.proofs.Common.{◌≡◌, ◌≢◌, ◌++◌, ◌⊎◌, inl, inr, ℕ, List, [], sym, ap, ◌∙◌, subst, IfSome, Result, Ok, Err, OnOk}
+use Rattle.rlp.specs.{DecoderError.DecoderError, DecoderError.TheVariants.OutOfMemory}
+use Rattle.rlp_reading.specs.Form.{Answer, Fault, IsPlaced, Path, fault_of, map_answer, map_value, path_unless}
+use Rattle.rlp_records.specs.Eip2718.{typed_alone}
+use Rattle.rlp_transactions.specs.UnsignedTransaction.{unsigned_types}
+use Rattle.rlp_show.specs.{Shown.Shown, Shown.signed_shown, Shown.transaction_shown, Shown.unsigned_or, Value.Value, Answers.kind_text, Answers.shown_text, Answers.value_text, declared.answers.Form.Form}
 use Rattle.rlp_show.specs.declared.kind.Kind.{Kind}
 
 module _ (form : Form) (kind : Kind) (name b : List ℕ) {M : Type 0} (a : Answer M Fault) (shown : M → Value) where
@@ -30,15 +32,23 @@ module _ (form : Form) (kind : Kind) (name b : List ℕ) {M : Type 0} (a : Answe
         by (Ok done) memory = absurd (memory full)
         by (Err e) memory = tt
 
--- the same bytes give the same
-pub read_at : (form : Form) (kind : Kind) (name b : List ℕ) {M : Type 0} (read : View → Answer M Fault) (shown : M → Value) {T E : Type 0} (r : Result T E)
-    (new old d e : List ℕ) → d ≡ e → OnOk r (new ≡ old ++ kind_text form kind name b (map_answer shown (read (strict_view_of d))))
-    → OnOk r (new ≡ old ++ kind_text form kind name b (map_answer shown (read (strict_view_of e))))
-read_at form kind name b read shown r new old d e same put =
-    subst (λ d. OnOk r (new ≡ old ++ kind_text form kind name b (map_answer shown (read (strict_view_of d))))) same put
+-- the same is answered for what is the same
+pub put_as : (form : Form) (kind : Kind) (name b : List ℕ) {T E : Type 0} (r : Result T E) (new old : List ℕ) (s t : Shown) → s ≡ t
+    → OnOk r (new ≡ old ++ kind_text form kind name b s) → OnOk r (new ≡ old ++ kind_text form kind name b t)
+put_as form kind name b r new old s t same put = subst (λ s. OnOk r (new ≡ old ++ kind_text form kind name b s)) same put
 
--- the same is answered for what bytes give, as far as memory allows
-pub given_at : (form : Form) (kind : Kind) (name b : List ℕ) {T E : Type 0} (r : Result T E) (new old : List ℕ) (s t : Shown) (P : Type 0) → OnOk r P
-    → (P → s ≡ t) → OnOk r (new ≡ old ++ kind_text form kind name b s) → OnOk r (new ≡ old ++ kind_text form kind name b t)
-given_at form kind name b (Ok x) new old s t P known same put = put ∙ ap (λ s. old ++ kind_text form kind name b s) (same known)
-given_at form kind name b (Err e) new old s t P known same put = tt
+-- a fault, and the path of the fault, if memory wasn't refused
+pub placed : {M : Type 0} (a : Answer M Fault) (e : DecoderError) (old path : Path) (P : Type 0)
+    → (a.result ≡ Err (fault_of e)) ⊎ ((e ≡ OutOfMemory) × P) → IsPlaced a old path → old ≡ []
+    → ((a.result ≡ Err (fault_of e)) × (path ≡ a.path)) ⊎ (e ≡ OutOfMemory)
+placed a e old path P (inl is) leads empty =
+    inl (is, subst (λ r. IfSome (path_unless r a.path) (λ p. path ≡ old ++ p)) is leads ∙ ap (λ o. o ++ a.path) empty)
+placed a e old path P (inr full) leads empty = inr full.0
+
+pub other_fault : {M : Type 0} (r : Result M Fault) (e : DecoderError) (P : Type 0) → (r ≡ Err (fault_of e)) ⊎ ((e ≡ OutOfMemory) × P) → e ≢ OutOfMemory
+    → r ≡ Err (fault_of e)
+other_fault r e P (inl is) other = is
+other_fault r e P (inr full) other = absurd (other full.0)
+
+pub unsigned_faulty : (b : List ℕ) (e : Fault) → (typed_alone unsigned_types b).result ≡ Err e → transaction_shown b ≡ signed_shown b
+unsigned_faulty b e is = ap (unsigned_or (signed_shown b)) is

@@ -1,6 +1,6 @@
 -- The answers to lines.
-use Rattle.std.specs.Prelude.{ℕ, ◌≡◌, Bool, true, false, ◌==◌, List, [], ◌∷◌, ◌++◌, codes, decimal, encode_utf8, if◌then◌else◌, Option, Some, None, Result, Ok, Err}
-use Rattle.std.specs.{Char.to_ascii_uppercase, Str.Lines.strip_carriage_return}
+use Rattle.std.specs.Prelude.{ℕ, ◌≡◌, Bool, true, false, List, [], ◌∷◌, ◌++◌, codes, decimal, if◌then◌else◌, Option, Some, None, Result, Ok, Err}
+use Rattle.std.specs.Str.Lines.{strip_carriage_return}
 use Rattle.rlp.specs.{DecoderError.DecoderError, Views.View.strict_view_of}
 use Rattle.rlp_reading.specs.Form.{Fault, Path, Reading, custom, data_len_with_zero, expected_data, expected_list, fault_of, inconsistent_len, incorrect_list_len, invalid_indirection, invalid_len, is_too_big, is_too_short, list_len_with_zero, out_of_memory}
 use Rattle.rlp_lines.specs.{Status.status_of, declared.serving.RunFault.RunFault}
@@ -11,19 +11,10 @@ use Rattle.rlp_show.specs.{declared.answers.Form.TheVariants.Json, declared.answ
 
 -- ---- values
 
--- a byte of a name, which may follow an underscore
-abbrev pub letter_text : Bool → ℕ → List ℕ
-letter_text after byte = if byte == 95 then [] else encode_utf8 (if after then to_ascii_uppercase byte else byte)
-
--- a name without its underscores, and with a capital letter after each
-abbrev pub camel : Bool → List ℕ → List ℕ
-camel after [] = []
-camel after (byte ∷ name) = letter_text after byte ++ camel (byte == 95) name
-
 -- A value with this name, which these bytes encode: its lines; one JSON object, whose only key is the kind; or where its contents stand in the bytes.
 abbrev pub value_text : Form → Kind → List ℕ → List ℕ → Value → List ℕ
 value_text Text kind name b v = lines name v
-value_text Json kind name b v = json_of (object (entry [] (camel false (kind_name kind)) v))
+value_text Json kind name b v = json_of (object (entry [] (kind_name kind) v))
 value_text Bytes kind name b v = dump_of b name v
 
 -- ---- faults

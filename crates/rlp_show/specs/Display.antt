@@ -130,9 +130,9 @@ named {M} d = record {
   apart = λ f g is. d.apart f.1.1 g.1.1 (field_same is);
 }
 
--- the one field with this name in lines and this name in JSON
-abbrev pub one : {M : Type 0} → List ℕ → List ℕ → Display M → Fields M
-one {M} name json d = through (λ (m : M). (name, (json, m))) (named d)
+-- the one field with this name, in lines and in JSON
+abbrev pub one : {M : Type 0} → List ℕ → Display M → Fields M
+one {M} name d = through (λ (m : M). (name, (name, m))) (named d)
 
 pub if_apart : {M : Type 0} (f : Fields M) (o u : Option M) → entries_if f.shown o ≡ entries_if f.shown u → option_map f.told o ≡ option_map f.told u
 if_apart f None None is = refl
@@ -143,9 +143,9 @@ if_apart f _ _ is = absurd cc
 abbrev pub if_there : {M : Type 0} → Fields M → Fields (Option M)
 if_there f = record { shown = λ o. entries_if f.shown o; Told = Option f.Told; told = λ o. option_map f.told o; apart = if_apart f }
 
--- the one field with these names, which may be missing
-abbrev pub one_if : {M : Type 0} → List ℕ → List ℕ → Display M → Fields (Option M)
-one_if {M} name json d = through (option_map (λ (m : M). (name, (json, m)))) (if_there (named d))
+-- the one field with this name, which may be missing
+abbrev pub one_if : {M : Type 0} → List ℕ → Display M → Fields (Option M)
+one_if {M} name d = through (option_map (λ (m : M). (name, (name, m)))) (if_there (named d))
 
 module _ {M N : Type 0} (f : Fields M) (g : Fields N) where
   -- what is told of the two parts
@@ -174,17 +174,17 @@ derived shown = record { shown = shown; Told = ⊤; told = λ m. tt; apart = λ 
 abbrev pub after_derived : {M : Type 0} → (M → Entries) → Fields M → Fields M
 after_derived {M} shown f = through (λ (m : M). (m, m)) (in_order (derived shown) f)
 
--- a field before other fields
+-- a field that has this name in lines and this name in JSON, before other fields
 abbrev pub field : {M N : Type 0} → List ℕ → List ℕ → Display M → Fields N → Fields (M × N)
-field name json d more = in_order (one name json d) more
+field {M} name json d more = in_order (through (λ (m : M). (name, (json, m))) (named d)) more
 
 -- a field that has this name in lines and in JSON, before other fields
 abbrev pub same : {M N : Type 0} → List ℕ → Display M → Fields N → Fields (M × N)
-same name d more = field name name d more
+same name d more = in_order (one name d) more
 
 -- a field that may be missing, before other fields
-abbrev pub field_if : {M N : Type 0} → List ℕ → List ℕ → Display M → Fields N → Fields (Option M × N)
-field_if name json d more = in_order (one_if name json d) more
+abbrev pub field_if : {M N : Type 0} → List ℕ → Display M → Fields N → Fields (Option M × N)
+field_if name d more = in_order (one_if name d) more
 
 -- ---- the number of the type of a transaction or a receipt, as in EIP-2718, and sums of such types
 

@@ -20,7 +20,7 @@ path_fields = through (λ d. (d, d)) (
 
 -- the hash of a node, if it is shown, and the kind of the node
 abbrev pub kind_entries : Option (List ℕ) → List ℕ → Entries
-kind_entries hash kind = both ((one_if (codes "hash") (codes "hash") a_string).shown hash) (entry (codes "node") (codes "node") (content (text kind)))
+kind_entries hash kind = both ((one_if (codes "hash") a_string).shown hash) (entry (codes "node") (codes "node") (content (text kind)))
 
 -- the name of the kind of a leaf or an extension, and the name of its value or its child
 abbrev pub kind_of : Bool → List ℕ

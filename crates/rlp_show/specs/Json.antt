@@ -1,5 +1,5 @@
 -- The JSON of a value, with the names of Ethereum's execution API and without spaces.
-use Rattle.std.specs.Prelude.{ℕ, Bool, true, false, List, [], ◌++◌, codes}
+use Rattle.std.specs.{Prelude.{ℕ, Bool, true, false, List, [], ◌∷◌, ◌++◌, ◌==◌, codes, encode_utf8, if◌then◌else◌}, Char.to_ascii_uppercase}
 use Rattle.rlp_show.specs.Value.{Steps, after, Content, Value, number, type_byte, bytes, text, empty_list}
 use Rattle.rlp_show.specs.Lines.{bytes_text, hex_text, ip_text, number_text, word_text}
 use Rattle.rlp_show.specs.declared.{sink.NumberKind.NumberKind, sink.NumberKind.TheVariants.Place, sink.BytesKind.BytesKind}
@@ -43,6 +43,15 @@ content_json empty_list = codes "[]"
 abbrev pub put_text : List ℕ → Bool → Json → Json
 put_text t fresh s = record { text = s.text ++ comma s.is_fresh ++ t; is_fresh = fresh }
 
+-- a byte of a name, which may follow an underscore
+abbrev pub letter_text : Bool → ℕ → List ℕ
+letter_text after byte = if byte == 95 then [] else encode_utf8 (if after then to_ascii_uppercase byte else byte)
+
+-- a name without its underscores, and with a capital letter after each
+abbrev pub camel : Bool → List ℕ → List ℕ
+camel after [] = []
+camel after (byte ∷ name) = letter_text after byte ++ camel (byte == 95) name
+
 -- the bracket that begins an object or a list, and the bracket that ends it
 abbrev pub put_bracket : Bracket → Json → Json
 put_bracket OpenBrace s = put_text (codes "{") true s
@@ -54,7 +63,7 @@ put_bracket CloseSquare s = record { text = s.text ++ codes "]"; is_fresh = fals
 abbrev pub json_steps : Steps Json
 json_steps = record {
   is_json = true;
-  key = λ json s. put_text (quoted json ++ codes ":") true s;
+  key = λ json s. put_text (quoted (camel false json) ++ codes ":") true s;
   put = λ name c s. put_text (content_json c) false s;
   bracket = put_bracket;
 }

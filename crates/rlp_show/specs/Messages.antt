@@ -1,12 +1,13 @@
 -- What is shown of messages of `p2p` and `eth`.
-use Rattle.std.specs.Prelude.{ℕ, List, [], ◌∷◌, codes, Option, Some, None, ◌≡◌}
 use Rattle.std.proofs.Common.{inl, inr}
+use Rattle.std.specs.Prelude.{ℕ, ◌∷◌, ◌≡◌, List, None, Option, Some, [], codes}
 use Rattle.rlp_messages.specs.Eth.Announcements.{block_range_update, new_block, new_block_hash, new_pooled_transaction_hashes}
-use Rattle.rlp_messages.specs.{P2p.Disconnect.disconnect, P2p.Hello.capability, P2p.Hello.further_fields, P2p.Hello.hello, Eth.HashOrNumberLaws.hash_or_number}
-use Rattle.rlp_messages.specs.{Eth.Receipts69.receipt69, Eth.Requests.get_block_headers, Eth.Status.fork_id, Eth.Status.status68, Eth.Status.status69}
+use Rattle.rlp_messages.specs.{Eth.HashOrNumberLaws.hash_or_number, Eth.Receipts.receipt69, Eth.Requests.get_block_headers}
+use Rattle.rlp_messages.specs.{Eth.Status.{fork_id, status68, status69}, P2p.Disconnect.disconnect, P2p.Hello.{capability, further_fields, hello}}
+use Rattle.rlp_show.specs.Blocks.{block_display}
 use Rattle.rlp_show.specs.Display.{Display, Fields, a_bit, a_content, a_list, a_number, a_string, an_object, bytes_as, end, field, in_order, one, one_if, same, through}
-use Rattle.rlp_show.specs.{Value.Content, Value.bytes, Value.number, Records.log_display, Records.status_fields, Blocks.block_display, Items.raw_item_display}
-use Rattle.rlp_show.specs.{declared.sink.NumberKind.TheVariants.Decimal, declared.sink.BytesKind.TheVariants.Any, declared.sink.BytesKind.TheVariants.Word}
+use Rattle.rlp_show.specs.{Items.raw_item_display, Records.{log_display, status_fields}, Value.{Content, bytes, number}}
+use Rattle.rlp_show.specs.{declared.sink.BytesKind.TheVariants.{Any, Word}, declared.sink.NumberKind.TheVariants.Decimal}
 
 -- the reason in a list, or the reason alone, which are shown alike
 abbrev pub reason_of : disconnect.reading.M → ℕ
@@ -14,7 +15,7 @@ reason_of (inl listed) = listed.0
 reason_of (inr reason) = reason
 
 abbrev pub disconnect_display : Display disconnect.reading.M
-disconnect_display = an_object (through reason_of (one (codes "reason") (codes "reason") a_number))
+disconnect_display = an_object (through reason_of (one (codes "reason") a_number))
 
 abbrev pub capability_display : Display capability.reading.M
 capability_display = an_object (same (codes "name") (bytes_as Word) (same (codes "version") a_number end))
@@ -30,54 +31,48 @@ further_item_display = through (λ m. m.0) raw_item_display
 
 -- the items after the fields, if any follow
 abbrev pub further_display : Fields (List further_fields.reading.M)
-further_display = through if_some (one_if (codes "further") (codes "further") (a_list further_item_display))
+further_display = through if_some (one_if (codes "further") (a_list further_item_display))
 
 -- the fields, and then the items after them
 abbrev pub hello_display : Display hello.reading.M
-hello_display = an_object (
-    field (codes "protocol_version") (codes "protocolVersion") a_number (field (codes "client_id") (codes "clientId") a_string (
-    same (codes "capabilities") (a_list capability_display) (field (codes "listen_port") (codes "listenPort") a_number (
-    field (codes "node_id") (codes "nodeId") a_string further_display)))))
+hello_display =
+    an_object (same (codes "protocol_version") a_number (same (codes "client_id") a_string (same (codes "capabilities") (a_list capability_display) (
+    same (codes "listen_port") a_number (same (codes "node_id") a_string further_display)))))
 
 -- ---- what a client knows of the chain
 
 abbrev pub fork_id_display : Display fork_id.reading.M
-fork_id_display = an_object (field (codes "fork_hash") (codes "forkHash") a_string (field (codes "fork_next") (codes "forkNext") a_number end))
+fork_id_display = an_object (same (codes "fork_hash") a_string (same (codes "fork_next") a_number end))
 
 abbrev pub status68_display : Display status68.reading.M
-status68_display = an_object (
-    same (codes "version") a_number (field (codes "network_id") (codes "networkId") a_number (
-    field (codes "total_difficulty") (codes "totalDifficulty") a_number (field (codes "block_hash") (codes "blockHash") a_string (
-    field (codes "genesis_hash") (codes "genesisHash") a_string (field (codes "fork_id") (codes "forkId") fork_id_display end))))))
+status68_display =
+    an_object (same (codes "version") a_number (same (codes "network_id") a_number (same (codes "total_difficulty") a_number (
+    same (codes "block_hash") a_string (same (codes "genesis_hash") a_string (same (codes "fork_id") fork_id_display end))))))
 
 -- the blocks that a client has, which its status has too
 abbrev pub range_display : Fields block_range_update.reading.M
-range_display =
-    field (codes "earliest_block") (codes "earliestBlock") a_number (field (codes "latest_block") (codes "latestBlock") a_number (
-    field (codes "latest_block_hash") (codes "latestBlockHash") a_string end))
+range_display = same (codes "earliest_block") a_number (same (codes "latest_block") a_number (same (codes "latest_block_hash") a_string end))
 
 abbrev pub status69_display : Display status69.reading.M
-status69_display = an_object (
-    same (codes "version") a_number (field (codes "network_id") (codes "networkId") a_number (
-    field (codes "genesis_hash") (codes "genesisHash") a_string (
-    field (codes "fork_id") (codes "forkId") fork_id_display range_display))))
+status69_display =
+    an_object (same (codes "version") a_number (same (codes "network_id") a_number (same (codes "genesis_hash") a_string (
+    same (codes "fork_id") fork_id_display range_display))))
 
 abbrev pub new_block_hash_display : Display new_block_hash.reading.M
 new_block_hash_display = an_object (same (codes "hash") a_string (same (codes "number") a_number end))
 
 abbrev pub new_pooled_transaction_hashes_display : Display new_pooled_transaction_hashes.reading.M
-new_pooled_transaction_hashes_display = an_object (
-    same (codes "types") a_string (same (codes "sizes") (a_list a_number) (same (codes "hashes") (a_list a_string) end)))
+new_pooled_transaction_hashes_display =
+    an_object (same (codes "types") a_string (same (codes "sizes") (a_list a_number) (same (codes "hashes") (a_list a_string) end)))
 
 abbrev pub new_block_display : Display new_block.reading.M
-new_block_display = an_object (same (codes "block") block_display (field (codes "total_difficulty") (codes "totalDifficulty") a_number end))
+new_block_display = an_object (same (codes "block") block_display (same (codes "total_difficulty") a_number end))
 
 -- ---- requests and their answers
 
 -- the number of a request, and the request or its answer
 abbrev pub with_request_id_display : {M : Type 0} → Display M → Display (ℕ × M)
-with_request_id_display d = an_object (
-    field (codes "request_id") (codes "requestId") a_number (one (codes "content") (codes "content") d))
+with_request_id_display d = an_object (same (codes "request_id") a_number (one (codes "content") d))
 
 -- the hash or the number
 abbrev pub hash_or_number_content : hash_or_number.reading.M → Content
@@ -94,13 +89,12 @@ abbrev pub hash_or_number_display : Display hash_or_number.reading.M
 hash_or_number_display = a_content hash_or_number_content hash_or_number_apart
 
 abbrev pub get_block_headers_display : Display get_block_headers.reading.M
-get_block_headers_display = an_object (
-    field (codes "start_block") (codes "startBlock") hash_or_number_display (same (codes "limit") a_number (
-    same (codes "skip") a_number (same (codes "reverse") a_bit end))))
+get_block_headers_display =
+    an_object (same (codes "start_block") hash_or_number_display (same (codes "limit") a_number (same (codes "skip") a_number (
+    same (codes "reverse") a_bit end))))
 
 -- a receipt since `eth/69`
 abbrev pub receipt69_display : Display receipt69.reading.M
-receipt69_display = an_object (
-    field (codes "transaction_type") (codes "transactionType") a_number (
-    in_order status_fields (
-    field (codes "cumulative_gas_used") (codes "cumulativeGasUsed") a_number (same (codes "logs") (a_list log_display) end))))
+receipt69_display =
+    an_object (same (codes "transaction_type") a_number (in_order status_fields (same (codes "cumulative_gas_used") a_number (
+    same (codes "logs") (a_list log_display) end))))

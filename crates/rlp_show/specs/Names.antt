@@ -2,7 +2,7 @@
 use Rattle.std.specs.Prelude.{ℕ, Bool, true, false, if◌then◌else◌, ◌==◌, ◌-◌, ◌/◌, ◌%◌, nat_lt, List, [], ◌∷◌, drop, map, slice_get, slice_index_or, Option, Some, None}
 use Rattle.std.specs.Result.{result_unwrap_or}
 use Rattle.rlp.specs.{Views.View.{View, item_at, item_count, strict_view_of, view_string}, Format.Framing.begins_as_list}
-use Rattle.rlp_show.specs.{Value.inside, Value.item_name, declared.kind.Kind.Kind, declared.message_kind.MessageKind.MessageKind}
+use Rattle.rlp_show.specs.{Value.inside, Value.item_name, declared.kind.Kind.Kind}
 use Rattle.rlp_show.specs.{declared.names.Part.Part, declared.names.Record.Record}
 use Rattle.rlp_trie.specs.HexPrefix.{is_leaf_path}
 use Rattle.rlp_show.specs.declared.kind.Kind.TheVariants as kind
@@ -19,42 +19,31 @@ Field = List ℕ × Part
 abbrev pub fields_in : List (record { now : List ℕ } × Part) → List Field
 fields_in fs = map (λ f. (f.0.now, f.1)) fs
 
--- the fields of messages of a kind, in order
-abbrev pub message_fields : MessageKind → List Field
-message_fields message.Hello = fields_in table.HELLO.now
-message_fields message.Disconnect = fields_in table.DISCONNECT.now
-message_fields message.Status68 = fields_in table.STATUS68.now
-message_fields message.Status69 = fields_in table.STATUS69.now
-message_fields message.GetBlockHeaders = fields_in table.GET_BLOCK_HEADERS.now
-message_fields message.BlockHeaders = fields_in table.BLOCK_HEADERS.now
-message_fields message.GetBlockBodies = fields_in table.GET_HASHED.now
-message_fields message.BlockBodies = fields_in table.BLOCK_BODIES.now
-message_fields message.NewBlock = fields_in table.NEW_BLOCK.now
-message_fields message.NewPooledTransactionHashes = fields_in table.NEW_POOLED_HASHES.now
-message_fields message.GetPooledTransactions = fields_in table.GET_HASHED.now
-message_fields message.PooledTransactions = fields_in table.POOLED_TRANSACTIONS.now
-message_fields message.GetReceipts = fields_in table.GET_HASHED.now
-message_fields message.Receipts68 = fields_in table.RECEIPTS68.now
-message_fields message.Receipts69 = fields_in table.RECEIPTS69.now
-message_fields message.BlockRangeUpdate = fields_in table.BLOCK_RANGE.now
-message_fields _ = []
-
--- the fields of records of a kind, in order
-abbrev pub kind_fields : Kind → List Field
-kind_fields kind.Account = fields_in table.ACCOUNT.now
-kind_fields kind.Authorization = fields_in table.AUTHORIZATION.now
-kind_fields kind.Block = fields_in table.BLOCK.now
-kind_fields kind.Body = fields_in table.BODY.now
-kind_fields kind.Header = fields_in table.HEADER.now
-kind_fields kind.NodeRecord = fields_in table.NODE_RECORD.now
-kind_fields kind.Withdrawal = fields_in table.WITHDRAWAL.now
-kind_fields (kind.Message m) = message_fields m
-kind_fields _ = []
-
 -- the fields of a record, in order
 abbrev pub fields : Record → List Field
-fields named.Other = []
-fields (named.Kind k) = kind_fields k
+fields (named.Kind kind.Account) = fields_in table.ACCOUNT.now
+fields (named.Kind kind.Authorization) = fields_in table.AUTHORIZATION.now
+fields (named.Kind kind.Block) = fields_in table.BLOCK.now
+fields (named.Kind kind.Body) = fields_in table.BODY.now
+fields (named.Kind kind.Header) = fields_in table.HEADER.now
+fields (named.Kind kind.NodeRecord) = fields_in table.NODE_RECORD.now
+fields (named.Kind kind.Withdrawal) = fields_in table.WITHDRAWAL.now
+fields (named.Kind (kind.Message message.Hello)) = fields_in table.HELLO.now
+fields (named.Kind (kind.Message message.Disconnect)) = fields_in table.DISCONNECT.now
+fields (named.Kind (kind.Message message.Status68)) = fields_in table.STATUS68.now
+fields (named.Kind (kind.Message message.Status69)) = fields_in table.STATUS69.now
+fields (named.Kind (kind.Message message.GetBlockHeaders)) = fields_in table.GET_BLOCK_HEADERS.now
+fields (named.Kind (kind.Message message.BlockHeaders)) = fields_in table.BLOCK_HEADERS.now
+fields (named.Kind (kind.Message message.GetBlockBodies)) = fields_in table.GET_HASHED.now
+fields (named.Kind (kind.Message message.BlockBodies)) = fields_in table.BLOCK_BODIES.now
+fields (named.Kind (kind.Message message.NewBlock)) = fields_in table.NEW_BLOCK.now
+fields (named.Kind (kind.Message message.NewPooledTransactionHashes)) = fields_in table.NEW_POOLED_HASHES.now
+fields (named.Kind (kind.Message message.GetPooledTransactions)) = fields_in table.GET_HASHED.now
+fields (named.Kind (kind.Message message.PooledTransactions)) = fields_in table.POOLED_TRANSACTIONS.now
+fields (named.Kind (kind.Message message.GetReceipts)) = fields_in table.GET_HASHED.now
+fields (named.Kind (kind.Message message.Receipts68)) = fields_in table.RECEIPTS68.now
+fields (named.Kind (kind.Message message.Receipts69)) = fields_in table.RECEIPTS69.now
+fields (named.Kind (kind.Message message.BlockRangeUpdate)) = fields_in table.BLOCK_RANGE.now
 fields named.AccessListItem = fields_in table.ACCESS_LIST_ITEM.now
 fields named.Branch = fields_in table.BRANCH.now
 fields named.Capability = fields_in table.CAPABILITY.now
@@ -72,9 +61,9 @@ fields named.AccessList = fields_in table.ACCESS_LIST.now
 fields named.FeeMarket = fields_in table.FEE_MARKET.now
 fields named.Blob = fields_in table.BLOB.now
 fields named.SetCode = fields_in table.SET_CODE.now
-fields named.Pooled = []
 fields named.WithProofs = fields_in table.WITH_PROOFS.now
 fields named.WithCellProofs = fields_in table.WITH_CELL_PROOFS.now
+fields _ = []
 
 -- what has the parts of records of a kind
 abbrev pub kind_part : Kind → Part

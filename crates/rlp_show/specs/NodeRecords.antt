@@ -65,11 +65,8 @@ key_value_display = record {
 
 -- a key of a node record, and its value
 abbrev pub node_pair_display : Display pair_fields.reading.M
-node_pair_display = an_object (through (λ p. (p.0, (p.0, p.1.0))) (
-    same (codes "key") (bytes_as Word) (one (codes "value") (codes "value") key_value_display)))
+node_pair_display = an_object (through (λ p. (p.0, (p.0, p.1.0))) (same (codes "key") (bytes_as Word) (one (codes "value") key_value_display)))
 
 -- the fields of a node record
 abbrev pub node_fields_display : Display node_fields.reading.M
-node_fields_display = an_object (
-    same (codes "signature") a_string (
-    same (codes "sequence") a_number (one (codes "pairs") (codes "pairs") (a_list node_pair_display))))
+node_fields_display = an_object (same (codes "signature") a_string (same (codes "sequence") a_number (one (codes "pairs") (a_list node_pair_display))))

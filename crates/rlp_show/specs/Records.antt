@@ -1,18 +1,18 @@
 -- What is shown of withdrawals, accounts, logs and receipts, and of the fault of a record.
-use Rattle.std.specs.Prelude.{codes, refl, ℕ, Bool, true, false, List, drop, ◌≡◌, Option, Some, None}
-use Rattle.std.proofs.Common.{inl, inr, sym, ap, ◌∙◌}
+use Rattle.std.proofs.Common.{◌∙◌, ap, inl, inr, sym}
+use Rattle.std.specs.Prelude.{ℕ, ◌≡◌, Bool, List, None, Option, Some, codes, drop, false, refl, true}
 use Rattle.rlp.specs.{Form.Reading, Format.Encoding.encoding}
 use Rattle.rlp_records.specs.OtherEnvelope.{other_type}
-use Rattle.rlp_headers.specs.{Account.account, Log.log, Receipt.receipt_fields, ReceiptStatus.receipt_status, TypedReceipt.any_receipt, TypedReceipt.typed_receipt, Withdrawal.withdrawal}
+use Rattle.rlp_headers.specs.{Account.account, Log.log, Receipt.{receipt_fields, receipt_status}, TypedReceipt.{any_receipt, typed_receipt}}
+use Rattle.rlp_headers.specs.Withdrawal.{withdrawal}
 use Rattle.rlp_show.specs.Display.{Display, Fields, a_bit, a_list, a_number, a_string, a_text, a_type, after_derived, an_object, and_type, bytes_as, either, end, field, field_if, in_order, last_type, no_type_entries, number_as, of_type, one, same, through}
-use Rattle.rlp_show.specs.Value.{Entries, both, bytes, content, entry, by_form}
-use Rattle.rlp_show.specs.declared.{sink.NumberKind.TheVariants.Place, sink.BytesKind.TheVariants.Any, sink.BytesKind.TheVariants.Payload, sink.BytesKind.TheVariants.Sparse}
+use Rattle.rlp_show.specs.{Value.{Entries, both, by_form, bytes, content, entry}, declared.sink.BytesKind.TheVariants.{Any, Payload, Sparse}}
+use Rattle.rlp_show.specs.declared.sink.NumberKind.TheVariants.{Place}
 
 -- An object with the one member `error`: the place of a field, if the fault is in one; the name of an item; and the fault.
 abbrev pub fault_display : Display (Option ℕ × (List ℕ × List ℕ))
-fault_display = an_object (one (codes "error") (codes "error") (an_object (
-    field_if (codes "field") (codes "field") (number_as Place) (
-    same (codes "name") a_text (one (codes "fault") (codes "fault") a_text)))))
+fault_display =
+    an_object (one (codes "error") (an_object (field_if (codes "field") (number_as Place) (same (codes "name") a_text (one (codes "fault") a_text)))))
 
 -- the encoding of a value, by what contracts see of the value
 unfoldable pub written : {A : Type 0} (r : Reading A) → r.M → List ℕ
@@ -24,15 +24,14 @@ hash_entries hash = entry (codes "hash") (codes "hash") (content (bytes Any hash
 
 -- what is shown of a withdrawal
 abbrev pub withdrawal_display : Display withdrawal.reading.M
-withdrawal_display = an_object (
-    same (codes "index") a_number (field (codes "validator_index") (codes "validatorIndex") a_number (
-    same (codes "address") a_string (same (codes "amount") a_number end))))
+withdrawal_display =
+    an_object (same (codes "index") a_number (same (codes "validator_index") a_number (same (codes "address") a_string (same (codes "amount") a_number end))))
 
 -- what is shown of an account
 abbrev pub account_display : Display account.reading.M
-account_display = an_object (
-    same (codes "nonce") a_number (same (codes "balance") a_number (
-    field (codes "storage_root") (codes "storageHash") a_string (field (codes "code_hash") (codes "codeHash") a_string end))))
+account_display =
+    an_object (same (codes "nonce") a_number (same (codes "balance") a_number (field (codes "storage_root") (codes "storageHash") a_string (
+    same (codes "code_hash") a_string end))))
 
 -- what is shown of a log
 abbrev pub log_display : Display log.reading.M
@@ -55,9 +54,8 @@ status_fields = record { shown = status_entries; Told = receipt_status.reading.M
 -- a receipt, without a type
 abbrev pub receipt_display : Fields receipt_fields.reading.M
 receipt_display =
-    in_order status_fields (
-    field (codes "cumulative_gas_used") (codes "cumulativeGasUsed") a_number (
-    field (codes "logs_bloom") (codes "logsBloom") (bytes_as Sparse) (same (codes "logs") (a_list log_display) end)))
+    in_order status_fields (same (codes "cumulative_gas_used") a_number (same (codes "logs_bloom") (bytes_as Sparse) (
+    same (codes "logs") (a_list log_display) end)))
 
 -- receipts of the types that are known
 abbrev pub receipt_by_type_display : Fields typed_receipt.reading.M
@@ -72,8 +70,7 @@ typed_receipt_display = an_object receipt_by_type_display
 
 -- a transaction or a receipt of an unknown type: the number of the type, and the payload
 abbrev pub other_display : Fields (List ℕ)
-other_display = through (λ d. (other_type d, drop 1 d)) (
-    same (codes "type") a_type (one (codes "payload") (codes "payload") (bytes_as Payload)))
+other_display = through (λ d. (other_type d, drop 1 d)) (same (codes "type") a_type (one (codes "payload") (bytes_as Payload)))
 
 -- whether the second of two fields is the last, as it is for an unknown type alone
 abbrev pub ends_second : Entries → Bool

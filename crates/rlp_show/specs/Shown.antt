@@ -1,24 +1,25 @@
 -- What the bytes of a record give, by its kind: a value to show, or a fault and the places that lead to it.
-use Rattle.std.specs.Prelude.{ℕ, ◌≡◌, List, if◌then◌else◌, Result, Ok, Err}
-use Rattle.rlp.specs.{Codec.Codec, Format.Encoding.encoding, Format.Encoding.string, Format.Framing.begins_as_list, Views.View.View, Views.View.strict_view_of}
+use Rattle.std.specs.Prelude.{ℕ, ◌≡◌, Err, List, Ok, Result}
+use Rattle.rlp.specs.{Codec.Codec, Views.View.{View, strict_view_of}}
 use Rattle.rlp_reading.specs.Form.{Answer, Fault, Reading, here, map_answer}
-use Rattle.rlp_headers.specs.{Account.account, Header.header, TypedReceipt.receipt_types, Withdrawal.withdrawal}
-use Rattle.rlp_transactions.specs.{Access.access_list, Authorization.signed_authorization, Transaction.transaction_types}
-use Rattle.rlp_transactions.specs.UnsignedTransaction.{unsigned_transaction, unsigned_types}
 use Rattle.rlp_records.specs.{Eip2718.typed_alone, KnownOrOther.any_alone}
+use Rattle.rlp_transactions.specs.{AccessListTransaction.access_list, SetCodeTransaction.signed_authorization, Transaction.transaction_types}
+use Rattle.rlp_transactions.specs.UnsignedTransaction.{unsigned_transaction, unsigned_types}
+use Rattle.rlp_headers.specs.{Account.account, Header.header, TypedReceipt.receipt_types, Withdrawal.withdrawal}
 use Rattle.rlp_trie.specs.TrieNodeLaws.{trie_node}
 use Rattle.rlp_node_record.specs.NodeLaws.{node_record}
-use Rattle.rlp_blocks.specs.{Block.block, Body.body}
+use Rattle.rlp_blocks.specs.Block.{block, body}
 use Rattle.rlp_messages.specs.Eth.Announcements.{block_range_update, new_block, new_block_hashes, new_pooled_transaction_hashes, transactions}
-use Rattle.rlp_messages.specs.Eth.Requests.{block_bodies, block_headers, get_block_bodies, get_block_headers, get_pooled_transactions, get_receipts, pooled_transactions}
-use Rattle.rlp_messages.specs.{P2p.Disconnect.disconnect, P2p.Hello.hello, P2p.Session.ping, P2p.Session.pong, Eth.Receipts.receipts, Eth.Receipts69.receipts69}
-use Rattle.rlp_messages.specs.{Eth.Status.status68, Eth.Status.status69, Eth.WithRequestId.with_request_id_reading}
-use Rattle.rlp_show.specs.Display.{Display, a_list, a_string, an_object, derived, end}
-use Rattle.rlp_show.specs.Transactions.{access_list_display, any_transaction_display, pooled_transaction_display, signed_authorization_display, unsigned_display}
+use Rattle.rlp_messages.specs.Eth.Receipts.{receipts, receipts69}
+use Rattle.rlp_messages.specs.Eth.Requests.{block_bodies, block_headers, get_block_bodies, get_block_headers, get_pooled_transactions, get_receipts, pooled_transactions, with_request_id_reading}
+use Rattle.rlp_messages.specs.{Eth.Status.{status68, status69}, P2p.Disconnect.disconnect, P2p.Hello.hello, P2p.P2pMessage.{ping, pong}}
+use Rattle.rlp_show.specs.{Blocks.{block_display, body_fields_display, header_display}, Display.{Display, a_list, a_string, an_object, derived, end}}
+use Rattle.rlp_show.specs.Items.{node_display}
 use Rattle.rlp_show.specs.Messages.{disconnect_display, get_block_headers_display, hello_display, new_block_display, new_block_hash_display, new_pooled_transaction_hashes_display, range_display, receipt69_display, status68_display, status69_display, with_request_id_display}
+use Rattle.rlp_show.specs.{NodeRecords.node_fields_display, Records.{account_display, any_receipt_display, withdrawal_display}}
+use Rattle.rlp_show.specs.Transactions.{access_list_display, any_transaction_display, pooled_transaction_display, signed_authorization_display, unsigned_display}
+use Rattle.rlp_show.specs.{Value.Value, declared.kind.Kind.Kind}
 use Rattle.rlp_show.specs.declared.kind.Kind.TheVariants.{AccessList, Account, Authorization, Block, Body, Header, Message, Node, NodeRecord, Receipt, Transaction, Withdrawal}
-use Rattle.rlp_show.specs.{Value.Value, Records.account_display, Records.any_receipt_display, Records.withdrawal_display, Blocks.block_display}
-use Rattle.rlp_show.specs.{Blocks.body_fields_display, Blocks.header_display, Items.node_display, NodeRecords.node_fields_display, declared.kind.Kind.Kind}
 use Rattle.rlp_show.specs.declared.message_kind.MessageKind.{MessageKind}
 use Rattle.rlp_show.specs.declared.message_kind.MessageKind.TheVariants as message
 
@@ -44,10 +45,6 @@ numbered_as r shown = shown_as (with_request_id_reading r).read (λ m. after_num
 
 abbrev pub numbered : {A : Type 0} (c : Codec A) → Display c.reading.M → List ℕ → Shown
 numbered c d = numbered_as c.reading d.shown
-
--- the bytes of a standalone value, as an item: a list is its own encoding, and other bytes are the payload of a string
-abbrev pub item_alone : List ℕ → List ℕ
-item_alone b = if begins_as_list b then b else encoding (string b)
 
 -- the unsigned transaction, if bytes give one, or else the signed transaction or the fault
 abbrev pub unsigned_or : Shown → Result unsigned_transaction.reading.M Fault → Shown

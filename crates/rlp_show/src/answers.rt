@@ -83,8 +83,19 @@ impl Answers {
     {
         match self.kind {
             Some(kind) => {
-                let name = own_name(self.form, kind);
-                put_known(alloc, kind, &Given::new(self.form, kind, name, bytes), out)
+                let form = self.form;
+                let name = own_name(form, kind);
+                put_known(
+                    alloc,
+                    kind,
+                    &Given {
+                        form,
+                        kind,
+                        name,
+                        bytes,
+                    },
+                    out,
+                )
             }
             None => put_guessed(alloc, self.form, bytes, out),
         }
@@ -108,12 +119,20 @@ fn put_guessed(alloc: Global, form: Form, bytes: &[u8], out: &mut String) -> Res
         ++ guessed_text form bytes.now (guess (strict_view_of bytes.now))) }
 {
     match guess(&Rlp::new_strict(bytes)) {
-        Ok(Some(kind)) => put_known(
-            alloc,
-            kind,
-            &Given::new(form, kind, kind.name(), bytes),
-            out,
-        ),
+        Ok(Some(kind)) => {
+            let name = kind.name();
+            put_known(
+                alloc,
+                kind,
+                &Given {
+                    form,
+                    kind,
+                    name,
+                    bytes,
+                },
+                out,
+            )
+        }
         Ok(None) => {
             let unknown = DecoderError::Custom("unknown kind");
             put_error(alloc, form, None, "", &unknown, out)

@@ -2,7 +2,7 @@
 
 ghost use Rattle.std.specs.Prelude.{◌≡◌, IfOk, map};
 ghost use Rattle.rlp_headers.specs.{Forks.{amsterdam_fields, cancun_fields, london_fields, prague_fields, shanghai_fields}, Header.header};
-ghost use Rattle.rlp_blocks.specs.{Block.block, Body.body};
+ghost use Rattle.rlp_blocks.specs.Block.{block, body};
 ghost use Rattle.rlp_show.specs.Blocks.{amsterdam_display, block_display, block_size, body_fields_display, cancun_display, hashed_header_display, header_display, london_display, more_of_block, prague_display, seen_hash, shanghai_display};
 ghost use Rattle.rlp_show.specs.Display.{an_object, seen_as};
 
@@ -18,8 +18,7 @@ impl ShowFields for Amsterdam {
 
     fn give<S: Sink>(&self, alloc: Global, name: &str, sink: &mut S) -> Result<(), AllocError> {
         give_fields!(alloc, name, sink;
-            self.block_access_list_hash "blockAccessListHash";
-            "slot_number" "slotNumber" ? &self.slot_number
+            self.block_access_list_hash; "slot_number" ? &self.slot_number
         )
     }
 }
@@ -28,7 +27,7 @@ impl ShowFields for Prague {
     ghost fields = { seen_as prague_fields.reading.seen prague_display };
 
     fn give<S: Sink>(&self, alloc: Global, name: &str, sink: &mut S) -> Result<(), AllocError> {
-        give_fields!(alloc, name, sink; self.requests_hash "requestsHash"; &self.since_amsterdam)
+        give_fields!(alloc, name, sink; self.requests_hash; &self.since_amsterdam)
     }
 }
 
@@ -37,8 +36,8 @@ impl ShowFields for Cancun {
 
     fn give<S: Sink>(&self, alloc: Global, name: &str, sink: &mut S) -> Result<(), AllocError> {
         give_fields!(alloc, name, sink;
-            self.blob_gas_used "blobGasUsed"; self.excess_blob_gas "excessBlobGas";
-            self.parent_beacon_block_root "parentBeaconBlockRoot"; &self.since_prague
+            self.blob_gas_used; self.excess_blob_gas; self.parent_beacon_block_root;
+            &self.since_prague
         )
     }
 }
@@ -47,7 +46,7 @@ impl ShowFields for Shanghai {
     ghost fields = { seen_as shanghai_fields.reading.seen shanghai_display };
 
     fn give<S: Sink>(&self, alloc: Global, name: &str, sink: &mut S) -> Result<(), AllocError> {
-        give_fields!(alloc, name, sink; self.withdrawals_root "withdrawalsRoot"; &self.since_cancun)
+        give_fields!(alloc, name, sink; self.withdrawals_root; &self.since_cancun)
     }
 }
 
@@ -55,7 +54,7 @@ impl ShowFields for London {
     ghost fields = { seen_as london_fields.reading.seen london_display };
 
     fn give<S: Sink>(&self, alloc: Global, name: &str, sink: &mut S) -> Result<(), AllocError> {
-        give_fields!(alloc, name, sink; self.base_fee_per_gas "baseFeePerGas"; &self.since_shanghai)
+        give_fields!(alloc, name, sink; self.base_fee_per_gas; &self.since_shanghai)
     }
 }
 
@@ -66,15 +65,11 @@ impl ShowFields for Header {
     fn give<S: Sink>(&self, alloc: Global, name: &str, sink: &mut S) -> Result<(), AllocError> {
         let hash = hash_of(alloc, self)?;
         give_fields!(alloc, name, sink;
-            "hash" "hash" &hash;
-            self.parent_hash "parentHash"; self.ommers_hash "sha3Uncles";
-            self.beneficiary "miner"; self.state_root "stateRoot";
-            self.transactions_root "transactionsRoot"; self.receipts_root "receiptsRoot";
-            "logs_bloom" "logsBloom" Shown::Bytes(BytesKind::Sparse, &self.logs_bloom.0);
-            self.difficulty "difficulty"; self.number "number";
-            self.gas_limit "gasLimit"; self.gas_used "gasUsed"; self.timestamp "timestamp";
-            self.extra_data "extraData"; self.mix_hash "mixHash"; self.nonce "nonce";
-            &self.since_london
+            "hash" &hash; self.parent_hash; self.ommers_hash "sha3Uncles"; self.beneficiary "miner";
+            self.state_root; self.transactions_root; self.receipts_root;
+            "logs_bloom" Shown::Bytes(BytesKind::Sparse, &self.logs_bloom.0); self.difficulty;
+            self.number; self.gas_limit; self.gas_used; self.timestamp; self.extra_data;
+            self.mix_hash; self.nonce; &self.since_london
         )
     }
 }
@@ -92,9 +87,8 @@ impl Show for Body {
 
     fn show<S: Sink>(&self, alloc: Global, name: &str, sink: &mut S) -> Result<(), AllocError> {
         show_fields!(alloc, name, sink;
-            "transactions" "transactions" Items(&self.transactions);
-            "ommers" "ommers" Items(&self.ommers);
-            "withdrawals" "withdrawals" ? &self.withdrawals
+            "transactions" Items(&self.transactions); "ommers" Items(&self.ommers);
+            "withdrawals" ? &self.withdrawals
         )
     }
 }
@@ -140,7 +134,7 @@ impl ShowFields for More<'_> {
     fn give<S: Sink>(&self, alloc: Global, name: &str, sink: &mut S) -> Result<(), AllocError> {
         let uncles = hashes_of(alloc, self.0.ommers.as_slice())?;
         let size = size_of(alloc, self.0)?;
-        give_fields!(alloc, name, sink; "uncles" "uncles" Items(&uncles); "size" "size" &size)
+        give_fields!(alloc, name, sink; "uncles" Items(&uncles); "size" &size)
     }
 }
 
@@ -149,11 +143,11 @@ impl Show for Block {
 
     fn show<S: Sink>(&self, alloc: Global, name: &str, sink: &mut S) -> Result<(), AllocError> {
         show_fields!(alloc, name, sink;
-            ByForm(fields!("header" "header" &self.header), &self.header);
+            ByForm(fields!("header" &self.header), &self.header);
             fields!(
-                "transactions" "transactions" Items(&self.transactions);
-                "ommers" "ommers" Items(&self.ommers);
-                "withdrawals" "withdrawals" ? &self.withdrawals
+                "transactions" Items(&self.transactions);
+                "ommers" Items(&self.ommers);
+                "withdrawals" ? &self.withdrawals
             );
             ByForm((), More(self))
         )

@@ -21,10 +21,10 @@ record, which begins with enr:. Without RECORD, each line of standard input is a
 record, where 0x may be left out.
 
 With --json an answer is one JSON object in one line. Its only key is the kind, as
-accessList for access_list. The names and values of records are those of Ethereum's
-execution API: numbers are in hexadecimal, and the fields of a header stand in its
-block. Only signingHash and whole ommers aren't there. Fields of messages have names
-of the same form.
+accessList for access_list. Records have the names and values that Ethereum's
+execution API gives them: numbers are in hexadecimal, and the fields of a header
+stand in its block. Only signingHash and whole ommers aren't in the execution API.
+Fields of messages have names of the same form.
 
 With --bytes each line also has the place of the field, counted from 0, the bytes of
 its header and those of its payload. There is a line for each header of a list that
@@ -45,21 +45,22 @@ or the body of a message:
   get_receipts, receipts68, receipts69, block_range_update
                                   of eth/68 and eth/69
 
-Without KIND the kind is guessed, and its name comes before those of the fields:
+Without KIND the kind is guessed, and the names of the fields begin with its name:
   first byte below 0x80  transaction, or receipt if the list after it has 4 items
   0x80                   node: the empty trie
   list of no items       access_list
-  list whose first item is a list
-                         access_list if the first item of that has 20 bytes; else
-                         block (of 3 or 4 items) if it has 32, body (2 or 3),
-                         node (17)
+  list whose first item is a list, which is called the inner list here:
+    access_list          if the first item of the inner list has 20 bytes; else
+    block                if that item has 32 bytes, and the outer list 3 or 4 items
+    body                 if the outer list has 2 or 3 items
+    node                 if the outer list has 17 items
   other list, by its number of items:
     2                    node
-    4                    by the third: account (of 32 bytes), withdrawal (20),
-                         receipt (more than 55), else record
-    6                    authorization if the second has 20 bytes, else record
+    4                    by the third item: account (of 32 bytes), withdrawal (of 20),
+                         receipt (of more than 55), else record
+    6                    authorization if the second item has 20 bytes, else record
     9                    transaction
-    15 to 23             header if the third has 20 bytes, else node (17), record
+    15 to 23             header if the third item has 20 bytes, else node (17), record
     8 and all even ones  record
 Where two kinds fit, the commoner one is taken.
 

@@ -171,10 +171,8 @@ fn show_pair<S: Sink>(
     put_digits(path, &mut digits)?;
     sink.bracket(Bracket::OpenBrace)?;
     give_fields!(alloc, name, sink;
-        "hash" "hash" ? &hash;
-        "node" "node" Shown::Text(kind);
-        "path" "path" Shown::Bytes(BytesKind::Path, path);
-        ByForm((), fields!("nibbles" "nibbles" Shown::Text(digits.as_str())))
+        "hash" ? &hash; "node" Shown::Text(kind); "path" Shown::Bytes(BytesKind::Path, path);
+        ByForm((), fields!("nibbles" Shown::Text(digits.as_str())))
     )?;
     sink.key(key)?;
     show_item(alloc, field.as_str(), raw, most, !is_leaf, sink)?;
@@ -200,10 +198,7 @@ fn show_branch<S: Sink>(
     let children_name = inside(alloc, name, "children")?;
     let value_name = inside(alloc, name, "value")?;
     sink.bracket(Bracket::OpenBrace)?;
-    give_fields!(alloc, name, sink;
-        "hash" "hash" ? &hash;
-        "node" "node" Shown::Text("branch")
-    )?;
+    give_fields!(alloc, name, sink; "hash" ? &hash; "node" Shown::Text("branch"))?;
     sink.key("children")?;
     show_items(alloc, children_name.as_str(), children, most, true, sink)?;
     sink.key("value")?;
@@ -220,10 +215,7 @@ impl Show for TrieNode {
         let bytes = written(alloc, self)?;
         let hash = Some(Hash(keccak256(bytes.as_slice())));
         if let TrieNode::Empty = self {
-            return show_fields!(alloc, name, sink;
-                "hash" "hash" ? &hash;
-                "node" "node" Shown::Text("empty")
-            );
+            return show_fields!(alloc, name, sink; "hash" ? &hash; "node" Shown::Text("empty"));
         }
         let items = items_in(alloc, &Rlp::new(bytes.as_slice()))?;
         let most = RawItem::MAX_DEPTH;

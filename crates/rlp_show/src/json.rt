@@ -1,7 +1,7 @@
 //! JSON with the names of Ethereum's execution API.
 
-ghost use Rattle.std.specs.Prelude.{◌≡◌, ◌++◌, string_bytes, OnOk, IfOk};
-ghost use Rattle.rlp_show.specs.Json.{Json as JsonSeen, comma, content_json, json_steps, json_of};
+ghost use Rattle.std.specs.Prelude.{◌≡◌, ◌++◌, false, string_bytes, OnOk, IfOk};
+ghost use Rattle.rlp_show.specs.Json.{Json as JsonSeen, camel, comma, content_json, json_steps, json_of, letter_text};
 ghost use Rattle.rlp_show.specs.{Display.shown_of, Value.content_of};
 
 use crate::show::Show;
@@ -59,6 +59,32 @@ fn put_content(shown: Shown<'_>, out: &mut String) -> Result<(), AllocError>
     }
 }
 
+/// Appends a byte of a name, which may follow an underscore.
+fn put_letter(after: bool, byte: u8, out: &mut String) -> Result<(), AllocError>
+    ensures { OnOk result
+        (string_bytes out.new ≡ string_bytes out.old ++ letter_text after byte) }
+{
+    if byte == b'_' {
+        return Ok(());
+    }
+    if after {
+        return out.push(char::from(byte.to_ascii_uppercase()));
+    }
+    out.push(char::from(byte))
+}
+
+/// Appends a name without its underscores, and with a capital letter after each.
+fn put_camel(name: &[u8], out: &mut String) -> Result<(), AllocError>
+    ensures { OnOk result (string_bytes out.new ≡ string_bytes out.old ++ camel false name.now) }
+{
+    let mut after = false;
+    for byte in name {
+        put_letter(after, *byte, out)?;
+        after = *byte == b'_';
+    }
+    Ok(())
+}
+
 impl Json {
     /// Appends a comma, if one is needed before the next value.
     fn put_comma(&mut self) -> Result<(), AllocError>
@@ -86,7 +112,7 @@ impl Sink for Json {
 
     fn key(&mut self, json: &str) -> Result<(), AllocError> {
         self.put_comma()?;
-        put_quoted!(self.text, self.text.push_str(json))?;
+        put_quoted!(self.text, put_camel(json.as_bytes(), &mut self.text))?;
         self.text.push(':')?;
         self.is_fresh = true;
         Ok(())

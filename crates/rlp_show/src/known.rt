@@ -1,50 +1,61 @@
 //! The answers to the bytes of records, by their kinds.
 
-ghost use Rattle.std.specs.Prelude.{◌≡◌, ◌<◌, ◌^◌, ◌++◌, length, string_bytes, OnOk};
-ghost use Rattle.rlp.specs.Views.View.{strict_view_of};
-ghost use Rattle.rlp_reading.specs.Form.{map_answer};
+ghost use Rattle.std.specs.{Prelude.{◌≡◌, ◌++◌, map, string_bytes, OnOk}, Vec.vec_items};
+ghost use Rattle.rlp_reading.specs.Form.{list_reading, map_answer};
+ghost use Rattle.rlp_records.specs.{KnownOrOther.any_alone, KnownOrOther.with_others, declared.known_or_other.KnownOrOther.KnownOrOther};
 ghost use Rattle.rlp_node_record.specs.NodeLaws.{node_record};
-ghost use Rattle.rlp_show.specs.Shown.{item_alone, kind_shown, message_shown, numbered_as, shown_as, transaction_shown, whole};
-ghost use Rattle.rlp_show.specs.{NodeRecords.node_fields_display, Display.shown_of, Value.Value, Answers.kind_text};
+ghost use Rattle.rlp_show.specs.Shown.{kind_shown, message_shown, shown_as, transaction_shown, whole};
+ghost use Rattle.rlp_show.specs.{NodeRecords.node_fields_display, Display.{a_list, seen_as, shown_of}, Value.Value, Answers.kind_text};
 
 use crate::given::Given;
 use crate::kind::Kind;
-use crate::listed::ListOf;
 use crate::message_kind::MessageKind;
-use crate::show::Show;
-use rlp::{DecodePlaced, DecoderError, Rlp, decode_placed};
+use crate::show::{Items, Show};
+use crate::sink::Sink;
+use rlp::{Decodable, DecodePlaced, DecoderError, PlacedFault, Rlp, decode_placed, put_list_path};
 use rlp_blocks::{Block, Body};
-use rlp_headers::{Account, AnyReceipt, Header, Withdrawal};
+use rlp_headers::{Account, Header, TypedReceipt, Withdrawal};
 use rlp_messages::{
     BlockRangeUpdate, BlockReceipts, BlockReceipts69, Disconnect, GetBlockHeaders, Hello, NewBlock,
     NewBlockHash, NewPooledTransactionHashes, Ping, Pong, Status68, Status69, WithRequestId,
 };
 use rlp_node_record::NodeRecord;
-use rlp_records::{Eip2718, Hash};
+use rlp_records::{Eip2718, Hash, KnownOrOther};
 use rlp_transactions::{
-    AccessListItem, AnyTransaction, PooledTransaction, SignedAuthorization, UnsignedTransaction,
+    AccessListItem, AnyTransaction, PooledTransaction, SignedAuthorization, Transaction,
+    UnsignedTransaction,
 };
 use rlp_trie::TrieNode;
 use std::alloc::{AllocError, Global};
 
-/// Appends the answer to bytes, by the `T` that these bytes are read as.
-fn put_read<T: DecodePlaced + Show>(
-    alloc: Global,
-    given: &Given<'_>,
-    bytes: &[u8],
-    out: &mut String,
-) -> Result<(), AllocError>
-    ensures { (shown : T.reading.M → Value)
-        → ((x : T) → shown (T.reading.seen x) ≡ shown_of T.display x)
-        → OnOk result (string_bytes out.new ≡ string_bytes out.old
-        ++ kind_text given.now.form given.now.kind given.now.name.now given.now.bytes.now
-        (shown_as T.reading.read shown bytes.now)) }
-{
-    match decode_placed::<T>(alloc, &Rlp::new_strict(bytes)) {
-        Ok(value) => given.put_value(alloc, &value, out),
-        Err(fault) => given.put_fault(alloc, &fault, out),
+/// A list of values.
+#[derive(Drop)]
+struct ListOf<T>(Vec<T>);
+
+impl<T: Decodable> Decodable for ListOf<T> {
+    ghost reading = { list_reading (λ l. vec_items l.0) T.reading };
+
+    fn decode(alloc: Global, rlp: &Rlp<'_>) -> Result<ListOf<T>, DecoderError> {
+        Ok(ListOf(rlp.as_list(alloc)?))
     }
 }
+
+impl<T: DecodePlaced> DecodePlaced for ListOf<T> {
+    fn put_path(alloc: Global, rlp: &Rlp<'_>, path: &mut Vec<usize>) -> Result<(), AllocError> {
+        put_list_path::<T>(alloc, rlp, path)
+    }
+}
+
+impl<T: Show> Show for ListOf<T> {
+    ghost display = { seen_as (λ l. map T.display.seen (vec_items l.0)) (a_list T.display.form) };
+
+    fn show<S: Sink>(&self, alloc: Global, name: &str, sink: &mut S) -> Result<(), AllocError> {
+        Items(&self.0).show(alloc, name, sink)
+    }
+}
+
+/// A list after the number of a request.
+type Numbered<T> = WithRequestId<ListOf<T>>;
 
 /// Appends the answer to the bytes of a `T`.
 fn put_record<T: DecodePlaced + Show>(
@@ -58,42 +69,35 @@ fn put_record<T: DecodePlaced + Show>(
         ++ kind_text given.now.form given.now.kind given.now.name.now given.now.bytes.now
         (shown_as T.reading.read shown given.now.bytes.now)) }
 {
-    put_read::<T>(alloc, given, given.bytes, out)
-}
-
-/// Appends the answer to the bytes of a message that has the number of a request.
-fn put_numbered<T: DecodePlaced + Show>(
-    alloc: Global,
-    given: &Given<'_>,
-    out: &mut String,
-) -> Result<(), AllocError>
-    ensures { (shown : T.reading.M → Value)
-        → ((x : T) → shown (T.reading.seen x) ≡ shown_of T.display x)
-        → OnOk result (string_bytes out.new ≡ string_bytes out.old
-        ++ kind_text given.now.form given.now.kind given.now.name.now given.now.bytes.now
-        (numbered_as T.reading shown given.now.bytes.now)) }
-{
-    put_record::<WithRequestId<T>>(alloc, given, out)
-}
-
-/// Appends the answer to the bytes of a standalone `T`, which are a list or an envelope.
-fn put_alone<T: DecodePlaced + Show>(
-    alloc: Global,
-    given: &Given<'_>,
-    out: &mut String,
-) -> Result<(), AllocError>
-    ensures short { OnOk result (length (item_alone given.now.bytes.now) < 2 ^ 64) }
-    ensures text { (shown : T.reading.M → Value)
-        → ((x : T) → shown (T.reading.seen x) ≡ shown_of T.display x)
-        → OnOk result (string_bytes out.new ≡ string_bytes out.old
-        ++ kind_text given.now.form given.now.kind given.now.name.now given.now.bytes.now
-        (map_answer shown (T.reading.read (strict_view_of (item_alone given.now.bytes.now))))) }
-{
-    if Rlp::new(given.bytes).is_list() {
-        return put_read::<T>(alloc, given, given.bytes, out);
+    match decode_placed::<T>(alloc, &Rlp::new_strict(given.bytes)) {
+        Ok(value) => given.put_value(alloc, &value, out),
+        Err(fault) => given.put_fault(alloc, &fault, out),
     }
-    let item = rlp::encode(alloc, &given.bytes)?;
-    put_read::<T>(alloc, given, item.as_slice(), out)
+}
+
+/// Appends the answer to the bytes of a standalone value, which are a list or an envelope.
+fn put_alone<T: Eip2718>(
+    alloc: Global,
+    given: &Given<'_>,
+    out: &mut String,
+) -> Result<(), AllocError>
+where
+    KnownOrOther<T>: Show,
+    ensures { (shown : (with_others T.types).reading.M → Value)
+        → ((x : KnownOrOther T) → shown ((with_others T.types).reading.seen x)
+        ≡ shown_of ⟦<KnownOrOther<T> as Show>⟧.display x)
+        → OnOk result (string_bytes out.new ≡ string_bytes out.old
+        ++ kind_text given.now.form given.now.kind given.now.name.now given.now.bytes.now
+        (map_answer shown (any_alone T.types given.now.bytes.now))) }
+{
+    match KnownOrOther::<T>::from_bytes(alloc, given.bytes) {
+        Ok(value) => given.put_value(alloc, &value, out),
+        Err(fault) => {
+            let mut path = Vec::new(alloc);
+            KnownOrOther::<T>::put_path_alone(alloc, given.bytes, &mut path)?;
+            given.put_fault(alloc, &PlacedFault { path, fault }, out)
+        }
+    }
 }
 
 /// Appends the answer to the bytes of a transaction, signed or not.
@@ -106,7 +110,7 @@ fn put_transaction(alloc: Global, given: &Given<'_>, out: &mut String) -> Result
         Ok(transaction) => given.put_value(alloc, &transaction, out),
         Err(fault) => match fault {
             DecoderError::OutOfMemory => Err(AllocError),
-            _ => put_alone::<AnyTransaction>(alloc, given, out),
+            _ => put_alone::<Transaction>(alloc, given, out),
         },
     }
 }
@@ -142,7 +146,7 @@ pub(crate) fn put_known(
         Kind::Body => put_record::<Body>(alloc, given, out),
         Kind::Header => put_record::<Header>(alloc, given, out),
         Kind::Node => put_record::<TrieNode>(alloc, given, out),
-        Kind::Receipt => put_alone::<AnyReceipt>(alloc, given, out),
+        Kind::Receipt => put_alone::<TypedReceipt>(alloc, given, out),
         Kind::NodeRecord => put_node_record(alloc, given, out),
         Kind::Transaction => put_transaction(alloc, given, out),
         Kind::Withdrawal => put_record::<Withdrawal>(alloc, given, out),
@@ -175,16 +179,18 @@ fn put_message(
             put_record::<NewPooledTransactionHashes>(alloc, given, out)
         }
         MessageKind::BlockRangeUpdate => put_record::<BlockRangeUpdate>(alloc, given, out),
-        MessageKind::GetBlockHeaders => put_numbered::<GetBlockHeaders>(alloc, given, out),
-        MessageKind::BlockHeaders => put_numbered::<ListOf<Header>>(alloc, given, out),
-        MessageKind::GetBlockBodies => put_numbered::<ListOf<Hash>>(alloc, given, out),
-        MessageKind::GetPooledTransactions => put_numbered::<ListOf<Hash>>(alloc, given, out),
-        MessageKind::GetReceipts => put_numbered::<ListOf<Hash>>(alloc, given, out),
-        MessageKind::BlockBodies => put_numbered::<ListOf<Body>>(alloc, given, out),
+        MessageKind::GetBlockHeaders => put_record::<WithRequestId<GetBlockHeaders>>(
+            alloc, given, out,
+        ),
+        MessageKind::BlockHeaders => put_record::<Numbered<Header>>(alloc, given, out),
+        MessageKind::GetBlockBodies => put_record::<Numbered<Hash>>(alloc, given, out),
+        MessageKind::GetPooledTransactions => put_record::<Numbered<Hash>>(alloc, given, out),
+        MessageKind::GetReceipts => put_record::<Numbered<Hash>>(alloc, given, out),
+        MessageKind::BlockBodies => put_record::<Numbered<Body>>(alloc, given, out),
         MessageKind::PooledTransactions => {
-            put_numbered::<ListOf<PooledTransaction>>(alloc, given, out)
+            put_record::<Numbered<PooledTransaction>>(alloc, given, out)
         }
-        MessageKind::Receipts68 => put_numbered::<ListOf<BlockReceipts>>(alloc, given, out),
-        MessageKind::Receipts69 => put_numbered::<ListOf<BlockReceipts69>>(alloc, given, out),
+        MessageKind::Receipts68 => put_record::<Numbered<BlockReceipts>>(alloc, given, out),
+        MessageKind::Receipts69 => put_record::<Numbered<BlockReceipts69>>(alloc, given, out),
     }
 }

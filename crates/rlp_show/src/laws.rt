@@ -1,7 +1,7 @@
 //! Laws about values that are shown and about the answers to lines, as public functions. The
-//! contract of each function is the law, and the functions do nothing.
+//! contract of each function is the law, and the functions do nothing but call another law.
 
-ghost use Rattle.std.specs.Prelude.{◌≡◌, ◌<◌, ◌^◌, ◌⊎◌, ℕ, List, [], Some, Ok, Err, false, length};
+ghost use Rattle.std.specs.Prelude.{◌≡◌, ◌<◌, ◌^◌, ◌⊎◌, ℕ, List, [], Some, Ok, Err, length};
 ghost use Rattle.std.specs.Str.Lines.{strip_carriage_return};
 ghost use Rattle.rlp.specs.Format.Encoding.{IsSized, encoding};
 ghost use Rattle.rlp_reading.specs.Form.{Fault};
@@ -11,7 +11,7 @@ ghost use Rattle.rlp_records.specs.{Alone.bytes_alone, Eip2718.typed_alone, decl
 ghost use Rattle.rlp_transactions.specs.{Transaction.any_transaction, UnsignedTransaction.unsigned_transaction, UnsignedTransaction.unsigned_types};
 ghost use Rattle.rlp_transactions.specs.{declared.transaction.Transaction.Transaction, declared.unsigned_transaction.UnsignedTransaction.UnsignedTransaction};
 ghost use Rattle.rlp_trie.specs.{TrieNode.IsTrieNode, TrieNode.node_item, TrieNode.seen_node, TrieNodeLaws.trie_node, declared.trie_node.TrieNode.TrieNode};
-ghost use Rattle.rlp_show.specs.Answers.{IsAnswered, IsRead, answer_of, camel};
+ghost use Rattle.rlp_show.specs.Answers.{IsAnswered, IsRead, answer_of};
 ghost use Rattle.rlp_show.specs.{Display.shown_of, Display.told_of, Items.node_display, Json.json_of, Records.any_receipt_display};
 ghost use Rattle.rlp_show.specs.{Transactions.any_transaction_display, Transactions.unsigned_display, Value.Value, Value.entry, Value.object, Kinds.kind_name};
 ghost use Rattle.rlp_show.specs.{Request.answers, Shown.ShowsAs, Shown.kind_shown, declared.answers.Form.TheVariants.Json, declared.kind.Kind.Kind};
@@ -19,6 +19,7 @@ ghost use Rattle.rlp_show.specs.declared.kind.Kind.TheVariants as kind;
 
 use crate::show::Show;
 use rlp::StrictRead;
+use rlp_trie::TrieNode;
 
 /// If two values are shown alike, `told_of` is the same for the two. For most types `told_of` is
 /// all that contracts see of a value, and so the items of the two values are equal too.
@@ -44,8 +45,10 @@ pub fn encodings_are_shown_in_json<T: StrictRead>(line: &[u8])
         → T.fits x → IsSized (T.item x)
         → bytes_in (strip_carriage_return line.now) ≡ Some (encoding (T.item x))
         → answer_of (answers (Some kind) Json) line.now
-        ≡ json_of (object (entry [] (camel false (kind_name kind)) (shown (T.reading.seen x)))) }
-{}
+        ≡ json_of (object (entry [] (kind_name kind) (shown (T.reading.seen x)))) }
+{
+    encodings_are_shown::<T>(line);
+}
 
 /// If the digits of a line are bytes that a kind shows without a fault, the answer shows what
 /// contracts see of a value. If contracts see this of a value, the value fits, and these bytes are
@@ -126,7 +129,9 @@ pub fn nodes_are_shown(line: &[u8])
     ensures { (n : TrieNode) → IsTrieNode n → IsSized (node_item n)
         → bytes_in (strip_carriage_return line.now) ≡ Some (encoding (node_item n))
         → IsAnswered kind.Node line.now (encoding (node_item n)) (node_display.shown (seen_node n)) }
-{}
+{
+    encodings_are_shown::<TrieNode>(line);
+}
 
 /// If the digits of a line are bytes that are shown as a node of the trie without a fault, the
 /// answer shows what contracts see of a node. If contracts see this of a node, these bytes are its
@@ -138,4 +143,6 @@ pub fn only_nodes_are_shown(line: &[u8])
         → IsRead (λ n. IsTrieNode n × (bytes ≡ encoding (node_item n))) trie_node.reading
         node_display.shown v
         × IsAnswered kind.Node line.now bytes v }
-{}
+{
+    only_encodings_are_shown::<TrieNode>(line);
+}

@@ -21,7 +21,6 @@ mod kind;
 mod known;
 pub mod laws;
 mod lines;
-mod listed;
 mod message_kind;
 mod messages;
 mod names;

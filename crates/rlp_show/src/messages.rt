@@ -1,9 +1,9 @@
 //! Messages between clients: bodies of messages of `eth`, and messages of `p2p`.
 
 ghost use Rattle.std.specs.{Prelude.map, Vec.vec_items};
-ghost use Rattle.rlp_messages.specs.P2p.{Disconnect.disconnect, Hello.capability, Hello.further_fields, Hello.hello};
-ghost use Rattle.rlp_messages.specs.Eth.Announcements.{block_range_update, new_block, new_block_hash, new_pooled_transaction_hashes};
-ghost use Rattle.rlp_messages.specs.Eth.{HashOrNumberLaws.hash_or_number, Receipts.block_receipts, Receipts69.block_receipts69, Receipts69.receipt69, Requests.get_block_headers, Status.fork_id, Status.status68, Status.status69};
+ghost use Rattle.rlp_messages.specs.{Eth.Announcements.{block_range_update, new_block, new_block_hash, new_pooled_transaction_hashes}, Eth.HashOrNumberLaws.hash_or_number};
+ghost use Rattle.rlp_messages.specs.{Eth.Receipts.{block_receipts, block_receipts69, receipt69}, Eth.Requests.get_block_headers, Eth.Status.{fork_id, status68, status69}, P2p.Disconnect.disconnect};
+ghost use Rattle.rlp_messages.specs.P2p.Hello.{capability, further_fields, hello};
 ghost use Rattle.rlp_show.specs.{Display.{a_list, an_object, end, seen_as}, Records.any_receipt_display};
 ghost use Rattle.rlp_show.specs.Messages as shown;
 
@@ -20,9 +20,7 @@ impl Show for ForkId {
     ghost display = { seen_as fork_id.reading.seen shown.fork_id_display };
 
     fn show<S: Sink>(&self, alloc: Global, name: &str, sink: &mut S) -> Result<(), AllocError> {
-        show_fields!(alloc, name, sink;
-            "fork_hash" "forkHash" &self.fork_hash.0; self.fork_next "forkNext";
-        )
+        show_fields!(alloc, name, sink; "fork_hash" &self.fork_hash.0; self.fork_next;)
     }
 }
 
@@ -31,9 +29,8 @@ impl Show for Status68 {
 
     fn show<S: Sink>(&self, alloc: Global, name: &str, sink: &mut S) -> Result<(), AllocError> {
         show_fields!(alloc, name, sink;
-            self.version "version"; self.network_id "networkId";
-            self.total_difficulty "totalDifficulty"; self.block_hash "blockHash";
-            self.genesis_hash "genesisHash"; self.fork_id "forkId";
+            self.version; self.network_id; self.total_difficulty; self.block_hash;
+            self.genesis_hash; self.fork_id;
         )
     }
 }
@@ -43,10 +40,8 @@ impl Show for Status69 {
 
     fn show<S: Sink>(&self, alloc: Global, name: &str, sink: &mut S) -> Result<(), AllocError> {
         show_fields!(alloc, name, sink;
-            self.version "version"; self.network_id "networkId";
-            self.genesis_hash "genesisHash"; self.fork_id "forkId";
-            self.earliest_block "earliestBlock"; self.latest_block "latestBlock";
-            self.latest_block_hash "latestBlockHash";
+            self.version; self.network_id; self.genesis_hash; self.fork_id; self.earliest_block;
+            self.latest_block; self.latest_block_hash;
         )
     }
 }
@@ -56,8 +51,7 @@ impl Show for BlockRangeUpdate {
 
     fn show<S: Sink>(&self, alloc: Global, name: &str, sink: &mut S) -> Result<(), AllocError> {
         show_fields!(alloc, name, sink;
-            self.earliest_block "earliestBlock"; self.latest_block "latestBlock";
-            self.latest_block_hash "latestBlockHash";
+            self.earliest_block; self.latest_block; self.latest_block_hash;
         )
     }
 }
@@ -66,7 +60,7 @@ impl Show for NewBlockHash {
     ghost display = { seen_as new_block_hash.reading.seen shown.new_block_hash_display };
 
     fn show<S: Sink>(&self, alloc: Global, name: &str, sink: &mut S) -> Result<(), AllocError> {
-        show_fields!(alloc, name, sink; self.hash "hash"; self.number "number";)
+        show_fields!(alloc, name, sink; self.hash; self.number;)
     }
 }
 
@@ -76,8 +70,7 @@ impl Show for NewPooledTransactionHashes {
 
     fn show<S: Sink>(&self, alloc: Global, name: &str, sink: &mut S) -> Result<(), AllocError> {
         show_fields!(alloc, name, sink;
-            self.types "types"; "sizes" "sizes" Items(&self.sizes);
-            "hashes" "hashes" Items(&self.hashes);
+            self.types; "sizes" Items(&self.sizes); "hashes" Items(&self.hashes);
         )
     }
 }
@@ -86,9 +79,7 @@ impl Show for NewBlock {
     ghost display = { seen_as new_block.reading.seen shown.new_block_display };
 
     fn show<S: Sink>(&self, alloc: Global, name: &str, sink: &mut S) -> Result<(), AllocError> {
-        show_fields!(alloc, name, sink;
-            self.block "block"; self.total_difficulty "totalDifficulty";
-        )
+        show_fields!(alloc, name, sink; self.block; self.total_difficulty;)
     }
 }
 
@@ -97,7 +88,7 @@ impl<T: Show> Show for WithRequestId<T> {
         (shown.with_request_id_display T.display.form) };
 
     fn show<S: Sink>(&self, alloc: Global, name: &str, sink: &mut S) -> Result<(), AllocError> {
-        show_fields!(alloc, name, sink; self.request_id "requestId"; self.content "content")
+        show_fields!(alloc, name, sink; self.request_id; self.content)
     }
 }
 
@@ -117,8 +108,7 @@ impl Show for GetBlockHeaders {
 
     fn show<S: Sink>(&self, alloc: Global, name: &str, sink: &mut S) -> Result<(), AllocError> {
         show_fields!(alloc, name, sink;
-            self.start_block "startBlock"; self.limit "limit"; self.skip "skip";
-            "reverse" "reverse" number(self.reverse as u64);
+            self.start_block; self.limit; self.skip; "reverse" number(self.reverse as u64);
         )
     }
 }
@@ -137,10 +127,8 @@ impl Show for Receipt69 {
     fn show<S: Sink>(&self, alloc: Global, name: &str, sink: &mut S) -> Result<(), AllocError> {
         let kind = number(self.transaction_type as u64);
         show_fields!(alloc, name, sink;
-            "transaction_type" "transactionType" kind;
-            &self.status_or_state_root;
-            self.cumulative_gas_used "cumulativeGasUsed";
-            "logs" "logs" Items(&self.logs);
+            "transaction_type" kind; &self.status_or_state_root; self.cumulative_gas_used;
+            "logs" Items(&self.logs);
         )
     }
 }
@@ -179,7 +167,7 @@ impl Show for Disconnect {
         match self {
             Disconnect::Listed(reason) | Disconnect::Bare(reason) => {
                 let number = number(u64::from(reason.number()));
-                show_fields!(alloc, name, sink; "reason" "reason" number)
+                show_fields!(alloc, name, sink; "reason" number)
             }
         }
     }
@@ -190,8 +178,7 @@ impl Show for Capability {
 
     fn show<S: Sink>(&self, alloc: Global, name: &str, sink: &mut S) -> Result<(), AllocError> {
         show_fields!(alloc, name, sink;
-            "name" "name" Shown::Bytes(BytesKind::Word, self.name.as_slice());
-            self.version "version";
+            "name" Shown::Bytes(BytesKind::Word, self.name.as_slice()); self.version;
         )
     }
 }
@@ -215,7 +202,7 @@ impl ShowFields for Further<'_> {
     fn give<S: Sink>(&self, alloc: Global, name: &str, sink: &mut S) -> Result<(), AllocError> {
         match self.0.as_slice() {
             [] => Ok(()),
-            [_, ..] => give_fields!(alloc, name, sink; "further" "further" Items(self.0);),
+            [_, ..] => give_fields!(alloc, name, sink; "further" Items(self.0);),
         }
     }
 }
@@ -225,11 +212,8 @@ impl Show for Hello {
 
     fn show<S: Sink>(&self, alloc: Global, name: &str, sink: &mut S) -> Result<(), AllocError> {
         show_fields!(alloc, name, sink;
-            self.protocol_version "protocolVersion"; self.client_id "clientId";
-            "capabilities" "capabilities" Items(&self.capabilities);
-            self.listen_port "listenPort";
-            "node_id" "nodeId" &self.node_id.0;
-            Further(&self.further)
+            self.protocol_version; self.client_id; "capabilities" Items(&self.capabilities);
+            self.listen_port; "node_id" &self.node_id.0; Further(&self.further)
         )
     }
 }

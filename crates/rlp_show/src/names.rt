@@ -1,7 +1,7 @@
 //! The names of the parts of records, by the path to a part.
 
 ghost use Rattle.std.specs.Prelude.{◌≡◌, IfOk, OnOk, map, string_bytes};
-ghost use Rattle.rlp_show.specs.Names.{content, envelope, field_of, fields, in_field, in_list, in_part, is_list, item_in, kind_fields, kind_part, message_fields, naming, node_kind, opened, payload, pooled_kind, transaction_kind};
+ghost use Rattle.rlp_show.specs.Names.{content, envelope, field_of, fields, in_field, in_list, in_part, is_list, item_in, kind_part, naming, node_kind, opened, payload, pooled_kind, transaction_kind};
 
 use crate::kind::Kind;
 use crate::message_kind::MessageKind;
@@ -197,13 +197,36 @@ const RECEIPTS69: Fields = fields!("request_id"; "content" Lists Receipt69);
 const POOLED_TRANSACTIONS: Fields = fields!("request_id"; "content" List Pooled);
 
 impl Record {
-    /// Returns the fields of the record, in order.
+    /// Returns the fields of the record, in order. The fields of a node, a receipt and a transaction
+    /// depend on the bytes.
     fn fields(self) -> Fields
         ensures { map (λ f. (f.0.now, f.1)) result.now ≡ fields self }
     {
         match self {
-            Record::Other | Record::Pooled => &[],
-            Record::Kind(kind) => kind.fields(),
+            Record::Kind(Kind::Account) => ACCOUNT,
+            Record::Kind(Kind::Authorization) => AUTHORIZATION,
+            Record::Kind(Kind::Block) => BLOCK,
+            Record::Kind(Kind::Body) => BODY,
+            Record::Kind(Kind::Header) => HEADER,
+            Record::Kind(Kind::NodeRecord) => NODE_RECORD,
+            Record::Kind(Kind::Withdrawal) => WITHDRAWAL,
+            Record::Kind(Kind::Message(MessageKind::Hello)) => HELLO,
+            Record::Kind(Kind::Message(MessageKind::Disconnect)) => DISCONNECT,
+            Record::Kind(Kind::Message(MessageKind::Status68)) => STATUS68,
+            Record::Kind(Kind::Message(MessageKind::Status69)) => STATUS69,
+            Record::Kind(Kind::Message(MessageKind::GetBlockHeaders)) => GET_BLOCK_HEADERS,
+            Record::Kind(Kind::Message(MessageKind::BlockHeaders)) => BLOCK_HEADERS,
+            Record::Kind(Kind::Message(MessageKind::GetBlockBodies)) => GET_HASHED,
+            Record::Kind(Kind::Message(MessageKind::BlockBodies)) => BLOCK_BODIES,
+            Record::Kind(Kind::Message(MessageKind::NewBlock)) => NEW_BLOCK,
+            Record::Kind(Kind::Message(MessageKind::NewPooledTransactionHashes)) =>
+                NEW_POOLED_HASHES,
+            Record::Kind(Kind::Message(MessageKind::GetPooledTransactions)) => GET_HASHED,
+            Record::Kind(Kind::Message(MessageKind::PooledTransactions)) => POOLED_TRANSACTIONS,
+            Record::Kind(Kind::Message(MessageKind::GetReceipts)) => GET_HASHED,
+            Record::Kind(Kind::Message(MessageKind::Receipts68)) => RECEIPTS68,
+            Record::Kind(Kind::Message(MessageKind::Receipts69)) => RECEIPTS69,
+            Record::Kind(Kind::Message(MessageKind::BlockRangeUpdate)) => BLOCK_RANGE,
             Record::AccessListItem => ACCESS_LIST_ITEM,
             Record::Branch => BRANCH,
             Record::Capability => CAPABILITY,
@@ -223,6 +246,11 @@ impl Record {
             Record::SetCode => SET_CODE,
             Record::WithProofs => WITH_PROOFS,
             Record::WithCellProofs => WITH_CELL_PROOFS,
+            Record::Other | Record::Pooled => &[],
+            Record::Kind(Kind::AccessList | Kind::Node | Kind::Receipt | Kind::Transaction) => &[],
+            Record::Kind(Kind::Message(MessageKind::Ping | MessageKind::Pong)) => &[],
+            Record::Kind(Kind::Message(MessageKind::NewBlockHashes)) => &[],
+            Record::Kind(Kind::Message(MessageKind::Transactions)) => &[],
         }
     }
 
@@ -430,52 +458,6 @@ impl Kind {
             Kind::Message(MessageKind::NewBlockHashes) => Part::List(Record::NewBlockHash),
             Kind::Message(MessageKind::Transactions) => Part::List(Record::Kind(Kind::Transaction)),
             kind => Part::One(Record::Kind(kind)),
-        }
-    }
-
-    /// Returns the fields of records of this kind, in order. The fields of a node, a receipt and a
-    /// transaction depend on the bytes.
-    fn fields(self) -> Fields
-        ensures { map (λ f. (f.0.now, f.1)) result.now ≡ kind_fields self }
-    {
-        match self {
-            Kind::Account => ACCOUNT,
-            Kind::Authorization => AUTHORIZATION,
-            Kind::Block => BLOCK,
-            Kind::Body => BODY,
-            Kind::Header => HEADER,
-            Kind::Message(kind) => kind.fields(),
-            Kind::NodeRecord => NODE_RECORD,
-            Kind::Withdrawal => WITHDRAWAL,
-            Kind::AccessList | Kind::Node | Kind::Receipt | Kind::Transaction => &[],
-        }
-    }
-}
-
-impl MessageKind {
-    /// Returns the fields of messages of this kind, in order.
-    fn fields(self) -> Fields
-        ensures { map (λ f. (f.0.now, f.1)) result.now ≡ message_fields self }
-    {
-        match self {
-            MessageKind::Hello => HELLO,
-            MessageKind::Disconnect => DISCONNECT,
-            MessageKind::Status68 => STATUS68,
-            MessageKind::Status69 => STATUS69,
-            MessageKind::GetBlockHeaders => GET_BLOCK_HEADERS,
-            MessageKind::BlockHeaders => BLOCK_HEADERS,
-            MessageKind::GetBlockBodies => GET_HASHED,
-            MessageKind::BlockBodies => BLOCK_BODIES,
-            MessageKind::NewBlock => NEW_BLOCK,
-            MessageKind::NewPooledTransactionHashes => NEW_POOLED_HASHES,
-            MessageKind::GetPooledTransactions => GET_HASHED,
-            MessageKind::PooledTransactions => POOLED_TRANSACTIONS,
-            MessageKind::GetReceipts => GET_HASHED,
-            MessageKind::Receipts68 => RECEIPTS68,
-            MessageKind::Receipts69 => RECEIPTS69,
-            MessageKind::BlockRangeUpdate => BLOCK_RANGE,
-            MessageKind::Ping | MessageKind::Pong => &[],
-            MessageKind::NewBlockHashes | MessageKind::Transactions => &[],
         }
     }
 }

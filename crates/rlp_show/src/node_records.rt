@@ -83,10 +83,7 @@ impl Show for NodePair {
             key,
             value: &self.value,
         };
-        show_fields!(alloc, name, sink;
-            "key" "key" Shown::Bytes(BytesKind::Word, key);
-            "value" "value" value
-        )
+        show_fields!(alloc, name, sink; "key" Shown::Bytes(BytesKind::Word, key); "value" value)
     }
 }
 
@@ -94,9 +91,6 @@ impl Show for NodeFields {
     ghost display = { seen_as node_fields.reading.seen node_fields_display };
 
     fn show<S: Sink>(&self, alloc: Global, name: &str, sink: &mut S) -> Result<(), AllocError> {
-        show_fields!(alloc, name, sink;
-            self.signature "signature"; self.sequence "sequence";
-            "pairs" "pairs" Items(&self.pairs)
-        )
+        show_fields!(alloc, name, sink; self.signature; self.sequence; "pairs" Items(&self.pairs))
     }
 }

@@ -1,9 +1,9 @@
 //! Encodings and hashes, numbers and strings, withdrawals, accounts, logs, receipts, and faults of records.
 
-ghost use Rattle.std.specs.{Prelude.◌≡◌, Prelude.IfOk, Vec.vec_items};
-ghost use Rattle.rlp_records.specs.Keccak.{keccak256};
+ghost use Rattle.std.specs.{Prelude.{◌≡◌, IfOk}, Vec.vec_items};
 ghost use Rattle.rlp.specs.Codec.{uint};
-ghost use Rattle.rlp_headers.specs.{Account.account, Log.log, Receipt.receipt, ReceiptStatus.receipt_status, TypedReceipt.any_receipt, TypedReceipt.typed_receipt, Withdrawal.withdrawal, Withdrawal.withdrawals};
+ghost use Rattle.rlp_records.specs.Keccak.{keccak256};
+ghost use Rattle.rlp_headers.specs.{Account.account, Log.log, Receipt.{receipt, receipt_status}, TypedReceipt.{any_receipt, typed_receipt}, Withdrawal.{withdrawal, withdrawals}};
 ghost use Rattle.rlp_show.specs.Display.{a_list, a_number, a_string, seen_as};
 ghost use Rattle.rlp_show.specs.Records.{account_display, any_receipt_display, fault_display, log_display, receipt_display, status_fields, typed_receipt_display, withdrawal_display, written};
 
@@ -85,8 +85,7 @@ impl Show for Withdrawal {
 
     fn show<S: Sink>(&self, alloc: Global, name: &str, sink: &mut S) -> Result<(), AllocError> {
         show_fields!(alloc, name, sink;
-            self.index "index"; self.validator_index "validatorIndex";
-            self.address "address"; self.amount "amount";
+            self.index; self.validator_index; self.address; self.amount;
         )
     }
 }
@@ -104,8 +103,7 @@ impl Show for Account {
 
     fn show<S: Sink>(&self, alloc: Global, name: &str, sink: &mut S) -> Result<(), AllocError> {
         show_fields!(alloc, name, sink;
-            self.nonce "nonce"; self.balance "balance";
-            self.storage_root "storageHash"; self.code_hash "codeHash";
+            self.nonce; self.balance; self.storage_root "storageHash"; self.code_hash;
         )
     }
 }
@@ -114,9 +112,7 @@ impl Show for Log {
     ghost display = { seen_as log.reading.seen log_display };
 
     fn show<S: Sink>(&self, alloc: Global, name: &str, sink: &mut S) -> Result<(), AllocError> {
-        show_fields!(alloc, name, sink;
-            self.address "address"; "topics" "topics" Items(&self.topics); self.data "data";
-        )
+        show_fields!(alloc, name, sink; self.address; "topics" Items(&self.topics); self.data;)
     }
 }
 
@@ -142,10 +138,9 @@ impl ShowFields for Receipt {
 
     fn give<S: Sink>(&self, alloc: Global, name: &str, sink: &mut S) -> Result<(), AllocError> {
         give_fields!(alloc, name, sink;
-            &self.status_or_state_root;
-            self.cumulative_gas_used "cumulativeGasUsed";
-            "logs_bloom" "logsBloom" Shown::Bytes(BytesKind::Sparse, &self.logs_bloom.0);
-            "logs" "logs" Items(&self.logs);
+            &self.status_or_state_root; self.cumulative_gas_used;
+            "logs_bloom" Shown::Bytes(BytesKind::Sparse, &self.logs_bloom.0);
+            "logs" Items(&self.logs);
         )
     }
 }
@@ -156,7 +151,7 @@ impl Show for TypedReceipt {
     fn show<S: Sink>(&self, alloc: Global, name: &str, sink: &mut S) -> Result<(), AllocError> {
         let (kind, receipt) = match self {
             TypedReceipt::Legacy(receipt) => {
-                let kind = ByForm((), fields!("type" "type" Shown::TypeByte(0)));
+                let kind = ByForm((), fields!("type" Shown::TypeByte(0)));
                 return Object(&(kind, receipt)).show(alloc, name, sink);
             }
             TypedReceipt::AccessList(receipt) => (1, receipt),
@@ -164,7 +159,7 @@ impl Show for TypedReceipt {
             TypedReceipt::Blob(receipt) => (3, receipt),
             TypedReceipt::SetCode(receipt) => (4, receipt),
         };
-        let kind = fields!("type" "type" Shown::TypeByte(kind));
+        let kind = fields!("type" Shown::TypeByte(kind));
         Object(&(kind, receipt)).show(alloc, name, sink)
     }
 }
@@ -176,8 +171,8 @@ impl Show for AnyReceipt {
         match self {
             AnyReceipt::Known(receipt) => receipt.show(alloc, name, sink),
             AnyReceipt::Other(receipt) => show_fields!(alloc, name, sink;
-                "type" "type" Shown::TypeByte(receipt.transaction_type());
-                "payload" "payload" Shown::Bytes(BytesKind::Payload, receipt.payload())
+                "type" Shown::TypeByte(receipt.transaction_type());
+                "payload" Shown::Bytes(BytesKind::Payload, receipt.payload())
             ),
         }
     }
@@ -207,10 +202,10 @@ impl Show for Fault<'_> {
             None => None,
         };
         let fault = fields!(
-            "field" "field" ? &place;
-            "name" "name" Shown::Text(self.name);
-            "fault" "fault" Shown::Text(self.fault)
+            "field" ? &place;
+            "name" Shown::Text(self.name);
+            "fault" Shown::Text(self.fault)
         );
-        Object(&fields!("error" "error" Object(&fault))).show(alloc, name, sink)
+        Object(&fields!("error" Object(&fault))).show(alloc, name, sink)
     }
 }

@@ -50,11 +50,11 @@ pub trait ShowFields {
             ≡ after_fields S.steps name.now (shown_of fields self.now) (S.seen sink.old)) };
 }
 
-/// A field: its name in lines, its name in JSON, and its value.
+/// A field: its name in lines, its name in JSON, as [`Sink::key`] takes it, and its value.
 #[derive(Clone, Copy)]
 pub struct Named<'a, V>(pub &'a str, pub &'a str, pub V);
 
-/// A field that may be missing: its name in lines, its name in JSON, and its value.
+/// A field that may be missing: its two names, as in [`Named`], and its value.
 #[derive(Clone, Copy)]
 pub struct NamedIf<'a, V>(pub &'a str, pub &'a str, pub &'a Option<V>);
 
@@ -211,10 +211,9 @@ pub(crate) fn put_place(index: usize, name: &mut String) -> Result<(), AllocErro
     write!(name, "[{index}]").map_err(|_| AllocError)
 }
 
-/// Fields as nested pairs. Each field is its name in lines, its name in JSON and its value, or is
-/// the fields of a part. After a `?` the value may be missing. A field of a struct that has its own
-/// name in lines is `self.gas_price "gasPrice"`, with the name in JSON. The last pair ends with the
-/// last field, or with no fields after a `;`.
+/// Fields as nested pairs. Each field is its name and its value, or is the fields of a part. A second
+/// name is that in JSON. After a `?` the value may be missing. A field of a struct that has its own
+/// name is `self.gas_price`. The last pair ends with the last field, or with no fields after a `;`.
 macro_rules! fields {
     () => {
         ()
@@ -225,15 +224,24 @@ macro_rules! fields {
     (@ $part:expr, ; $($rest:tt)*) => {
         ($part, $crate::show::fields!($($rest)*))
     };
-    ($name:literal $json:literal ? $value:expr $(; $($rest:tt)*)?) => {
-        $crate::show::fields!(@ $crate::show::NamedIf($name, $json, $value), $(; $($rest)*)?)
+    ($name:literal ? $value:expr $(; $($rest:tt)*)?) => {
+        $crate::show::fields!(@ $crate::show::NamedIf($name, $name, $value), $(; $($rest)*)?)
     };
     ($name:literal $json:literal $value:expr $(; $($rest:tt)*)?) => {
         $crate::show::fields!(@ $crate::show::Named($name, $json, $value), $(; $($rest)*)?)
     };
+    ($name:literal $value:expr $(; $($rest:tt)*)?) => {
+        $crate::show::fields!($name $name $value $(; $($rest)*)?)
+    };
     ($owner:tt . $field:ident $json:literal $(; $($rest:tt)*)?) => {
         $crate::show::fields!(
             @ $crate::show::Named(stringify!($field), $json, &$owner.$field), $(; $($rest)*)?
+        )
+    };
+    ($owner:tt . $field:ident $(; $($rest:tt)*)?) => {
+        $crate::show::fields!(
+            @ $crate::show::Named(stringify!($field), stringify!($field), &$owner.$field),
+            $(; $($rest)*)?
         )
     };
     ($part:expr $(; $($rest:tt)*)?) => {

@@ -96,8 +96,9 @@ pub trait Sink {
     fn is_json(&self) -> bool
         ensures { result ≡ steps.is_json };
 
-    /// Takes the JSON name of a field, whose value comes next. Fails with `AllocError` if memory is
-    /// refused, as the other methods do.
+    /// Takes the name in JSON of a field, whose value comes next. Words are joined by underscores, as
+    /// in `gas_price`, or by capital letters, as in `gasPrice`, which JSON has for both. Fails with
+    /// `AllocError` if memory is refused, as the other methods do.
     fn key(&mut self, json: &str) -> Result<(), AllocError>
         ensures { OnOk result (seen self.new ≡ steps.key json.now (seen self.old)) };
 

@@ -2,13 +2,11 @@
 //! blobs.
 
 ghost use Rattle.std.specs.Prelude.{◌≡◌, IfOk};
-ghost use Rattle.rlp_transactions.specs.{Access.access_list_item, AccessListTransaction.access_list_transaction_fields, Authorization.authorization_fields};
-ghost use Rattle.rlp_transactions.specs.{Authorization.signed_authorization, Blob.blob, BlobTransaction.blob_transaction_fields, BlobTransaction.signed_blob_transaction, Recipient.recipient};
-ghost use Rattle.rlp_transactions.specs.{BlobWrapper.with_cell_proofs, BlobWrapper.with_proofs, FeeMarketTransaction.fee_market_transaction_fields, Transaction.any_transaction, Transaction.transaction};
-ghost use Rattle.rlp_transactions.specs.{LegacyTransaction.legacy_transaction_fields, LegacyTransaction.signed_legacy_transaction, SetCodeTransaction.set_code_transaction_fields};
-ghost use Rattle.rlp_transactions.specs.{PooledBlobTransaction.pooled_blob_transaction, PooledTransaction.pooled_transaction};
-ghost use Rattle.rlp_transactions.specs.{UnsignedLegacyTransaction.unsigned_legacy_transaction, UnsignedTransaction.unsigned_transaction};
-ghost use Rattle.rlp_show.specs.{Display.bytes_as, Display.seen_as, declared.sink.BytesKind.TheVariants.Sparse};
+ghost use Rattle.rlp_transactions.specs.{AccessListTransaction.{access_list_item, access_list_transaction_fields}, Blob.blob, BlobTransaction.{blob_transaction_fields, signed_blob_transaction}};
+ghost use Rattle.rlp_transactions.specs.{BlobWrapper.{pooled_blob_transaction, with_cell_proofs, with_proofs}, FeeMarketTransaction.fee_market_transaction_fields};
+ghost use Rattle.rlp_transactions.specs.{LegacyTransaction.{legacy_transaction_fields, signed_legacy_transaction, unsigned_legacy_transaction}, PooledTransaction.pooled_transaction, Recipient.recipient};
+ghost use Rattle.rlp_transactions.specs.{SetCodeTransaction.{authorization_fields, set_code_transaction_fields, signed_authorization}, Transaction.{any_transaction, transaction}, UnsignedTransaction.unsigned_transaction};
+ghost use Rattle.rlp_show.specs.{Display.{bytes_as, seen_as}, declared.sink.BytesKind.TheVariants.Sparse};
 ghost use Rattle.rlp_show.specs.Transactions as shown;
 
 use crate::records::hash_of;
@@ -39,9 +37,7 @@ impl Show for AccessListItem {
     ghost display = { seen_as access_list_item.reading.seen shown.access_list_item_display };
 
     fn show<S: Sink>(&self, alloc: Global, name: &str, sink: &mut S) -> Result<(), AllocError> {
-        show_fields!(alloc, name, sink;
-            self.address "address"; "storage_keys" "storageKeys" Items(&self.storage_keys);
-        )
+        show_fields!(alloc, name, sink; self.address; "storage_keys" Items(&self.storage_keys);)
     }
 }
 
@@ -50,8 +46,8 @@ impl ShowFields for LegacyTransaction {
 
     fn give<S: Sink>(&self, alloc: Global, name: &str, sink: &mut S) -> Result<(), AllocError> {
         give_fields!(alloc, name, sink;
-            self.nonce "nonce"; self.gas_price "gasPrice";
-            self.gas_limit "gas"; self.to "to"; self.value "value"; self.data "input";
+            self.nonce; self.gas_price; self.gas_limit "gas"; self.to; self.value;
+            self.data "input";
         )
     }
 }
@@ -62,9 +58,8 @@ impl ShowFields for AccessListTransaction {
 
     fn give<S: Sink>(&self, alloc: Global, name: &str, sink: &mut S) -> Result<(), AllocError> {
         give_fields!(alloc, name, sink;
-            self.chain_id "chainId"; self.nonce "nonce"; self.gas_price "gasPrice";
-            self.gas_limit "gas"; self.to "to"; self.value "value"; self.data "input";
-            "access_list" "accessList" Items(&self.access_list.0);
+            self.chain_id; self.nonce; self.gas_price; self.gas_limit "gas"; self.to; self.value;
+            self.data "input"; "access_list" Items(&self.access_list.0);
         )
     }
 }
@@ -74,11 +69,9 @@ impl ShowFields for FeeMarketTransaction {
 
     fn give<S: Sink>(&self, alloc: Global, name: &str, sink: &mut S) -> Result<(), AllocError> {
         give_fields!(alloc, name, sink;
-            self.chain_id "chainId"; self.nonce "nonce";
-            self.max_priority_fee_per_gas "maxPriorityFeePerGas";
-            self.max_fee_per_gas "maxFeePerGas";
-            self.gas_limit "gas"; self.to "to"; self.value "value"; self.data "input";
-            "access_list" "accessList" Items(&self.access_list.0);
+            self.chain_id; self.nonce; self.max_priority_fee_per_gas; self.max_fee_per_gas;
+            self.gas_limit "gas"; self.to; self.value; self.data "input";
+            "access_list" Items(&self.access_list.0);
         )
     }
 }
@@ -88,13 +81,10 @@ impl ShowFields for BlobTransaction {
 
     fn give<S: Sink>(&self, alloc: Global, name: &str, sink: &mut S) -> Result<(), AllocError> {
         give_fields!(alloc, name, sink;
-            self.chain_id "chainId"; self.nonce "nonce";
-            self.max_priority_fee_per_gas "maxPriorityFeePerGas";
-            self.max_fee_per_gas "maxFeePerGas";
-            self.gas_limit "gas"; self.to "to"; self.value "value"; self.data "input";
-            "access_list" "accessList" Items(&self.access_list.0);
-            self.max_fee_per_blob_gas "maxFeePerBlobGas";
-            "blob_versioned_hashes" "blobVersionedHashes" Items(&self.blob_versioned_hashes);
+            self.chain_id; self.nonce; self.max_priority_fee_per_gas; self.max_fee_per_gas;
+            self.gas_limit "gas"; self.to; self.value; self.data "input";
+            "access_list" Items(&self.access_list.0); self.max_fee_per_blob_gas;
+            "blob_versioned_hashes" Items(&self.blob_versioned_hashes);
         )
     }
 }
@@ -103,9 +93,7 @@ impl ShowFields for Authorization {
     ghost fields = { seen_as authorization_fields.reading.seen shown.authorization_display };
 
     fn give<S: Sink>(&self, alloc: Global, name: &str, sink: &mut S) -> Result<(), AllocError> {
-        give_fields!(alloc, name, sink;
-            self.chain_id "chainId"; self.address "address"; self.nonce "nonce";
-        )
+        give_fields!(alloc, name, sink; self.chain_id; self.address; self.nonce;)
     }
 }
 
@@ -114,12 +102,10 @@ impl ShowFields for SetCodeTransaction {
 
     fn give<S: Sink>(&self, alloc: Global, name: &str, sink: &mut S) -> Result<(), AllocError> {
         give_fields!(alloc, name, sink;
-            self.chain_id "chainId"; self.nonce "nonce";
-            self.max_priority_fee_per_gas "maxPriorityFeePerGas";
-            self.max_fee_per_gas "maxFeePerGas";
-            self.gas_limit "gas"; self.destination "to"; self.value "value"; self.data "input";
-            "access_list" "accessList" Items(&self.access_list.0);
-            "authorization_list" "authorizationList" Items(&self.authorization_list);
+            self.chain_id; self.nonce; self.max_priority_fee_per_gas; self.max_fee_per_gas;
+            self.gas_limit "gas"; self.destination "to"; self.value; self.data "input";
+            "access_list" Items(&self.access_list.0);
+            "authorization_list" Items(&self.authorization_list);
         )
     }
 }
@@ -139,13 +125,10 @@ impl<T: TypedTransaction + ShowFields> ShowFields for Signed<T, bool> {
     fn give<S: Sink>(&self, alloc: Global, name: &str, sink: &mut S) -> Result<(), AllocError> {
         let hash = signing_hash_of(alloc, &self.payload)?;
         give_fields!(alloc, name, sink;
-            "type" "type" Shown::TypeByte(T::TAG);
-            &self.payload;
-            "y_parity" "yParity" number(self.v as u64);
-            ByForm((), fields!("v" "v" number(self.v as u64)));
-            "r" "r" Shown::Number(NumberKind::Quantity, self.r.number);
-            "s" "s" Shown::Number(NumberKind::Quantity, self.s.number);
-            "signing_hash" "signingHash" &hash
+            "type" Shown::TypeByte(T::TAG); &self.payload; "y_parity" number(self.v as u64);
+            ByForm((), fields!("v" number(self.v as u64)));
+            "r" Shown::Number(NumberKind::Quantity, self.r.number);
+            "s" Shown::Number(NumberKind::Quantity, self.s.number); "signing_hash" &hash
         )
     }
 }
@@ -157,11 +140,9 @@ impl Show for SignedAuthorization {
     fn show<S: Sink>(&self, alloc: Global, name: &str, sink: &mut S) -> Result<(), AllocError> {
         let hash = signing_hash_of(alloc, &self.payload)?;
         show_fields!(alloc, name, sink;
-            &self.payload;
-            "y_parity" "yParity" number(u64::from(self.v));
-            "r" "r" Shown::Number(NumberKind::Quantity, self.r.number);
-            "s" "s" Shown::Number(NumberKind::Quantity, self.s.number);
-            "signing_hash" "signingHash" &hash
+            &self.payload; "y_parity" number(u64::from(self.v));
+            "r" Shown::Number(NumberKind::Quantity, self.r.number);
+            "s" Shown::Number(NumberKind::Quantity, self.s.number); "signing_hash" &hash
         )
     }
 }
@@ -172,8 +153,7 @@ impl ShowFields for Eip155 {
 
     fn give<S: Sink>(&self, alloc: Global, name: &str, sink: &mut S) -> Result<(), AllocError> {
         give_fields!(alloc, name, sink;
-            "chain_id" "chainId" ? &self.chain_id;
-            "y_parity" "yParity" number(self.y_parity as u64)
+            "chain_id" ? &self.chain_id; "y_parity" number(self.y_parity as u64)
         )
     }
 }
@@ -205,13 +185,10 @@ impl ShowFields for SignedLegacyTransaction {
         let said = Eip155::from_v(&self.v);
         let hash = legacy_signing_hash(alloc, &self.payload, said)?;
         give_fields!(alloc, name, sink;
-            ByForm((), fields!("type" "type" Shown::TypeByte(0)));
-            &self.payload;
-            "v" "v" Shown::Number(NumberKind::LegacyV, self.v);
-            ByForm((), &said);
-            "r" "r" Shown::Number(NumberKind::Quantity, self.r.number);
-            "s" "s" Shown::Number(NumberKind::Quantity, self.s.number);
-            "signing_hash" "signingHash" ? &hash
+            ByForm((), fields!("type" Shown::TypeByte(0))); &self.payload;
+            "v" Shown::Number(NumberKind::LegacyV, self.v); ByForm((), &said);
+            "r" Shown::Number(NumberKind::Quantity, self.r.number);
+            "s" Shown::Number(NumberKind::Quantity, self.s.number); "signing_hash" ? &hash
         )
     }
 }
@@ -245,11 +222,10 @@ impl Show for AnyTransaction {
     fn show<S: Sink>(&self, alloc: Global, name: &str, sink: &mut S) -> Result<(), AllocError> {
         let hash = transaction_hash(alloc, self)?;
         match self {
-            AnyTransaction::Known(tx) => show_fields!(alloc, name, sink; "hash" "hash" &hash; tx),
+            AnyTransaction::Known(tx) => show_fields!(alloc, name, sink; "hash" &hash; tx),
             AnyTransaction::Other(tx) => show_fields!(alloc, name, sink;
-                "hash" "hash" &hash;
-                "type" "type" Shown::TypeByte(tx.transaction_type());
-                "payload" "payload" Shown::Bytes(BytesKind::Payload, tx.payload())
+                "hash" &hash; "type" Shown::TypeByte(tx.transaction_type());
+                "payload" Shown::Bytes(BytesKind::Payload, tx.payload())
             ),
         }
     }
@@ -261,9 +237,8 @@ impl ShowFields for UnsignedLegacyTransaction {
 
     fn give<S: Sink>(&self, alloc: Global, name: &str, sink: &mut S) -> Result<(), AllocError> {
         give_fields!(alloc, name, sink;
-            ByForm((), fields!("type" "type" Shown::TypeByte(0)));
-            &self.payload;
-            "chain_id" "chainId" ? &self.chain_id
+            ByForm((), fields!("type" Shown::TypeByte(0))); &self.payload;
+            "chain_id" ? &self.chain_id
         )
     }
 }
@@ -271,7 +246,7 @@ impl ShowFields for UnsignedLegacyTransaction {
 /// Gives the number of a type and the fields of a payload to a sink.
 macro_rules! give_typed {
     ($alloc:expr, $name:expr, $sink:expr; $number:literal $payload:expr) => {
-        give_fields!($alloc, $name, $sink; "type" "type" Shown::TypeByte($number); $payload)
+        give_fields!($alloc, $name, $sink; "type" Shown::TypeByte($number); $payload)
     };
 }
 
@@ -304,7 +279,7 @@ impl Show for UnsignedTransaction {
 
     fn show<S: Sink>(&self, alloc: Global, name: &str, sink: &mut S) -> Result<(), AllocError> {
         let hash = payload_hash(alloc, self)?;
-        show_fields!(alloc, name, sink; self; "signing_hash" "signingHash" &hash)
+        show_fields!(alloc, name, sink; self; "signing_hash" &hash)
     }
 }
 
@@ -333,9 +308,8 @@ impl ShowFields for BlobTransactionWithProofs {
 
     fn give<S: Sink>(&self, alloc: Global, name: &str, sink: &mut S) -> Result<(), AllocError> {
         give_fields!(alloc, name, sink;
-            &self.transaction;
-            "blobs" "blobs" Items(&self.blobs); "commitments" "commitments" Items(&self.commitments);
-            "proofs" "proofs" Items(&self.proofs);
+            &self.transaction; "blobs" Items(&self.blobs); "commitments" Items(&self.commitments);
+            "proofs" Items(&self.proofs);
         )
     }
 }
@@ -345,7 +319,7 @@ impl Show for BlobTransactionWithProofs {
 
     fn show<S: Sink>(&self, alloc: Global, name: &str, sink: &mut S) -> Result<(), AllocError> {
         let hash = blob_hash(alloc, &self.transaction)?;
-        show_fields!(alloc, name, sink; "hash" "hash" &hash; self)
+        show_fields!(alloc, name, sink; "hash" &hash; self)
     }
 }
 
@@ -355,10 +329,8 @@ impl ShowFields for BlobTransactionWithCellProofs {
 
     fn give<S: Sink>(&self, alloc: Global, name: &str, sink: &mut S) -> Result<(), AllocError> {
         give_fields!(alloc, name, sink;
-            &self.transaction;
-            "wrapper_version" "wrapperVersion" &1_u64;
-            "blobs" "blobs" Items(&self.blobs); "commitments" "commitments" Items(&self.commitments);
-            "cell_proofs" "proofs" Items(&self.cell_proofs);
+            &self.transaction; "wrapper_version" &1_u64; "blobs" Items(&self.blobs);
+            "commitments" Items(&self.commitments); "cell_proofs" "proofs" Items(&self.cell_proofs);
         )
     }
 }
@@ -368,7 +340,7 @@ impl Show for BlobTransactionWithCellProofs {
 
     fn show<S: Sink>(&self, alloc: Global, name: &str, sink: &mut S) -> Result<(), AllocError> {
         let hash = blob_hash(alloc, &self.transaction)?;
-        show_fields!(alloc, name, sink; "hash" "hash" &hash; self)
+        show_fields!(alloc, name, sink; "hash" &hash; self)
     }
 }
 
@@ -413,6 +385,6 @@ impl Show for PooledTransaction {
 
     fn show<S: Sink>(&self, alloc: Global, name: &str, sink: &mut S) -> Result<(), AllocError> {
         let hash = pooled_hash(alloc, self)?;
-        show_fields!(alloc, name, sink; "hash" "hash" &hash; self)
+        show_fields!(alloc, name, sink; "hash" &hash; self)
     }
 }

@@ -4,14 +4,12 @@ use Rattle.std.proofs.Common.{Option, Some, None, Result, Ok, Err, IfErr, OnOk, 
 use Rattle.std.proofs.{Common.{ap, ◌∙◌, nat_le, arith, subst}, lemmas.Bool.cond-true}
 use Rattle.std.specs.{declared.alloc.Global.Global}
 use Rattle.rlp.proofs.Streams.Descriptions.{steps_anyhow}
-use Rattle.rlp.specs.Format.Encoding.{Item, string, list, list_of, join, IsSized}
-use Rattle.rlp.specs.Streams.Stream.{OpenList, Stack, empty_stack, has_room, awaited, State, initial_state, IsFinished, put, count, put_item, after_from}
-use Rattle.rlp.specs.Streams.Stream.{Call, append, append_empty_data, append_raw, append_raw_checked, begin_list, begin_unbounded_list}
-use Rattle.rlp.specs.Streams.Stream.{finalize_unbounded_list, append_internal, encode_value, clear, effect, is_admitted, is_within_size, after}
-use Rattle.rlp.specs.Streams.Described.{Step, brings, opens, finishes, clears, DescribesWhere, by_append, by_empty_data, by_raw}
-use Rattle.rlp.specs.Streams.Described.{by_checked_raw, by_refused_raw, by_empty_list, by_list, by_unbounded_list, by_finalize, by_internal_list}
-use Rattle.rlp.specs.Streams.Described.{by_clear, AreDescribedWhere, AreDescribed, IsDescribedWhere, items_after_all, joined_list}
-use Rattle.rlp.specs.Streams.Described.{joined_stack}
+use Rattle.rlp.specs.Format.Encoding.{Item, list, list_of, join, IsSized}
+use Rattle.rlp.specs.Streams.Stream.{OpenList, Stack, empty_stack, has_room, awaited, State, initial_state, IsFinished, after_from}
+use Rattle.rlp.specs.Streams.Stream.{Call, append_raw, begin_list, effect, is_admitted, after}
+use Rattle.rlp.specs.Streams.Described.{Step, brings, opens, finishes, clears, DescribesWhere, by_append, by_raw, by_empty_list, by_list}
+use Rattle.rlp.specs.Streams.Described.{by_unbounded_list, by_finalize, by_clear, AreDescribedWhere, AreDescribed, IsDescribedWhere}
+use Rattle.rlp.specs.Streams.Described.{items_after_all, joined_list, joined_stack}
 use Rattle.rlp_tool.specs.{declared.building.Built.Built, declared.building.Built.TheVariants.{Finished, Open}}
 use Rattle.rlp_tool.specs.declared.building.BuildFault.{BuildFault}
 use Rattle.rlp_tool.specs.declared.building.BuildFault.TheVariants.{TooManyItems, NothingToFinish, RawNotItems, OutOfMemory}
@@ -34,78 +32,40 @@ room k (l ∷ ls) = room_in l.awaits
     room_in None = refl
     room_in (Some n) = refl
 
--- ---- one call
-
-cond-front : (b : Bool) (x y : State) (f : List ℕ) → x.front ≡ f → y.front ≡ f → (cond b x y).front ≡ f
-cond-front true x y f e g = e
-cond-front false x y f e g = g
-
-put_item-front : (x : Item) (s : State) → (put_item x s).front ≡ s.front
-put_item-front (string t) s = refl
-put_item-front (list xs) s = refl
-
--- no call changes the front
-effect-front : (c : Call) (s : State) → (effect c s).front ≡ s.front
-effect-front (append x) s = refl
-effect-front append_empty_data s = refl
-effect-front (append_raw bytes k) s = refl
-effect-front (append_raw_checked bytes k limit) s = cond-front (is_within_size bytes limit s) (count k (put bytes s)) s s.front refl refl
-effect-front (begin_list zero) s = refl
-effect-front (begin_list (suc n)) s = refl
-effect-front begin_unbounded_list s = refl
-effect-front finalize_unbounded_list s = refl
-effect-front (append_internal x) s = put_item-front x s
-effect-front (encode_value t) s = refl
-effect-front clear s = refl
-
--- ---- the calls so far
+-- ---- calls that are made
 
 pub cond_ok : (b : Bool) (r : Result State ℕ) (n : ℕ) (s : State) → cond b r (Err n) ≡ Ok s → IsTrue b × (r ≡ Ok s)
 cond_ok true r n s e = (refl, e)
 cond_ok false r n s e = absurd (let no : ⊥ = cc in no)
 
--- one more call after some that were admitted
-after-more : (calls : List Call) (c : Call) (n : ℕ) (s t : State) → after_from n s calls ≡ Ok t → IsTrue (is_admitted c t)
-    → after_from n s (calls ++ c ∷ []) ≡ Ok (effect c t)
-after-more [] c n s t e admitted =
-    let same : s ≡ t = cc in
-    cond-true (is_admitted c s) (Ok (effect c s)) (Err n) (subst (λ (u : State). IsTrue (is_admitted c u)) (sym same) admitted)
-    ∙ ap (λ (u : State). Ok (effect c u)) same
-after-more (d ∷ calls) c n s t e admitted =
-    let (here, rest) = cond_ok (is_admitted d s) (after_from (n + 1) (effect d s) calls) n t e in
-    cond-true (is_admitted d s) (after_from (n + 1) (effect d s) (calls ++ c ∷ [])) (Err n) here ∙ after-more calls c (n + 1) (effect d s) t rest admitted
+-- the steps that they are, and the state after them
+pub made_steps : (n : ℕ) (s : State) (calls : List Call) (t : State) → AreMade s calls t
+    → (steps : List Step) × AreDescribedWhere IsShallow s calls steps × (after_from n s calls ≡ Ok t)
+made_steps n s [] t is = ([], tt, ap (λ (u : State). Ok u) (sym is))
+made_steps n s (c ∷ calls) t (admitted, (m, step), made) =
+    let (steps, described, rest) = made_steps (n + 1) (effect c s) calls t made in
+    (m ∷ steps, (admitted, step, described), cond-true (is_admitted c s) (after_from (n + 1) (effect c s) calls) (Err n) admitted ∙ rest)
 
-described-more : (calls : List Call) (steps : List Step) (c : Call) (m : Step) (n : ℕ) (s t : State) → AreDescribedWhere IsShallow s calls steps
-    → after_from n s calls ≡ Ok t → IsTrue (is_admitted c t) → DescribesWhere IsShallow t c m
-    → AreDescribedWhere IsShallow s (calls ++ c ∷ []) (steps ++ m ∷ [])
-described-more [] [] c m n s t d e admitted step =
-    let same : t ≡ s = cc in
-    (subst (λ (u : State). IsTrue (is_admitted c u)) same admitted, subst (λ (u : State). DescribesWhere IsShallow u c m) same step, tt)
-described-more [] (k ∷ steps) c m n s t d e admitted step = absurd d
-described-more (b ∷ calls) [] c m n s t d e admitted step = absurd d
-described-more (b ∷ calls) (k ∷ steps) c m n s t d e admitted step = (
-  d.0,
-  d.1,
-  described-more calls steps c m (n + 1) (effect b s) t d.2 (cond_ok (is_admitted b s) (after_from (n + 1) (effect b s) calls) n t e).1
-      admitted step,
-)
+-- calls that are steps are made
+pub made_if : (n : ℕ) (s : State) (calls : List Call) (steps : List Step) (t : State) → AreDescribedWhere IsShallow s calls steps
+    → after_from n s calls ≡ Ok t → AreMade s calls t
+made_if n s [] [] t d e = let same : t ≡ s = cc in same
+made_if n s [] (m ∷ steps) t d e = absurd d
+made_if n s (c ∷ calls) [] t d e = absurd d
+made_if n s (c ∷ calls) (m ∷ steps) t d e =
+    (d.0, (m, d.1), made_if (n + 1) (effect c s) calls steps t d.2 (cond_ok (is_admitted c s) (after_from (n + 1) (effect c s) calls) n t e).1)
 
-pub made_none : (front : List ℕ) (s : State) → s ≡ initial_state front → AreMade front [] s
-made_none front s is =
-    record { taken = record { steps = []; described = tt }; admitted = ap (λ (u : State). Ok u) (sym is); same_front = ap (λ (u : State). u.front) is }
+pub made-append : (s : State) (xs ys : List Call) (t u : State) → AreMade s xs t → AreMade t ys u → AreMade s (xs ++ ys) u
+made-append s [] ys t u is made = subst (λ (v : State). AreMade v ys u) is made
+made-append s (c ∷ xs) ys t u made others = (made.0, made.1, made-append (effect c s) xs ys t u made.2 others)
 
--- one more call
-pub made_more : (front : List ℕ) (calls : List Call) (c : Call) (s t : State) → AreMade front calls s → IsTrue (is_admitted c s) → IsSomeStep c s
-    → t ≡ effect c s → AreMade front (calls ++ c ∷ []) t
-made_more front calls c s t made admitted (m, step) moved = record {
-  taken = record {
-    steps = made.taken.steps ++ m ∷ [];
-    described = described-more calls made.taken.steps c m 1 (initial_state front) s
-        made.taken.described made.admitted admitted step;
-  };
-  admitted = after-more calls c 1 (initial_state front) s made.admitted admitted ∙ ap (λ (u : State). Ok u) (sym moved);
-  same_front = ap (λ (u : State). u.front) moved ∙ effect-front c s ∙ made.same_front;
-}
+-- no call changes the front
+effect-front : (c : Call) (s : State) → (effect c s).front ≡ s.front
+effect-front c s = grind arith
+
+pub made_front : (s : State) (calls : List Call) (t : State) → AreMade s calls t → t.front ≡ s.front
+made_front s [] t is = ap (λ (u : State). u.front) is
+made_front s (c ∷ calls) t made = made_front (effect c s) calls t made.2 ∙ effect-front c s
 
 -- ---- the step that a call is
 
@@ -151,27 +111,11 @@ step_tested (Err e) item call bytes n view s is same sized fits a = tt
 -- all calls but two are always admitted
 pub admitted_other : {E : Type 0} (item : E → Item) (call : StreamCall E) (s : State) → ((bytes : Vec ℕ Global) (n : ℕ) → call ≡ Raw bytes n → ⊥)
     → (call ≡ Finish → ⊥) → IsTrue (is_admitted (call_of item call) s)
-admitted_other item (Value v) s raw finish = refl
-admitted_other item (Values vs) s raw finish = refl
-admitted_other item (Raw bytes n) s raw finish = absurd (raw bytes n refl)
-admitted_other item (Begin n) s raw finish = refl
-admitted_other item BeginUnbounded s raw finish = refl
-admitted_other item Finish s raw finish = absurd (finish refl)
-admitted_other item Clear s raw finish = refl
+admitted_other item call s raw finish = grind arith
 
 -- raw bytes that are a step are items
 pub step_brings : (c : Call) (m : Step) (s : State) → DescribesWhere IsShallow s c m → BringsItems c
-step_brings _ _ s (by_append x) = tt
-step_brings _ _ s by_empty_data = tt
-step_brings _ _ s (by_raw xs sized shallow) = record { brought = xs; joined = refl; counted = refl; shallow = shallow }
-step_brings _ _ s (by_checked_raw xs limit sized shallow within) = tt
-step_brings _ _ s (by_refused_raw bytes k limit beyond) = tt
-step_brings _ _ s by_empty_list = tt
-step_brings _ _ s (by_list n) = tt
-step_brings _ _ s by_unbounded_list = tt
-step_brings _ _ s by_finalize = tt
-step_brings _ _ s (by_internal_list xs) = tt
-step_brings _ _ s by_clear = tt
+step_brings c m s step = grind arith
 
 -- a described call, in the state before it
 described-at : (before : List Call) (c : Call) (later : List Call) (steps : List Step) (n : ℕ) (s t : State)
@@ -192,10 +136,10 @@ described_there front calls items place r d =
 
 -- ---- the result of the calls
 
-pub built : (front : List ℕ) (calls : List Call) (s : State) (b : Built) → after front calls ≡ Ok s → s.front ≡ front → IsHeld s b → IsBuilt front calls b
-built front calls s (Finished bytes) e same (closed, is) =
-    record { last = s; admitted = e; closed = closed; buffer = is ∙ ap (λ (f : List ℕ). f ++ s.stack.inner) same }
-built front calls s (Open size raw) e same (unfinished, closed, text) = record { last = s; admitted = e; unfinished = unfinished; closed = closed; text = text }
+-- the state after calls, by their steps, as in the law
+abbrev pub LeavesSteps : List ℕ → List Call → List Step → Type 0
+LeavesSteps front calls steps =
+    (last : State) × (after front calls ≡ Ok last) × (last.front ≡ front) × (last.stack ≡ joined_stack (items_after_all steps empty_stack))
 
 -- the state after described calls, as in the law
 abbrev pub Leaves : List ℕ → List Call → List Item → Type 0
@@ -226,11 +170,6 @@ described_refused front calls items (RawNotItems place) d r =
     let (admitted, (m, step)) = described_there front calls items place r d in absurd (r.refused.1 (step_brings r.call m r.met step))
 described_refused front calls items OutOfMemory d r = refl
 
--- the state after calls, by their steps, as in the law
-abbrev pub LeavesSteps : List ℕ → List Call → List Step → Type 0
-LeavesSteps front calls steps =
-    (last : State) × (after front calls ≡ Ok last) × (last.front ≡ front) × (last.stack ≡ joined_stack (items_after_all steps empty_stack))
-
 no_lists : (ls : List (OpenList Item)) → map joined_list ls ≡ [] → ls ≡ []
 no_lists [] e = refl
 no_lists (l ∷ ls) e = absurd (let no : ⊥ = cc in no)
@@ -254,11 +193,30 @@ are_joined front calls s bytes taken law made closed is =
       joined = is ∙ ap (λ (t : Stack ℕ). front ++ t.inner) stacks;
     }
 
-pub joined_built : (front : List ℕ) (calls : List Call) (s : State) (b : Built) (made : AreMade front calls s)
-    → (AreDescribed (initial_state front) calls made.taken.steps → LeavesSteps front calls made.taken.steps) → IsHeld s b → IsJoined front calls b
-joined_built front calls s (Finished bytes) made law (closed, is) =
-    are_joined front calls s bytes.items made.taken law made.admitted closed (is ∙ ap (λ (f : List ℕ). f ++ s.stack.inner) made.same_front)
-joined_built front calls s (Open size raw) made law is = tt
+-- all calls were made, and what the stream holds is their result
+module _ (front : List ℕ) (calls : List Call) (s : State) (made : AreMade (initial_state front) calls s)
+    (law : (steps : List Step) → AreDescribed (initial_state front) calls steps → LeavesSteps front calls steps) where
+  abbrev run : (steps : List Step) × AreDescribedWhere IsShallow (initial_state front) calls steps × (after front calls ≡ Ok s)
+  run = made_steps 1 (initial_state front) calls s made
+
+  abbrev pub all_taken : AreTaken front calls
+  all_taken = record { steps = run.0; described = run.1 }
+
+  same_front : s.front ≡ front
+  same_front =
+      let (last, admitted, same, stack) = law run.0 (steps_anyhow IsShallow front calls run.0 run.1) in
+      ap (λ (u : State). u.front) (same_last (after front calls) s last run.2 admitted) ∙ same
+
+  held_buffer : (bytes : List ℕ) → bytes ≡ s.front ++ s.stack.inner → bytes ≡ front ++ s.stack.inner
+  held_buffer bytes is = is ∙ ap (λ (f : List ℕ). f ++ s.stack.inner) same_front
+
+  pub built : (b : Built) → IsHeld s b → IsBuilt front calls b
+  built (Finished bytes) (closed, is) = record { last = s; admitted = run.2; closed = closed; buffer = held_buffer bytes.items is }
+  built (Open size raw) (unfinished, closed, text) = record { last = s; admitted = run.2; unfinished = unfinished; closed = closed; text = text }
+
+  pub joined_built : (b : Built) → IsHeld s b → IsJoined front calls b
+  joined_built (Finished bytes) (closed, is) = are_joined front calls s bytes.items all_taken (law run.0) run.2 closed (held_buffer bytes.items is)
+  joined_built (Open size raw) is = tt
 
 -- ---- through a result
 

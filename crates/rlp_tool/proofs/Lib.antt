@@ -12,5 +12,3 @@ pub mod MakingLemmas
 pub mod SaidLemmas
 -- the answers to lines of calls
 pub mod AnswerLemmas
--- calls that finish, and calls that leave a list open
-pub mod AlikeLemmas

@@ -1,11 +1,12 @@
 -- Raw bytes that are items.
-use Rattle.std.proofs.Common.{◌≡◌, ℕ, ◌-◌, ◌^◌, ◌<◌, ◌≤◌, ◌↔◌, Bool, true, false, List, [], ◌∷◌, ◌++◌, length, map, All, refl, sym, ap}
-use Rattle.std.proofs.{Common.{◌∙◌, subst, arith, length-append, IsTrue, Ok, pos_of_ne-zero, nat_eq}, lemmas.Slice.Eq.bytes_eq-Decides}
+use Rattle.std.proofs.Common.{◌≡◌, ℕ, ◌-◌, ◌^◌, ◌<◌, ◌↔◌, true, false, List, [], ◌∷◌, ◌++◌, length, map, All, refl, sym, ap}
+use Rattle.std.proofs.{Common.{◌∙◌, subst, arith, IsTrue, Ok, nat_eq}, lemmas.Slice.Eq.bytes_eq-Decides}
 use Rattle.std.proofs.{lemmas.Bool.Decides.{nat_tests, Decides-eqb}, lemmas.Bool.and_parts, lemmas.List.append_cancel_left}
 use Rattle.std.proofs.lemmas.List.Elements.{recursion_from_All, All-from_recursion}
 use Rattle.std.specs.{Str.bytes_eq, Cmp.Derive.both_true, List.AllByRecursion}
-use Rattle.rlp.specs.{Format.Encoding.{Item, encoding, join, BeginsWith, IsSized}, Format.Framing.{IsFramed, frame, split, IsCanonicalWithin}}
-use Rattle.rlp_reading.proofs.{Lemmas.Frames.split_join, Lemmas.RawItems.{item_within-encoding, shallow_within}, Lemmas.Views.sized_items}
+use Rattle.rlp.specs.{Format.Encoding.{Item, encoding, join, BeginsWith, IsSized}, Format.Framing.{IsFramed, split, IsCanonicalWithin}}
+use Rattle.rlp_reading.specs.Format.Framing.{frame, framing, header}
+use Rattle.rlp_reading.proofs.{Lemmas.{Frames.split_join, Items.item_within-encoding, Views.sized_items}, RawLaws.shallow_within}
 use Rattle.rlp_tool.specs.RawItems.{AreRawItems, IsShallow, are_raw_items, deepest_raw_item, item_within, raw_items}
 
 -- ---- the rest of raw bytes
@@ -14,107 +15,58 @@ use Rattle.rlp_tool.specs.RawItems.{AreRawItems, IsShallow, are_raw_items, deepe
 abbrev pub FramesEncodings : List ℕ → Type 0
 FramesEncodings b = (x : Item) → BeginsWith b (encoding x) → IsFramed b × (frame b ≡ Ok (encoding x))
 
-pub none_left : (count : ℕ) (b : List ℕ) → b ≡ [] → count ≡ 0 → AreRawItems b count
-none_left count b none zero_left = record { brought = []; joined = none; counted = sym zero_left; shallow = All-from_recursion IsShallow [] tt }
+-- an empty slice doesn't begin with an item
+nothing_framed : (x : Item) → frame [] ≡ Ok (encoding x) → ⊥
+unfolding frame framing header
+nothing_framed x e = cc
+
+none_by : (b : List ℕ) (xs : List Item) → FramesEncodings b → b ≡ [] → b ≡ join xs → length xs ≡ 0
+none_by b [] frames none joined = refl
+none_by b (x ∷ xs) frames none joined =
+    absurd (nothing_framed x (subst (λ e. frame e ≡ Ok (encoding x)) none (frames x (join xs, joined)).1))
 
 -- an empty slice has no items
-pub none_brought : (b : List ℕ) (count : ℕ) → ((xs : List Item) → length (join xs) < 2 ^ 64 → All IsSized xs)
-    → ((xs ys : List Item) → All IsSized xs → All IsSized ys → (join xs ≡ join ys) ↔ (xs ≡ ys)) → length b < 2 ^ 64 → b ≡ [] → AreRawItems b count → count ≡ 0
-none_brought b count sized same fits none is =
-    let joined : join is.brought ≡ [] = sym is.joined ∙ none in
-    let empty : is.brought ≡ [] = (same is.brought [] (sized is.brought (omega (arith, ap length joined))) (All-from_recursion IsSized [] tt)).0 joined in
-    sym is.counted ∙ ap length empty
+pub no_items : (b : List ℕ) (count : ℕ) → FramesEncodings b → b ≡ [] → AreRawItems b count ↔ (count ≡ 0)
+no_items b count frames none = (
+  λ a. sym a.counted ∙ none_by b a.brought frames none a.joined,
+  λ zero_left. record { brought = []; joined = none; counted = sym zero_left; shallow = All-from_recursion IsShallow [] tt },
+)
 
-stray_bytes_by : (b : List ℕ) (xs : List Item) → FramesEncodings b → 0 < length b → ¬ IsFramed b → b ≡ join xs → ⊥
-stray_bytes_by b [] frames some unframed joined = omega (arith, ap length joined)
-stray_bytes_by b (x ∷ xs) frames some unframed joined = unframed (frames x (join xs, joined)).0
+stray_by : (b : List ℕ) (xs : List Item) → FramesEncodings b → 0 < length b → ¬ IsFramed b → b ≡ join xs → ⊥
+stray_by b [] frames some unframed joined = omega (arith, ap length joined)
+stray_by b (x ∷ xs) frames some unframed joined = unframed (frames x (join xs, joined)).0
 
 -- bytes that don't begin with an item aren't items
 pub stray_bytes : (b : List ℕ) (count : ℕ) → FramesEncodings b → 0 < length b → ¬ IsFramed b → AreRawItems b count → ⊥
-stray_bytes b count frames some unframed is = stray_bytes_by b is.brought frames some unframed is.joined
+stray_bytes b count frames some unframed is = stray_by b is.brought frames some unframed is.joined
 
-stray_rest_by : (b : List ℕ) (xs : List Item) → 0 < length b → length xs ≡ 0 → b ≡ join xs → ⊥
-stray_rest_by b [] some none joined = omega (arith, ap length joined)
-stray_rest_by b (x ∷ xs) some none joined = omega (arith, none)
-
--- bytes that aren't empty aren't 0 items
-pub stray_rest : (b : List ℕ) (count : ℕ) → 0 < length b → count ≡ 0 → AreRawItems b count → ⊥
-stray_rest b count some none is = stray_rest_by b is.brought some (is.counted ∙ none) is.joined
-
--- the first item, and the bytes after it
-record IsFirst (b item others : List ℕ) (xs : List Item) : Type 0 where
-  head : Item
-  tail : List Item
-  whole : xs ≡ head ∷ tail
-  same : item ≡ encoding head
-  left : others ≡ join tail
-
-first_of : (b item others : List ℕ) (xs : List Item) → FramesEncodings b → 0 < length b → frame b ≡ Ok item → b ≡ item ++ others → b ≡ join xs
-    → IsFirst b item others xs
-first_of b item others [] frames some framed is joined = absurd (omega (arith, ap length joined))
-first_of b item others (x ∷ xs) frames some framed is joined =
+first_by : (b item others : List ℕ) (count : ℕ) (xs : List Item) → FramesEncodings b → 0 < length b → frame b ≡ Ok item → b ≡ item ++ others → b ≡ join xs
+    → length xs ≡ count → AllByRecursion IsShallow xs → (0 < count) × IsCanonicalWithin deepest_raw_item item × AreRawItems others (count - 1)
+first_by b item others count [] frames some framed is joined counted shallow = absurd (omega (arith, ap length joined))
+first_by b item others count (x ∷ xs) frames some framed is joined counted shallow =
     let other : frame b ≡ Ok (encoding x) = (frames x (join xs, joined)).1 in
-    let same : item ≡ encoding x = cc in
-    record {
-      head = x;
-      tail = xs;
-      whole = refl;
-      same = same;
-      left = append_cancel_left item others (join xs)
-          (sym is ∙ joined ∙ ap (λ f. f ++ join xs) (sym same));
-    }
-
-all_shallow : (xs tail : List Item) (x : Item) → xs ≡ x ∷ tail → All IsShallow xs → IsShallow x × All IsShallow tail
-all_shallow xs tail x whole shallow =
-    let deep : AllByRecursion IsShallow (x ∷ tail) = recursion_from_All IsShallow (x ∷ tail) (subst (λ ys. All IsShallow ys) whole shallow) in
-    (deep.0, All-from_recursion IsShallow tail deep.1)
-
--- bytes that begin with an item that isn't canonical, or is too deep, aren't such items
-pub stray_item : (b item others : List ℕ) (count : ℕ) → FramesEncodings b → 0 < length b → frame b ≡ Ok item → b ≡ item ++ others
-    → ¬ IsCanonicalWithin deepest_raw_item item → AreRawItems b count → ⊥
-stray_item b item others count frames some framed is other a =
-    let f = first_of b item others a.brought frames some framed is a.joined in
-    other (f.head, f.same, (all_shallow a.brought f.tail f.head f.whole a.shallow).0)
-
--- after the first of raw items, the rest is one item fewer
-fewer : (b item others : List ℕ) (count : ℕ) → FramesEncodings b → 0 < length b → frame b ≡ Ok item → b ≡ item ++ others → AreRawItems b count
-    → AreRawItems others (count - 1)
-fewer b item others count frames some framed is a =
-    let f = first_of b item others a.brought frames some framed is a.joined in
-    record {
-      brought = f.tail;
-      joined = f.left;
-      counted = omega (arith, a.counted, ap length f.whole);
-      shallow =
-          (all_shallow a.brought f.tail f.head f.whole a.shallow).1;
-    }
-
-more : (b item others : List ℕ) (count : ℕ) → b ≡ item ++ others → IsCanonicalWithin deepest_raw_item item → 0 < count
-    → AreRawItems others (count - 1) → AreRawItems b count
-more b item others count is (x, same, deep) some rest = record {
-  brought = x ∷ rest.brought;
-  joined = is ∙ ap (λ f. f ++ others) same ∙ ap (λ s. encoding x ++ s) rest.joined;
-  counted = omega (arith, rest.counted);
-  shallow = All-from_recursion IsShallow (x ∷ rest.brought) (deep, recursion_from_All IsShallow rest.brought rest.shallow);
-}
-
--- the walk goes on after a canonical item
-pub next_item : (all : List ℕ) (total : ℕ) (b item others : List ℕ) (count left : ℕ) → FramesEncodings b → 0 < length b
-    → (AreRawItems all total ↔ AreRawItems b count) → frame b ≡ Ok item → b ≡ item ++ others → IsCanonicalWithin deepest_raw_item item
-    → (count ≡ 0 → ⊥) → left ≡ count - 1
-    → AreRawItems all total ↔ AreRawItems others left
-next_item all total b item others count left frames some walked framed is canonical awaits one =
-    let positive : 0 < count = pos_of_ne-zero awaits in (
-      λ a. subst (AreRawItems others) (sym one) (fewer b item others count frames some framed is (walked.0 a)),
-      λ a. walked.1 (more b item others count is canonical positive (subst (AreRawItems others) one a)),
+    let same : item ≡ encoding x = cc in (
+      omega (arith, counted),
+      (x, same, shallow.0),
+      record {
+        brought = xs;
+        joined = append_cancel_left item others (join xs) (sym is ∙ joined ∙ ap (λ f. f ++ join xs) (sym same));
+        counted = omega (arith, counted);
+        shallow = All-from_recursion IsShallow xs shallow.1;
+      },
     )
 
--- at the end no item is awaited
-pub at_end : (all : List ℕ) (total : ℕ) (b : List ℕ) (count : ℕ) (r : Bool) → (AreRawItems b count → count ≡ 0)
-    → (AreRawItems all total ↔ AreRawItems b count) → b ≡ [] → (IsTrue r ↔ (count ≡ 0)) → IsTrue r ↔ AreRawItems all total
-at_end all total b count r brought walked none found = (
-  λ t. walked.1 (none_left count b none (found.0 t)),
-  λ a. found.1 (brought (walked.0 a)),
+-- bytes that begin with an item are items if that one is canonical and not too deep, and the rest is one item fewer
+pub first_item : (b item others : List ℕ) (count : ℕ) → FramesEncodings b → 0 < length b → frame b ≡ Ok item → b ≡ item ++ others
+    → AreRawItems b count ↔ ((0 < count) × IsCanonicalWithin deepest_raw_item item × AreRawItems others (count - 1))
+first_item b item others count frames some framed is = (
+  λ a. first_by b item others count a.brought frames some framed is a.joined a.counted (recursion_from_All IsShallow a.brought a.shallow),
+  λ (positive, (x, same, deep), rest). record {
+    brought = x ∷ rest.brought;
+    joined = is ∙ ap (λ f. f ++ others) same ∙ ap (λ s. encoding x ++ s) rest.joined;
+    counted = omega (arith, rest.counted, positive);
+    shallow = All-from_recursion IsShallow (x ∷ rest.brought) (deep, recursion_from_All IsShallow rest.brought rest.shallow);
+  },
 )
 
 never : false ≡ true → ⊥
@@ -134,9 +86,6 @@ no_bytes (c ∷ b) is = absurd (let no : ⊥ = grind (arith, nat_tests) in no)
 pub not_empty : (b : List ℕ) → false ≡ nat_eq (length b) 0 → 0 < length b
 not_empty [] is = absurd (let no : ⊥ = cc in no)
 not_empty (c ∷ b) is = omega arith
-
-pub shorter_rest : (b item others : List ℕ) → b ≡ item ++ others → length others ≤ length b
-shorter_rest b item others is = omega (arith, ap length is, length-append item others)
 
 pub not_true : {P : Type 0} → (P → IsTrue false) → P → ⊥
 not_true from p = never (from p)

@@ -1,18 +1,18 @@
 -- The calls of a line whose answer is `out`.
-use Rattle.std.proofs.Common.{◌≡◌, ℕ, suc, ◌+◌, ◌-◌, ◌^◌, ◌<◌, ◌≤◌, ◌==◌, Bool, true, false, cond, List, [], ◌∷◌, ◌++◌, length, length-take, take}
-use Rattle.std.proofs.Common.{drop, get_or, codes, decimal, Option, Some, None, Result, Ok, Err, IsTrue, All, option_map, position, filter_map, refl}
-use Rattle.std.proofs.{Common.{sym, ap, ◌∙◌, subst, arith}, lemmas.Bool.{cond-true, cond-false}, lemmas.List.length-drop}
+use Rattle.std.proofs.Common.{◌≡◌, ℕ, suc, ◌+◌, ◌-◌, ◌^◌, ◌<◌, ◌≤◌, ◌==◌, Bool, true, false, cond, List, [], ◌∷◌, ◌++◌, length, length-take}
+use Rattle.std.proofs.Common.{drop, get_or, codes, decimal, Option, Some, None, Result, Ok, Err, IsTrue, All, position, filter_map, refl}
+use Rattle.std.proofs.{Common.{sym, ap, subst, arith}, lemmas.Bool.{cond-true, cond-false}, lemmas.List.length-drop}
 use Rattle.std.proofs.lemmas.List.Splits.{slice_split-cons_yes, slice_split-cons_no}
 use Rattle.std.specs.{List.{list_all, prefix_len, cons_option, onto_first}, Str.byte, Str.Lines.strip_carriage_return, Result.result_ok}
 use Rattle.hex.specs.{Hex.decode_of, declared.error.FromHexError.FromHexError}
 use Rattle.hex.proofs.HexLemmas.{decode_of-ok}
-use Rattle.rlp.specs.{Format.Encoding.{Item, string, join, BeginsWith, IsSized}, Streams.Stream.{OpenList, State, IsFinished}}
-use Rattle.rlp.specs.Streams.Stream.{Call, append, append_empty_data, append_raw, append_raw_checked, begin_list, begin_unbounded_list}
-use Rattle.rlp.specs.Streams.Stream.{finalize_unbounded_list, append_internal, encode_value, clear, effect, is_admitted, after_from}
-use Rattle.rlp.specs.Streams.Described.{Step, brings, opens, finishes, clears, by_append, by_unbounded_list, by_finalize, by_clear, AreDescribedWhere}
-use Rattle.rlp_tool.specs.{Answer.{brings_items, outcome_answer, refusal_name, state_answer}, Building.{IsSomeStep, is_raw}, RawItems.IsShallow}
-use Rattle.rlp_tool.specs.{Script.{call_in, is_call, labelled_call, letter_call, raw_call, raw_parts, script}, Pieces.spaces}
-use Rattle.rlp_lines.specs.Digits.{bytes_in, digits_of, number_in}
+use Rattle.rlp.specs.{Format.Encoding.{Item, join, BeginsWith, IsSized}, Streams.Stream.{OpenList, State, IsFinished}}
+use Rattle.rlp.specs.Streams.Stream.{Call, append, append_raw, begin_list, begin_unbounded_list}
+use Rattle.rlp.specs.Streams.Stream.{finalize_unbounded_list, clear, effect, is_admitted}
+use Rattle.rlp.specs.Streams.Described.{brings, opens, finishes, clears, by_append, by_unbounded_list, by_finalize, by_clear}
+use Rattle.rlp_tool.specs.{Answer.{brings_items, outcome_answer, refusal_name, state_answer}, Building.{IsSomeStep, is_raw}, Making.AreMade}
+use Rattle.rlp_tool.specs.{Script.{call_in, is_call, raw_call, raw_parts, script}, Pieces.spaces}
+use Rattle.rlp_lines.specs.Digits.{bytes_in, digits_of}
 use Rattle.rlp_tool.proofs.{CallsLemmas.{step_begin, step_raw}, RawLemmas.are_raw_items-told}
 
 -- ---- the calls of a script
@@ -25,10 +25,7 @@ IsSaid n (begin_list m) = Unit
 IsSaid n begin_unbounded_list = Unit
 IsSaid n finalize_unbounded_list = Unit
 IsSaid n clear = Unit
-IsSaid n append_empty_data = ⊥
-IsSaid n (append_raw_checked bytes k limit) = ⊥
-IsSaid n (append_internal x) = ⊥
-IsSaid n (encode_value t) = ⊥
+IsSaid n _ = ⊥
 
 abbrev IsSaidIfAny : ℕ → Option Call → Type 0
 IsSaidIfAny n None = Unit
@@ -38,40 +35,21 @@ abbrev pub AreSaid : ℕ → List Call → Type 0
 AreSaid n [] = Unit
 AreSaid n (c ∷ cs) = IsSaid n c × AreSaid n cs
 
-said_cond : (n : ℕ) (b : Bool) (x y : Option Call) → IsSaidIfAny n x → IsSaidIfAny n y → IsSaidIfAny n (cond b x y)
-said_cond n true x y h k = h
-said_cond n false x y h k = k
-
-letter_said : (n letter : ℕ) → IsSaidIfAny n (letter_call letter)
-letter_said n letter = said_cond n (letter == byte "u") _ _ tt (said_cond n (letter == byte "e") _ _ tt (said_cond n (letter == byte "c") _ _ tt tt))
-
 length-read : (r : Result (List ℕ) FromHexError) (digits bytes : List ℕ) → decode_of digits ≡ r → result_ok r ≡ Some bytes → length bytes ≤ length digits
 length-read (Ok read) digits bytes is e =
     let same : read ≡ bytes = cc in
     omega (arith, (decode_of-ok digits read is).2, ap length same)
 length-read (Err fault) digits bytes is e = absurd (let no : ⊥ = cc in no)
 
-length-cond : (b : Bool) (x y : List ℕ) (n : ℕ) → length x ≤ n → length y ≤ n → length (cond b x y) ≤ n
-length-cond true x y n h k = h
-length-cond false x y n h k = k
-
 length-digits_of : (text : List ℕ) → length (digits_of text) ≤ length text
-length-digits_of text = length-cond _ (drop 2 text) text (length text) (omega (arith, length-drop 2 text)) (omega arith)
+length-digits_of text = grind (arith, length-drop {A = ℕ})
 
 pub length-stripped : (line : List ℕ) → length (strip_carriage_return line) ≤ length line
-length-stripped line = length-cond _ (take (length line - 1) line) line (length line) (omega (arith, length-take (length line - 1) line)) (omega arith)
+length-stripped line = grind (arith, length-take {A = ℕ})
 
 -- a text writes fewer bytes than it has
 length-bytes_in : (text bytes : List ℕ) → bytes_in text ≡ Some bytes → length bytes ≤ length text
 length-bytes_in text bytes e = omega (arith, length-read (decode_of (digits_of text)) (digits_of text) bytes refl e, length-digits_of text)
-
-string_said : (n : ℕ) (o : Option (List ℕ)) → IsSaidIfAny n (option_map (λ bytes. append (string bytes)) o)
-string_said n (Some bytes) = tt
-string_said n None = tt
-
-list_said : (n : ℕ) (o : Option ℕ) → IsSaidIfAny n (option_map begin_list o)
-list_said n (Some count) = tt
-list_said n None = tt
 
 raw_said : (n : ℕ) (count : Option ℕ) (o : Option (List ℕ)) → ((bytes : List ℕ) → o ≡ Some bytes → length bytes ≤ n) → IsSaidIfAny n (raw_call count o)
 raw_said n (Some count) (Some bytes) short = short bytes refl
@@ -83,16 +61,12 @@ raw_parts_said n text None within = tt
 raw_parts_said n text (Some at) within =
     raw_said n _ (bytes_in (drop (at + 1) text)) (λ bytes e. omega (arith, within, length-bytes_in (drop (at + 1) text) bytes e, length-drop (at + 1) text))
 
-labelled_said : (n letter : ℕ) (text : List ℕ) → length text ≤ n → IsSaidIfAny n (labelled_call letter text)
-labelled_said n letter text within =
-    said_cond n (letter == byte "d") _ _ (string_said n (bytes_in text))
-    (said_cond n (letter == byte "r") _ _ (raw_parts_said n text (position (λ b. b == byte ":") text) within)
-    (said_cond n (letter == byte "l") _ _ (list_said n (number_in text)) tt))
-
 piece_said : (n : ℕ) (piece : List ℕ) → length piece ≤ n → IsSaidIfAny n (call_in piece)
 piece_said n [] within = tt
-piece_said n (letter ∷ []) within = letter_said n letter
-piece_said n (letter ∷ colon ∷ text) within = said_cond n (colon == byte ":") _ _ (labelled_said n letter text (omega (arith, within))) tt
+piece_said n (letter ∷ []) within = grind arith
+piece_said n (letter ∷ colon ∷ text) within =
+    let raw = raw_parts_said n text (position (λ b. b == byte ":") text) (omega (arith, within)) in
+    grind arith
 
 -- pieces of at most n bytes
 abbrev AreShort : ℕ → List (List ℕ) → Type 0
@@ -138,14 +112,6 @@ script_said (b ∷ text) calls e =
 
 -- ---- answers that begin with `out`
 
--- the steps that calls are, from the state s on, and the state after them, in which no list is open
-pub record EndFinished (place : ℕ) (s : State) (calls : List Call) : Type 0 where
-  pub steps : List Step
-  pub described : AreDescribedWhere IsShallow s calls steps
-  pub last : State
-  pub admitted : after_from place s calls ≡ Ok last
-  pub closed : IsFinished last
-
 said_step : (n : ℕ) (c : Call) (s : State) → ((xs : List Item) → length (join xs) < 2 ^ 64 → All IsSized xs) → n < 2 ^ 64 → IsSaid n c
     → IsTrue (brings_items c) → IsSomeStep c s
 said_step n (append x) s sized fits said passed = (brings (x ∷ []), by_append x)
@@ -154,10 +120,7 @@ said_step n (begin_list m) s sized fits said passed = step_begin m s
 said_step n begin_unbounded_list s sized fits said passed = (opens None, by_unbounded_list)
 said_step n finalize_unbounded_list s sized fits said passed = (finishes, by_finalize)
 said_step n clear s sized fits said passed = (clears, by_clear)
-said_step n append_empty_data s sized fits said passed = absurd said
-said_step n (append_raw_checked bytes k limit) s sized fits said passed = absurd said
-said_step n (append_internal x) s sized fits said passed = absurd said
-said_step n (encode_value t) s sized fits said passed = absurd said
+said_step n _ s sized fits said passed = absurd said
 
 none_open : (ls : List (OpenList ℕ)) (s : State) → BeginsWith (state_answer ls s) (codes "out") → ls ≡ []
 none_open [] s begins = refl
@@ -171,29 +134,23 @@ refusal_differs false number begins = omega (arith, ap (λ (a : List ℕ). get_o
 raw_differs : (number : List ℕ) → BeginsWith (codes "error raw not items at " ++ number) (codes "out") → ⊥
 raw_differs number begins = omega (arith, ap (λ (a : List ℕ). get_or a 0 0) begins.1)
 
--- calls of a script whose answer is `out` are steps, and leave no list open
+-- calls of a script whose answer is `out` are made, and leave no list open
 pub end_finished : (n place : ℕ) (s : State) (calls : List Call) → ((xs : List Item) → length (join xs) < 2 ^ 64 → All IsSized xs) → n < 2 ^ 64
-    → AreSaid n calls → BeginsWith (outcome_answer place s calls) (codes "out") → EndFinished place s calls
-end_finished n place s [] sized fits said begins = record { steps = []; described = tt; last = s; admitted = refl; closed = none_open s.stack.lists s begins }
+    → AreSaid n calls → BeginsWith (outcome_answer place s calls) (codes "out") → (last : State) × AreMade s calls last × IsFinished last
+end_finished n place s [] sized fits said begins = (s, refl, none_open s.stack.lists s begins)
 end_finished n place s (c ∷ calls) sized fits said begins =
     let Starts : List ℕ → Type 0 = λ a. BeginsWith a (codes "out") in
     let next = outcome_answer (place + 1) (effect c s) calls in
     let raw = codes "error raw not items at " ++ decimal place in
     let refused = refusal_name c ++ decimal place in
-    elim (is_admitted c s) as (λ test. is_admitted c s ≡ test → EndFinished place s (c ∷ calls)) [
+    elim (is_admitted c s) as (λ test. is_admitted c s ≡ test → (last : State) × AreMade s (c ∷ calls) last × IsFinished last) [
       | true ↦ λ admitted.
           let made : Starts (cond (brings_items c) next raw) = subst Starts (cond-true (is_admitted c s) (cond (brings_items c) next raw) refused admitted) begins in
-          elim (brings_items c) as (λ test. brings_items c ≡ test → EndFinished place s (c ∷ calls)) [
+          elim (brings_items c) as (λ test. brings_items c ≡ test → (last : State) × AreMade s (c ∷ calls) last × IsFinished last) [
             | true ↦ λ passed.
-                let rest = end_finished n (place + 1) (effect c s) calls sized fits said.1 (subst Starts (cond-true (brings_items c) next raw passed) made) in
-                let (m, step) = said_step n c s sized fits said.0 passed in
-                record {
-                  steps = m ∷ rest.steps;
-                  described = (admitted, step, rest.described);
-                  last = rest.last;
-                  admitted = cond-true (is_admitted c s) (after_from (place + 1) (effect c s) calls) (Err place) admitted ∙ rest.admitted;
-                  closed = rest.closed;
-                }
+                let (last, others, closed) = end_finished n (place + 1) (effect c s) calls sized fits said.1
+                (subst Starts (cond-true (brings_items c) next raw passed) made) in
+                (last, (admitted, said_step n c s sized fits said.0 passed, others), closed)
             | false ↦ λ failed. absurd (raw_differs (decimal place) (subst Starts (cond-false (brings_items c) next raw failed) made))
           ] refl
       | false ↦ λ barred. absurd (refusal_differs (is_raw c) (decimal place)

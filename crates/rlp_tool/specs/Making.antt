@@ -1,11 +1,11 @@
 -- Calls that are made one after another, for private functions.
-use Rattle.std.specs.Prelude.{ℕ, ◌≡◌, ◌+◌, IsTrue, List, [], ◌++◌, length, codes, decimal, Result, Ok, Err}
-use Rattle.rlp.specs.Streams.Stream.{State, IsFinished, closed_size, raw_text, Call, is_admitted, effect, after}
+use Rattle.std.specs.Prelude.{ℕ, ◌≡◌, ◌+◌, IsTrue, List, [], ◌∷◌, ◌++◌, length, codes, decimal, Result, Ok, Err}
+use Rattle.rlp.specs.Streams.Stream.{State, initial_state, IsFinished, closed_size, raw_text, Call, is_admitted, effect}
 use Rattle.rlp_tool.specs.{declared.building.Built.Built, declared.building.Built.TheVariants.{Finished, Open}}
 use Rattle.rlp_tool.specs.declared.building.BuildFault.{BuildFault}
 use Rattle.rlp_tool.specs.declared.building.BuildFault.TheVariants.{TooManyItems, NothingToFinish, RawNotItems, OutOfMemory}
 use Rattle.rlp_tool.specs.{declared.making.LineFault.LineFault, declared.making.LineFault.TheVariants.{Syntax, Failed}, Script.{prepend, script}}
-use Rattle.rlp_tool.specs.Building.{AreTaken, BringsTooMany, BringsNoItems, HasNothingToFinish, IsRefusal, IsSomeStep}
+use Rattle.rlp_tool.specs.Building.{BringsTooMany, BringsNoItems, HasNothingToFinish, IsRefusal, IsSomeStep}
 
 -- why a call fails, in this state and this place
 abbrev pub Fails : Call → State → ℕ → BuildFault → Type 0
@@ -18,24 +18,32 @@ Fails call s place OutOfMemory = Unit
 abbrev pub IsTaken : Call → State → State → Type 0
 IsTaken call s t = IsTrue (is_admitted call s) × IsSomeStep call s × (t ≡ effect call s)
 
--- no call over the front failed, and the calls have led to this state
-pub record AreMade (front : List ℕ) (calls : List Call) (s : State) : Type 0 where
-  pub taken : AreTaken front calls
-  pub admitted : after front calls ≡ Ok s
-  pub same_front : s.front ≡ front
+-- each call passes its test, and they lead from the state s to the state t
+abbrev pub AreMade : State → List Call → State → Type 0
+AreMade s [] t = t ≡ s
+AreMade s (call ∷ calls) t = IsTrue (is_admitted call s) × IsSomeStep call s × AreMade (effect call s) calls t
 
--- no call over the front failed, or one of the calls did, whatever calls follow
-abbrev pub Goes : {T : Type 0} → List ℕ → List Call → State → Result T BuildFault → Type 0
-Goes front calls s (Ok end) = AreMade front calls s
-Goes front calls s (Err fault) = (later : List Call) → IsRefusal front (calls ++ later) fault
+-- one of the calls fails after those before it are made; `place` is the place of the first
+pub record IsStopped (s : State) (calls : List Call) (place : ℕ) (fault : BuildFault) : Type 0 where
+  pub before : List Call
+  pub call : Call
+  pub later : List Call
+  pub in_order : calls ≡ before ++ call ∷ later
+  pub met : State
+  pub made : AreMade s before met
+  pub fails : Fails call met (place + length before) fault
 
--- after some calls over the front, further calls are made, up to the first call that fails. `place` is the place of the next call.
-pub record MakesSome {T : Type 0} (front : List ℕ) (before : List Call) (old new : Result (List Call) ℕ) (place : ℕ) (s : State) (result : Result T BuildFault)
-    : Type 0 where
+-- the calls are made, or one of them fails
+abbrev pub Goes : {T : Type 0} → State → List Call → ℕ → State → Result T BuildFault → Type 0
+Goes s calls place t (Ok end) = AreMade s calls t
+Goes s calls place t (Err fault) = IsStopped s calls place fault
+
+-- Some of the calls that are left are made, up to the first call that fails. `place` and `next` are the places of the next call before and after.
+pub record MakesSome {T : Type 0} (old new : Result (List Call) ℕ) (place next : ℕ) (s t : State) (result : Result T BuildFault) : Type 0 where
   pub made : List Call
   pub parts : old ≡ prepend made new
-  pub counted : place ≡ length (before ++ made) + 1
-  pub goes : Goes front (before ++ made) s result
+  pub counted : next ≡ place + length made
+  pub goes : Goes s made place t result
 
 -- no call comes next: no call is left, or the next piece isn't a call
 abbrev pub NoneIsNext : Result (List Call) ℕ → Type 0
@@ -50,7 +58,8 @@ IsHeld s (Open size raw) = ¬ IsFinished s × (size ≡ closed_size s) × (raw.i
 pub record MakesScript (text : List ℕ) (last : State) : Type 0 where
   pub calls : List Call
   pub says : script text ≡ Ok calls
-  pub made : AreMade [] calls last
+  pub made : AreMade (initial_state []) calls last
+  pub no_front : last.front ≡ []
 
 -- one of the calls of the script fails
 pub record StopsScript (text : List ℕ) (fault : BuildFault) : Type 0 where

@@ -50,16 +50,6 @@ fn view_answer(bytes: &[u8], out: &mut String) -> Result<(), AllocError>
     }
 }
 
-/// Appends a number in decimal.
-fn push_number(number: usize, out: &mut String) -> Result<(), AllocError>
-    ensures { OnOk result (string_bytes out.new ≡ string_bytes out.old ++ decimal number) }
-{
-    match write!(out, "{number}") {
-        Ok(()) => Ok(()),
-        Err(_) => Err(AllocError),
-    }
-}
-
 /// Appends a finished buffer.
 fn put_finished(bytes: &[u8], out: &mut String) -> Result<(), AllocError>
     ensures { OnOk result
@@ -77,10 +67,10 @@ fn put_open(size: usize, raw: &[u8], out: &mut String) -> Result<(), AllocError>
     ensures { OnOk result
         (string_bytes out.new ≡ string_bytes out.old ++ open_answer size raw.now) }
 {
-    out.push_str("open ")?;
-    push_number(size, out)?;
-    out.push_str(" ")?;
-    push_bytes(raw, out)
+    match write!(out, "open {size} ") {
+        Ok(()) => push_bytes(raw, out),
+        Err(_) => Err(AllocError),
+    }
 }
 
 /// Appends a fault and its place.
@@ -88,8 +78,10 @@ fn put_fault(name: &str, place: usize, out: &mut String) -> Result<(), AllocErro
     ensures { OnOk result
         (string_bytes out.new ≡ string_bytes out.old ++ (name.now ++ decimal place)) }
 {
-    out.push_str(name)?;
-    push_number(place, out)
+    match write!(out, "{name}{place}") {
+        Ok(()) => Ok(()),
+        Err(_) => Err(AllocError),
+    }
 }
 
 /// Appends the fault of a script. Fails with `AllocError` too if the fault is that memory was

@@ -1,16 +1,16 @@
 //! Makes calls of a stream over a front.
-ghost use Rattle.std.specs.Prelude.{ℕ, ◌≡◌, ◌++◌, ◌∷◌, [], ◌+◌, ◌^◌, ◌<◌, ◌↔◌, List, length, replicate, MatchOption, OnOk, IfOk, IfErr, IsTrue, Ok};
+ghost use Rattle.std.specs.Prelude.{◌≡◌, ◌++◌, ◌+◌, ◌^◌, ◌<◌, ◌↔◌, List, length, replicate, MatchOption, OnOk, IfOk, IfErr, IsTrue, Ok};
 ghost use Rattle.rlp.specs.{Format.Encoding.{Item, join}, Format.Framing.{IsFramed, frame}};
-ghost use Rattle.rlp.specs.Streams.Stream.{has_room, IsFinished, Call, append_raw, effect, finalize_unbounded_list, is_admitted};
+ghost use Rattle.rlp.specs.Streams.Stream.{has_room, append_raw, effect, finalize_unbounded_list, is_admitted};
 ghost use Rattle.rlp.specs.Streams.Described.{IsDescribed, IsDescribedWhere};
 ghost use Rattle.rlp_tool.specs.Building.{AreTaken, IsBuilt, IsRefusal, IsJoined, IsFinishedAs, IsSomeStep};
-ghost use Rattle.rlp_tool.specs.{Making.{AreMade, Fails, Goes, IsHeld, IsTaken}, RawItems.{AreRawItems, IsShallow}, declared.building.BuildFault.BuildFault};
+ghost use Rattle.rlp_tool.specs.{Making.{Fails, Goes, IsHeld, IsTaken}, RawItems.{AreRawItems, IsShallow}, declared.building.BuildFault.BuildFault};
 ghost use Rattle.rlp_tool.specs.StreamCalls.{call_of, calls_of};
 
 use crate::calls::{Calls, StreamCall, make_calls};
 use bytes::BytesMut;
 use rlp::laws::{
-    encoding_is_framed, frame_is_of_framed, join_is_injective, parts_of_sized_are_sized,
+    encoding_is_framed, frame_is_of_framed, parts_of_sized_are_sized,
     stream_joins_what_is_described, unbounded_lists_are_finalized_in_turn,
 };
 use rlp::{Encodable, Rlp, RlpStream};
@@ -76,8 +76,6 @@ fn first_item<'a>(bytes: &'a [u8]) -> Option<(&'a [u8], &'a [u8])>
 fn raw_items_are_canonical(bytes: &[u8], item_count: usize) -> bool
     ensures { IsTrue result ↔ AreRawItems bytes.now item_count }
 {
-    parts_of_sized_are_sized();
-    join_is_injective();
     let mut rest = bytes;
     let mut awaited = item_count;
     while !rest.is_empty() {
@@ -91,6 +89,7 @@ fn raw_items_are_canonical(bytes: &[u8], item_count: usize) -> bool
         awaited -= 1;
         rest = others;
     }
+    encoding_is_framed(rest);
     awaited == 0
 }
 
@@ -211,9 +210,8 @@ pub(crate) fn take_finishes(
     place: usize,
 ) -> Result<(), BuildFault>
     requires { place + count < 2 ^ 64 }
-    ensures { (front : List ℕ) (before : List Call) → AreMade front before stream.old.state
-        → place ≡ length before + 1
-        → Goes front (before ++ replicate count finalize_unbounded_list) stream.new.state result }
+    ensures { Goes stream.old.state (replicate count finalize_unbounded_list) place
+        stream.new.state result }
 {
     unbounded_lists_are_finalized_in_turn();
     let mut made = 0;

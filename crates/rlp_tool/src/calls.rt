@@ -1,7 +1,7 @@
 //! Calls of a stream as values, and the loop that makes calls.
-ghost use Rattle.std.specs.Prelude.{ℕ, ◌≡◌, ◌+◌, ◌<◌, ◌≤◌, ◌^◌, [], false, true, length, List, IfOk, OnOk, Result};
-ghost use Rattle.rlp.specs.Streams.Stream.{Call, initial_state};
-ghost use Rattle.rlp_tool.specs.Making.{AreMade, MakesSome, NoneIsNext};
+ghost use Rattle.std.specs.Prelude.{ℕ, ◌≡◌, ◌+◌, ◌<◌, ◌≤◌, ◌^◌, false, true, List, IfOk, OnOk, Result};
+ghost use Rattle.rlp.specs.Streams.Stream.{Call};
+ghost use Rattle.rlp_tool.specs.Making.{MakesSome, NoneIsNext};
 
 use crate::building::BuildFault;
 use rlp::RlpStream;
@@ -41,27 +41,23 @@ pub(crate) trait Calls {
     /// there was a next call. It may use the room for the bytes of a value.
     fn make_next(&mut self, stream: &mut RlpStream, room: &mut Vec<u8>) -> Result<bool, BuildFault>
         requires { place self.old + size self.old < 2 ^ 64 }
-        ensures made { (front : List ℕ) (before : List Call)
-            → AreMade front before stream.old.state → place self.old ≡ length before + 1
-            → MakesSome front before (left self.old) (left self.new) (place self.new)
-            stream.new.state result }
+        ensures made { MakesSome (left self.old) (left self.new) (place self.old) (place self.new)
+            stream.old.state stream.new.state result }
         ensures ended { IfOk result (λ more. more ≡ false → NoneIsNext (left self.new)) }
         ensures within { place self.new + size self.new ≤ place self.old + size self.old }
         ensures shorter { IfOk result (λ more. more ≡ true → size self.new < size self.old) };
 }
 
-/// Makes all calls on a stream over a front, up to the first call that fails.
+/// Makes all calls, up to the first call that fails.
 #[inline(always)]
 pub(crate) fn make_calls<C: Calls>(
     calls: &mut C,
     stream: &mut RlpStream,
     room: &mut Vec<u8>,
 ) -> Result<(), BuildFault>
-    requires first { C.place calls.old ≡ 1 }
-    requires within { C.place calls.old + C.size calls.old < 2 ^ 64 }
-    ensures made { (front : List ℕ) → stream.old.state ≡ initial_state front
-        → MakesSome front [] (C.left calls.old) (C.left calls.new) (C.place calls.new)
-        stream.new.state result }
+    requires { C.place calls.old + C.size calls.old < 2 ^ 64 }
+    ensures made { MakesSome (C.left calls.old) (C.left calls.new) (C.place calls.old)
+        (C.place calls.new) stream.old.state stream.new.state result }
     ensures ended { OnOk result (NoneIsNext (C.left calls.new)) }
     ensures within { C.place calls.new + C.size calls.new ≤ C.place calls.old + C.size calls.old }
 {

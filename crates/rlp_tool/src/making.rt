@@ -1,8 +1,8 @@
 //! Makes the calls of a script on a stream, each as its piece is read.
 ghost use Rattle.std.specs.Prelude.{◌≡◌, ◌+◌, [], IfOk, IfErr, OnOk};
-ghost use Rattle.rlp.specs.{Streams.Stream.{initial_state, append, append_raw}, Format.Encoding.string};
+ghost use Rattle.rlp.specs.Streams.Stream.{initial_state};
 ghost use Rattle.rlp_tool.specs.{Making.{Fails, IsLineFault, IsTaken, MakesScript}, Script.{calls_in, script}};
-ghost use Rattle.rlp_tool.specs.Pieces.{ArePairs, HasPairs, bytes_of, left_len, piece_call, pieces_left};
+ghost use Rattle.rlp_tool.specs.Pieces.{HasPairs, left_len, piece_call, pieces_left};
 
 use crate::building::{BuildFault, take_call, take_finishes, take_raw};
 use crate::calls::{Calls, StreamCall, make_calls};
@@ -23,52 +23,6 @@ pub(crate) enum LineFault {
     Failed(BuildFault),
 }
 
-/// Appends the string of some digits. `place` is the place of the call.
-fn take_value(
-    stream: &mut RlpStream,
-    digits: &[u8],
-    room: &mut Vec<u8>,
-    place: usize,
-) -> Result<(), BuildFault>
-    requires { ArePairs digits.now }
-    ensures ok { OnOk result (IsTaken (append (string (bytes_of digits.now))) stream.old.state
-        stream.new.state) }
-    ensures refused { IfErr result
-        (Fails (append (string (bytes_of digits.now))) stream.old.state place) }
-{
-    match decode(digits, room) {
-        Ok(()) => {
-            let bytes = &room[..digits.len() / 2];
-            take_call(stream, &StreamCall::Value(bytes), place)
-        }
-        Err(_) => Err(BuildFault::OutOfMemory),
-    }
-}
-
-/// Puts the raw bytes of some digits, if the bytes are items, and no more items than the innermost
-/// open list awaits.
-fn take_digits(
-    stream: &mut RlpStream,
-    digits: &[u8],
-    count: usize,
-    room: &mut Vec<u8>,
-    place: usize,
-) -> Result<(), BuildFault>
-    requires { ArePairs digits.now }
-    ensures ok { OnOk result (IsTaken (append_raw (bytes_of digits.now) count) stream.old.state
-        stream.new.state) }
-    ensures refused { IfErr result
-        (Fails (append_raw (bytes_of digits.now) count) stream.old.state place) }
-{
-    match decode(digits, room) {
-        Ok(()) => {
-            let bytes = &room[..digits.len() / 2];
-            take_raw(stream, bytes, count, place)
-        }
-        Err(_) => Err(BuildFault::OutOfMemory),
-    }
-}
-
 /// Makes the call of a piece, if the call passes its test. `place` is the place of the call.
 fn take_piece(
     stream: &mut RlpStream,
@@ -82,9 +36,19 @@ fn take_piece(
     ensures refused { IfErr result (Fails (piece_call piece.now) stream.old.state place) }
 {
     match piece {
-        Piece::Value(digits) => take_value(stream, digits, room, place),
+        Piece::Value(digits) => {
+            let Ok(bytes) = decode(digits, room) else {
+                return Err(BuildFault::OutOfMemory);
+            };
+            take_call(stream, &StreamCall::Value(bytes), place)
+        }
         Piece::Byte(byte) => take_call(stream, &StreamCall::Value([*byte]), place),
-        Piece::Raw(digits, count) => take_digits(stream, digits, *count, room, place),
+        Piece::Raw(digits, count) => {
+            let Ok(bytes) = decode(digits, room) else {
+                return Err(BuildFault::OutOfMemory);
+            };
+            take_raw(stream, bytes, *count, place)
+        }
         Piece::Begin(count) => take_call::<&[u8]>(stream, &StreamCall::Begin(*count), place),
         Piece::BeginUnbounded => take_call::<&[u8]>(stream, &StreamCall::BeginUnbounded, place),
         Piece::Finish => take_call::<&[u8]>(stream, &StreamCall::Finish, place),

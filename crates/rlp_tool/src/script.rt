@@ -1,10 +1,10 @@
 //! Scripts: calls of a stream as text.
 ghost use Rattle.std.specs.Prelude.{◌≡◌, [], ◌==◌, ◌+◌, ◌++◌, ◌/◌, ◌^◌, ◌<◌, ◌≤◌, ◌∷◌, length, position, option_map, replicate, take, vec_len, Some, None, MatchOption, IfSome, IfOk, IfErr, OnOk, Ok};
-ghost use Rattle.rlp.specs.{Format.Encoding.string, Streams.Stream.{append, begin_list, finalize_unbounded_list}};
+ghost use Rattle.rlp.specs.Streams.Stream.{finalize_unbounded_list};
 ghost use Rattle.rlp_tool.specs.Script.{call_in, calls_in, labelled_call, letter_call, prepend, raw_parts, script, IsUnread, IsScriptFault};
 ghost use Rattle.rlp_tool.specs.Pieces.{ArePairs, HasPairs, IsRead, bytes_of, front_piece, left_len, piece_call, pieces_left, spaces};
 ghost use Rattle.rlp_tool.specs.StreamCalls.{call_of_bytes, calls_of_bytes};
-ghost use Rattle.rlp_lines.specs.Digits.{bytes_in, number_in};
+ghost use Rattle.rlp_lines.specs.Digits.{bytes_in};
 
 use crate::calls::StreamCall;
 use memchr::memchr;
@@ -83,16 +83,6 @@ fn digits_in(text: &[u8]) -> Option<&[u8]>
     }
 }
 
-/// Reads `d:HEX`, from behind the colon.
-fn read_value(text: &[u8]) -> Option<Piece<'_>>
-    ensures { IsRead result (option_map (λ bytes. append (string bytes)) (bytes_in text.now)) }
-{
-    match digits_in(text) {
-        Some(digits) => Some(Piece::Value(digits)),
-        None => None,
-    }
-}
-
 /// Reads `r:N:HEX`, from behind the first colon.
 fn read_raw(text: &[u8]) -> Option<Piece<'_>>
     ensures { IsRead result (raw_parts text.now (position (λ b. b == 58) text.now)) }
@@ -110,25 +100,21 @@ fn read_raw(text: &[u8]) -> Option<Piece<'_>>
     }
 }
 
-/// Reads `l:N`, from behind the colon.
-fn read_list(text: &[u8]) -> Option<Piece<'_>>
-    ensures { IsRead result (option_map begin_list (number_in text.now)) }
-{
-    match read_number(text) {
-        Some(count) => Some(Piece::Begin(count)),
-        None => None,
-    }
-}
-
-/// Reads a letter, a colon and the text that follows.
+/// Reads `l:N`, `r:N:HEX` or `d:HEX`, by its letter and the text behind the colon.
 #[inline(always)]
 fn read_labelled(letter: u8, text: &[u8]) -> Option<Piece<'_>>
     ensures { IsRead result (labelled_call letter text.now) }
 {
     match letter {
-        b'l' => read_list(text),
+        b'l' => match read_number(text) {
+            Some(count) => Some(Piece::Begin(count)),
+            None => None,
+        },
         b'r' => read_raw(text),
-        b'd' => read_value(text),
+        b'd' => match digits_in(text) {
+            Some(digits) => Some(Piece::Value(digits)),
+            None => None,
+        },
         _ => None,
     }
 }
@@ -258,19 +244,17 @@ pub(crate) fn first_unread(pieces: Option<&[u8]>, first: usize) -> Option<usize>
     None
 }
 
-/// Decodes digits to the front of the room, which grows if it is too small.
-pub(crate) fn decode(digits: &[u8], room: &mut Vec<u8>) -> Result<(), AllocError>
+/// Decodes digits to the front of the room, which grows if it is too small, and returns the bytes.
+pub(crate) fn decode<'a>(digits: &[u8], room: &'a mut Vec<u8>) -> Result<&'a [u8], AllocError>
     requires { ArePairs digits.now }
-    ensures gives { OnOk result
-        (take (length digits.now / 2) room.new.items ≡ bytes_of digits.now) }
-    ensures within { OnOk result (length digits.now / 2 ≤ vec_len room.new) }
+    ensures { IfOk result (λ bytes. bytes.now ≡ bytes_of digits.now) }
 {
     let count = digits.len() / 2;
     if room.len() < count {
         room.resize(count, 0)?;
     }
     put_bytes(digits, room.as_mut_slice());
-    Ok(())
+    Ok(&room[..count])
 }
 
 /// Returns the bytes of digits.

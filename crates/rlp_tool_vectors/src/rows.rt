@@ -1,74 +1,105 @@
-//! Rows of runs: how the devices behave, what the tool reads, and what it answers, as text.
+//! Files of rows.
+//!
+//! A line that begins with `#` is a comment. A line that ends with a backslash goes on in the next
+//! one, behind the blanks there. A row is a line with what is given, ` | `, and the answer. In a
+//! line without ` | ` only stands what is given, and the answer stands in the lines below it, up to
+//! an empty line.
 
-use crate::devices::{Calls, Plan, SOUND};
-use rlp_vectors::rows::{cut, number, push_header};
+use rlp_vectors::rows::Line;
 use std::alloc::{AllocError, Global};
-use std::io::ErrorKind;
 
-/// What is given, and what follows.
-pub(crate) type Row = (&'static str, &'static str);
+/// A whole line of a file, and the number of the line where it begins.
+#[derive(Drop)]
+pub(crate) struct Numbered {
+    pub(crate) number: usize,
+    pub(crate) text: String,
+}
 
-/// Returns the plan of a text. `, ` separates two settings. A setting is an error, or a name with a
-/// number, or a name with two numbers for the first and the last call that fail. With one number,
-/// each call from that number on fails.
-pub(crate) fn plan_of(settings: &str) -> Plan {
-    let mut plan = SOUND;
-    for setting in settings.split(", ") {
-        let (name, value) = cut(setting);
-        match name {
-            "most" => plan.most = number(value),
-            "room" => plan.room = number(value),
-            "reads" => plan.reads = calls_of(value),
-            "writes" => plan.writes = calls_of(value),
-            "flushes" => plan.flushes = calls_of(value),
-            "Interrupted" => plan.error = Some(ErrorKind::Interrupted),
-            "BrokenPipe" => plan.error = Some(ErrorKind::BrokenPipe),
-            _ => {}
+/// A row: the number of its line, what is given, and the answer. An answer in lines below the row
+/// has the ends of these lines, and of the empty line.
+#[derive(Drop)]
+pub(crate) struct Row {
+    pub(crate) number: usize,
+    pub(crate) given: String,
+    pub(crate) want: String,
+}
+
+/// Returns the lines of a file, without comments. The last is empty.
+fn lines_in(alloc: Global, text: &str) -> Result<Vec<Numbered>, AllocError> {
+    let mut lines: Vec<Numbered> = Vec::new(alloc);
+    let mut goes_on = false;
+    for (place, line) in text.split('\n').enumerate() {
+        if line.starts_with('#') {
+            continue;
         }
+        let front = line.strip_suffix('\\');
+        let part = front.unwrap_or(line);
+        match lines.last_mut() {
+            Some(whole) if goes_on => whole.text.push_str(part.trim_start())?,
+            _ => lines.push(Numbered {
+                number: place.saturating_add(1),
+                text: String::from_str(alloc, part)?,
+            })?,
+        }
+        goes_on = front.is_some();
     }
-    plan
+    Ok(lines)
 }
 
-/// Returns the first and the last of the calls that fail.
-fn calls_of(numbers: &str) -> Calls {
-    let (first, last) = cut(numbers);
-    let last = if last.is_empty() {
-        usize::MAX
-    } else {
-        number(last)
-    };
-    (number(first), last)
+/// Returns the whole lines of a file of names.
+pub(crate) fn names_in(alloc: Global, text: &str) -> Result<String, AllocError> {
+    let mut names = String::new(alloc);
+    for line in &lines_in(alloc, text)? {
+        names.push_str(line.text.as_str())?;
+        names.push('\n')?;
+    }
+    Ok(names)
 }
 
-/// Returns the text of pieces, with `|` between two. A piece is text, after which `*` and a number
-/// may say how many times it is repeated. `#` and digits stand for the digits of that many lists,
-/// one inside another, around these bytes.
-pub(crate) fn text_of(alloc: Global, pieces: &str) -> Result<String, AllocError> {
-    let mut text = String::new(alloc);
-    for piece in pieces.split('|') {
-        let (piece, times) = piece.split_once('*').unwrap_or((piece, "1"));
-        match piece.strip_prefix('#') {
-            Some(inner) => text.push_str(nested(alloc, inner, number(times))?.as_str())?,
-            None => {
-                for _ in 0..number(times) {
-                    text.push_str(piece)?;
-                }
+/// Returns the rows of a file.
+pub(crate) fn rows_in(alloc: Global, text: &str) -> Result<Vec<Row>, AllocError> {
+    let mut rows: Vec<Row> = Vec::new(alloc);
+    let mut is_open = false;
+    for Numbered { number, text } in &lines_in(alloc, text)? {
+        match rows.last_mut() {
+            Some(row) if is_open => {
+                row.want.push_str(text.as_str())?;
+                row.want.push('\n')?;
+                is_open = !text.is_empty();
+            }
+            _ if text.is_empty() => {}
+            _ => {
+                let cells = text.rsplit_once(" | ");
+                is_open = cells.is_none();
+                let (given, want) = cells.unwrap_or((text.as_str(), ""));
+                rows.push(Row {
+                    number: *number,
+                    given: String::from_str(alloc, given)?,
+                    want: String::from_str(alloc, want)?,
+                })?;
             }
         }
     }
-    Ok(text)
+    Ok(rows)
 }
 
-/// Returns the digits of `lists` lists, one inside another, around the bytes of these digits. They
-/// are written from the end.
-fn nested(alloc: Global, inner: &str, lists: usize) -> Result<String, AllocError> {
-    let mut backwards = match inner {
-        "80" => Vec::from_slice(alloc, &[0x80])?,
-        _ => Vec::new(alloc),
-    };
-    for _ in 0..lists {
-        push_header(&mut backwards)?;
+/// Notes what was answered to a row if that isn't as wanted. Both are told from shortly before where
+/// they differ.
+pub(crate) fn note(wrong: &mut Line, call: &str, given: &str, answer: &str, want: &str) {
+    if answer == want {
+        return;
     }
-    backwards.as_mut_slice().reverse();
-    hex::encode(alloc, backwards.as_slice())
+    let mut same = 0usize;
+    for (one, other) in answer.bytes().zip(want.bytes()) {
+        if one != other {
+            break;
+        }
+        same = same.saturating_add(1);
+    }
+    let from = same.saturating_sub(40);
+    let (answer, want) = (
+        answer.get(from..).unwrap_or(answer),
+        want.get(from..).unwrap_or(want),
+    );
+    wrong.note(call, given, answer, want);
 }

@@ -1,14 +1,12 @@
 -- What `v` says in the signature of a transaction without a type, for bodies.
-use Rattle.std.proofs.Common.{◌≡◌, ℕ, zero, suc, ◌+◌, ◌*◌, ◌/◌, ◌%◌, ◌^◌, ◌<◌, ◌≤◌, ◌⊎◌, inl, inr, ⊎_elim, Bool, true, false, Option, Some, None, List, [], ◌∷◌, ◌++◌}
-use Rattle.std.proofs.{Common.{length, take, drop, refl, sym, subst, ap, ◌∙◌, arith, take-append-drop}, lemmas.Bool.Decides.nat_tests}
-use Rattle.std.proofs.{Math.Nat.{pow-suc, pow-succ', div-div-eq-div-mul}, lemmas.Nat.div_below}
-use Rattle.std.proofs.lemmas.Int.Digits.{number_after_append, number_after_ge, number_more, number_push}
+use Rattle.std.proofs.Common.{ℕ, ⊎_elim, ◌%◌, ◌*◌, ◌++◌, ◌+◌, ◌/◌, ◌<◌, ◌^◌, ◌∙◌, ◌∷◌, ◌≡◌, ◌≤◌, ◌⊎◌, Bool, List, None, Option, Some, [], ap, arith, drop, false, inl, inr, length, refl, subst, suc, sym, take, take-append-drop, true, zero}
+use Rattle.std.proofs.{Math.Nat.{div-div-eq-div-mul, pow-suc, pow-succ'}, lemmas.Bool.Decides.nat_tests}
+use Rattle.std.proofs.{lemmas.Int.Digits.{number_after_append, number_after_ge, number_more, number_push}, lemmas.Nat.div_below}
 use Rattle.std.specs.{Int.{byte_at, bytes_high_first}, Int.Digits.{number_from_digits, number_from_digits_after}}
-use Rattle.rlp.specs.{Values.Value.bit, Uint.Uint}
-use Rattle.rlp_transactions.specs.{declared.eip155.Eip155.Eip155, declared.legacy_transaction.LegacyTransaction.LegacyTransaction}
-use Rattle.rlp_transactions.specs.{declared.signed.Signed.Signed, declared.transaction.Transaction.Transaction}
-use Rattle.rlp_transactions.specs.{declared.transaction.Transaction.TheVariants.Legacy, Eip155.{FitsChain, even_v, v_of}}
-use Rattle.rlp_transactions.specs.Signatures.{IsNoV, SaysChain, Signs, number_of}
+use Rattle.rlp.specs.{Uint.Uint, Values.Value.bit}
+use Rattle.rlp_transactions.specs.{Eip155.{FitsChain, even_v, v_of}, TransactionParts.{IsNoV, SaysChain, Signs, number_of}, declared.eip155.Eip155.Eip155}
+use Rattle.rlp_transactions.specs.{declared.legacy_transaction.LegacyTransaction.LegacyTransaction, declared.signed.Signed.Signed}
+use Rattle.rlp_transactions.specs.{declared.transaction.Transaction.Transaction, declared.transaction.Transaction.TheVariants.Legacy}
 use Rattle.rlp_transactions.specs.declared.unsigned_transaction.UnsignedTransaction.TheVariants as unsigned
 
 -- ---- which numbers are a `v`

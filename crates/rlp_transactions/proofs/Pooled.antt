@@ -3,36 +3,27 @@ use Rattle.std.proofs.Common.{◌≡◌, ◌≢◌, refl, sym, ap, ◌∙◌}
 use Rattle.rlp_records.specs.{Alone.bytes_alone, Eip2718.type_of}
 use Rattle.rlp_transactions.specs.PooledTransaction.{consensus_form, pooled_transaction, seen_consensus}
 use Rattle.rlp_transactions.specs.Transaction.{transaction, transaction_types}
-use Rattle.rlp_transactions.specs.declared.pooled_blob_transaction.PooledBlobTransaction.TheVariants.{CellProofs, Proofs}
+use Rattle.rlp_transactions.specs.declared.blob_wrapper.PooledBlobTransaction.TheVariants.{CellProofs, Proofs}
 use Rattle.rlp_transactions.specs.declared.pooled_transaction.PooledTransaction.{PooledTransaction}
 use Rattle.rlp_transactions.specs.declared.pooled_transaction.PooledTransaction.TheVariants.{AccessList, Blob, FeeMarket, Legacy, SetCode}
 
 -- a transaction that can be sent can stand in a block
 pub consensus_fits : (p : PooledTransaction) → pooled_transaction.Fits p → transaction.Fits (consensus_form p)
-consensus_fits (Legacy t) fit = fit
-consensus_fits (AccessList t) fit = fit
-consensus_fits (FeeMarket t) fit = fit
 consensus_fits (Blob (Proofs t)) fit = fit.0
 consensus_fits (Blob (CellProofs t)) fit = fit.0
-consensus_fits (SetCode t) fit = fit
+consensus_fits p fit = fit
 
 -- a transaction of another type than 3 is sent as it stands in a block
 pub consensus_item : (p : PooledTransaction) → type_of transaction_types (consensus_form p) ≢ 3 → pooled_transaction.item p ≡ transaction.item (consensus_form p)
-consensus_item (Legacy t) other = refl
-consensus_item (AccessList t) other = refl
-consensus_item (FeeMarket t) other = refl
 consensus_item (Blob t) other = absurd (other refl)
-consensus_item (SetCode t) other = refl
+consensus_item p other = refl
 
 -- ---- what contracts see of a transaction in a block
 
 pub consensus_seen : (p : PooledTransaction) → seen_consensus (pooled_transaction.reading.seen p) ≡ transaction.reading.seen (consensus_form p)
-consensus_seen (Legacy t) = refl
-consensus_seen (AccessList t) = refl
-consensus_seen (FeeMarket t) = refl
 consensus_seen (Blob (Proofs t)) = refl
 consensus_seen (Blob (CellProofs t)) = refl
-consensus_seen (SetCode t) = refl
+consensus_seen p = refl
 
 -- transactions that contracts see alike stand alike in blocks
 pub consensus_same : (p q : PooledTransaction) → pooled_transaction.reading.seen p ≡ pooled_transaction.reading.seen q

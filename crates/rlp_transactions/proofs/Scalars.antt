@@ -1,5 +1,5 @@
 -- What views give as numbers of a signature.
-use Rattle.std.proofs.{Common.{◌≡◌, ℕ, true, false, Ok, Err, ap, ◌∙◌, codes}, lemmas.Bool.{cond-true, cond-false}}
+use Rattle.std.proofs.{Common.{ℕ, ◌∙◌, ◌≡◌, Err, Ok, ap, codes, false, true}, lemmas.Bool.{cond-false, cond-true}}
 use Rattle.rlp.specs.{Codec.number, Form.{and_then, custom}, Views.View.View}
 use Rattle.rlp_records.specs.Tested.{passing}
 use Rattle.rlp_transactions.specs.{NonZeroScalar.scalar, Secp256k1.is_scalar}

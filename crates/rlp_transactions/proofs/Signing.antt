@@ -1,18 +1,18 @@
 -- What a key signs: the same bytes have one meaning, and they aren't those of a signed transaction.
-use Rattle.std.proofs.Common.{◌≡◌, ◌≢◌, ℕ, ◌^◌, ◌<◌, List, ◌∷◌, [], ◌++◌, length, refl, sym, ap, ◌∙◌, arith, Err, Option, Some, None, true, false}
-use Rattle.std.specs.{Prelude.nat_le, Int.Digits.number_from_digits}
-use Rattle.rlp_format.proofs.{Lemmas.Digits.big_endian_value, Lemmas.Encodings.encoding_same}
-use Rattle.rlp.specs.Format.Encoding.{Item, Items, big_endian, item_and, list, list_of, listed, no_items, string, encoding}
-use Rattle.rlp.specs.{Format.Framing.begins_as_list, Uint.Uint, Values.Value.items_if, Codec.{plain, struct_of}}
+use Rattle.std.proofs.Common.{ℕ, ◌++◌, ◌<◌, ◌^◌, ◌∙◌, ◌∷◌, ◌≡◌, ◌≢◌, Err, List, None, Option, Some, [], ap, arith, false, length, refl, sym, true}
+use Rattle.std.specs.{Int.Digits.number_from_digits, Prelude.nat_le}
+use Rattle.rlp_format.proofs.Lemmas.Digits.{big_endian_value}
+use Rattle.rlp_reading.proofs.Lemmas.Items.{encoding_same}
+use Rattle.rlp.specs.{Codec.{plain, struct_of}, Format.Encoding.{Item, Items, big_endian, encoding, item_and, list, list_of, listed, no_items, string}}
+use Rattle.rlp.specs.{Format.Framing.begins_as_list, Uint.Uint, Values.Value.items_if}
 use Rattle.rlp_reading.specs.Form.{custom}
 use Rattle.rlp_records.proofs.{AfterByte.after_strings, Alone.list_alone_begins, Bytes.bytes_tell, TypedSums.typed_strings}
 use Rattle.rlp_records.specs.{Alone.{bytes_alone, unknown_type}, Eip2718.typed_alone}
-use Rattle.rlp_transactions.specs.{Authorization.authorization_fields, LegacyTransaction.{legacy_transaction_fields, signed_legacy_transaction}}
-use Rattle.rlp_transactions.specs.{NonZeroScalar.scalar_value, Secp256k1.is_scalar}
-use Rattle.rlp_transactions.specs.Signing.{FitsSigning, HaveOneMeaning, Signable, a_transaction, an_authorization, signed_bytes}
-use Rattle.rlp_transactions.specs.{Transaction.transaction, UnsignedLegacyTransaction.chain_fields}
-use Rattle.rlp_transactions.specs.{UnsignedTransaction.{unsigned_transaction, unsigned_types}, declared.authorization.Authorization.Authorization}
-use Rattle.rlp_transactions.specs.{declared.legacy_transaction.LegacyTransaction.LegacyTransaction, declared.scalar.NonZeroScalar.NonZeroScalar}
+use Rattle.rlp_transactions.specs.{LegacyTransaction.{chain_fields, legacy_transaction_fields, signed_legacy_transaction}, NonZeroScalar.scalar_value}
+use Rattle.rlp_transactions.specs.{Secp256k1.is_scalar, SetCodeTransaction.authorization_fields}
+use Rattle.rlp_transactions.specs.{Signing.{FitsSigning, HaveOneMeaning, Signable, a_transaction, an_authorization, signed_bytes}, Transaction.transaction}
+use Rattle.rlp_transactions.specs.{UnsignedTransaction.{unsigned_transaction, unsigned_types}, declared.legacy_transaction.LegacyTransaction.LegacyTransaction}
+use Rattle.rlp_transactions.specs.{declared.scalar.NonZeroScalar.NonZeroScalar, declared.set_code_transaction.Authorization.Authorization}
 use Rattle.rlp_transactions.specs.{declared.signed.Signed.Signed, declared.transaction.Transaction.Transaction}
 use Rattle.rlp_transactions.specs.declared.transaction.Transaction.TheVariants.{AccessList, Blob, FeeMarket, Legacy, SetCode}
 use Rattle.rlp_transactions.specs.declared.unsigned_transaction.UnsignedTransaction.{UnsignedTransaction}

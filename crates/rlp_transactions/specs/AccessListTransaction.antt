@@ -1,8 +1,20 @@
--- How transactions of type 1 are written and read.
+-- How transactions of type 1 and access lists are written and read.
 use Rattle.std.specs.{Prelude.{Bool, refl}, Vec.vec_items}
-use Rattle.rlp.specs.Codec.{Codec, Fields, byte_string, end, field, number, truth_value, uint}
-use Rattle.rlp_transactions.specs.{declared.access_list_transaction.AccessListTransaction.AccessListTransaction, Access.access_list}
-use Rattle.rlp_transactions.specs.{Recipient.recipient, Signed.signed, declared.signed.Signed.Signed}
+use Rattle.rlp.specs.Codec.{Codec, Fields, byte_string, end, field, list_type, number, struct_of, truth_value, uint}
+use Rattle.rlp_records.specs.{Address.address, Hash.hash}
+use Rattle.rlp_transactions.specs.{Recipient.recipient, Signed.signed, declared.access_list_transaction.AccessList.AccessList}
+use Rattle.rlp_transactions.specs.declared.access_list_transaction.AccessListItem.{AccessListItem}
+use Rattle.rlp_transactions.specs.{declared.access_list_transaction.AccessListTransaction.AccessListTransaction, declared.signed.Signed.Signed}
+
+-- EIP-2930: [{20 bytes}, [{32 bytes}...]]
+abbrev pub access_list_item : Codec AccessListItem
+access_list_item = struct_of (
+    field (λ (a : AccessListItem). a.address) address (
+    field (λ (a : AccessListItem). a.storage_keys) (list_type vec_items hash) end))
+
+-- the list of the accounts
+abbrev pub access_list : Codec AccessList
+access_list = list_type (λ (a : AccessList). vec_items a.0) access_list_item
 
 -- EIP-2930: rlp([chainId, nonce, gasPrice, gasLimit, to, value, data, accessList, signatureYParity, signatureR, signatureS]). Here are the fields before the
 -- signature.

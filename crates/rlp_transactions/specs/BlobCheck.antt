@@ -8,8 +8,8 @@ use Rattle.rlp_transactions.specs.declared.blob_check.BlobFault.TheVariants.{Blo
 use Rattle.rlp_transactions.specs.declared.blob_transaction.BlobTransaction.{BlobTransaction}
 use Rattle.rlp_transactions.specs.declared.blob_wrapper.BlobTransactionWithCellProofs.{BlobTransactionWithCellProofs}
 use Rattle.rlp_transactions.specs.declared.blob_wrapper.BlobTransactionWithProofs.{BlobTransactionWithProofs}
-use Rattle.rlp_transactions.specs.declared.pooled_blob_transaction.PooledBlobTransaction.{PooledBlobTransaction}
-use Rattle.rlp_transactions.specs.declared.pooled_blob_transaction.PooledBlobTransaction.TheVariants.{CellProofs, Proofs}
+use Rattle.rlp_transactions.specs.declared.blob_wrapper.PooledBlobTransaction.{PooledBlobTransaction}
+use Rattle.rlp_transactions.specs.declared.blob_wrapper.PooledBlobTransaction.TheVariants.{CellProofs, Proofs}
 use Rattle.rlp_transactions.specs.declared.signed.Signed.{Signed}
 
 -- EIP-4844's "VERSIONED_HASH_VERSION_KZG + sha256(commitment)[1:]", where the version is 0x01

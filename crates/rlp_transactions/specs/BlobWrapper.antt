@@ -1,11 +1,15 @@
 -- How transactions of type 3 are written and read with their blobs, as they are sent between nodes.
-use Rattle.std.specs.{Prelude.{ℕ, ◌≡◌, ⊤, Bool, true, false, if◌then◌else◌, List, [], ◌∷◌, Result, Ok, Err, codes, refl}, Str.bytes_eq, Vec.vec_items}
-use Rattle.std.proofs.{lemmas.Bool.cond-false, lemmas.Slice.Eq.bytes_eq-Decides}
+use Rattle.std.proofs.{Common.{inl, inr}, lemmas.Bool.cond-false, lemmas.Slice.Eq.bytes_eq-Decides}
+use Rattle.std.specs.{Prelude.{ℕ, ⊤, ◌∷◌, ◌≡◌, ◌⊎◌, Bool, Err, List, Ok, Result, [], codes, false, if◌then◌else◌, refl, true}, Str.bytes_eq, Vec.vec_items}
+use Rattle.rlp.specs.Codec.{Codec, Fields, byte_array, end, field, list_type, newtype, string_type, struct_of}
 use Rattle.rlp_reading.specs.Form.{Fault, custom}
-use Rattle.rlp.specs.Codec.{Codec, Fields, byte_array, end, field, list_type, string_type, struct_of}
+use Rattle.rlp_transactions.specs.{Blob.blob, BlobTransaction.signed_blob_transaction, ItemCounts.struct_by_count}
+use Rattle.rlp_transactions.specs.declared.blob_transaction.BlobTransaction.{BlobTransaction}
 use Rattle.rlp_transactions.specs.declared.blob_wrapper.BlobTransactionWithCellProofs.{BlobTransactionWithCellProofs}
 use Rattle.rlp_transactions.specs.declared.blob_wrapper.BlobTransactionWithProofs.{BlobTransactionWithProofs}
-use Rattle.rlp_transactions.specs.{declared.blob_wrapper.WrapperVersion.WrapperVersion, Blob.blob, BlobTransaction.signed_blob_transaction}
+use Rattle.rlp_transactions.specs.declared.blob_wrapper.PooledBlobTransaction.{PooledBlobTransaction}
+use Rattle.rlp_transactions.specs.declared.blob_wrapper.PooledBlobTransaction.TheVariants.{CellProofs, Proofs}
+use Rattle.rlp_transactions.specs.{declared.blob_wrapper.WrapperVersion.WrapperVersion, declared.signed.Signed.Signed}
 
 -- EIP-4844: rlp([tx_payload_body, blobs, commitments, proofs])
 abbrev pub proofs_fields : Fields BlobTransactionWithProofs
@@ -53,3 +57,17 @@ cell_proofs_fields =
 -- the list of the fields
 abbrev pub with_cell_proofs : Codec BlobTransactionWithCellProofs
 with_cell_proofs = struct_of cell_proofs_fields
+
+-- a transaction in one of the two forms
+abbrev pub blob_sum : PooledBlobTransaction → BlobTransactionWithProofs ⊎ BlobTransactionWithCellProofs
+blob_sum (Proofs t) = inl t
+blob_sum (CellProofs t) = inr t
+
+-- the list of four fields of EIP-4844, or of five of EIP-7594
+abbrev pub pooled_blob_transaction : Codec PooledBlobTransaction
+pooled_blob_transaction = newtype blob_sum (struct_by_count proofs_fields cell_proofs_fields refl refl refl)
+
+-- the transaction without its blobs
+abbrev pub without_blobs : PooledBlobTransaction → Signed BlobTransaction Bool
+without_blobs (Proofs t) = t.transaction
+without_blobs (CellProofs t) = t.transaction

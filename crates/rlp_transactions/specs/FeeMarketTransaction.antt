@@ -1,8 +1,8 @@
 -- How transactions of type 2 are written and read.
 use Rattle.std.specs.{Prelude.{Bool, refl}, Vec.vec_items}
 use Rattle.rlp.specs.Codec.{Codec, Fields, byte_string, end, field, number, truth_value, uint}
-use Rattle.rlp_transactions.specs.{declared.fee_market_transaction.FeeMarketTransaction.FeeMarketTransaction, Access.access_list, Recipient.recipient}
-use Rattle.rlp_transactions.specs.{Signed.signed, declared.signed.Signed.Signed}
+use Rattle.rlp_transactions.specs.{AccessListTransaction.access_list, Recipient.recipient, Signed.signed}
+use Rattle.rlp_transactions.specs.{declared.fee_market_transaction.FeeMarketTransaction.FeeMarketTransaction, declared.signed.Signed.Signed}
 
 -- EIP-1559: rlp([chain_id, nonce, max_priority_fee_per_gas, max_fee_per_gas, gas_limit, destination, amount, data, access_list, signature_y_parity,
 -- signature_r, signature_s]). Here are the fields before the signature.

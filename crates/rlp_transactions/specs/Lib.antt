@@ -1,6 +1,4 @@
-pub mod Access
 pub mod AccessListTransaction
-pub mod Authorization
 pub mod Blob
 pub mod BlobCheck
 pub mod BlobTransaction
@@ -8,19 +6,15 @@ pub mod BlobWrapper
 pub mod DepositTransaction
 pub mod Eip155
 pub mod FeeMarketTransaction
-pub mod ItemCountLaws
 pub mod ItemCounts
 pub mod LegacyTransaction
 pub mod NonZeroScalar
-pub mod PooledBlobTransaction
 pub mod PooledTransaction
 pub mod Recipient
 pub mod Secp256k1
 pub mod SetCodeTransaction
-pub mod Signatures
 pub mod Signed
 pub mod Signing
 pub mod Transaction
 pub mod TransactionParts
-pub mod UnsignedLegacyTransaction
 pub mod UnsignedTransaction

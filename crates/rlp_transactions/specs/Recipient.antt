@@ -2,7 +2,7 @@
 use Rattle.std.specs.Prelude.{ℕ, ◌≡◌, ◌↔◌, ⊤, Bool, true, false, List, [], ◌∷◌, length, Result, Ok, Err}
 use Rattle.std.proofs.{Common.{refl, ap, ◌∙◌, ltb, ltb-false, arith}, lemmas.Bool.{cond-true, cond-false}}
 use Rattle.rlp_reading.specs.{Form.{Fault, fixed_of, is_too_big, is_too_short, map_value}, Kinds.read_kind}
-use Rattle.rlp_reading.proofs.{KindLaws.kinds_read, StringLaws.array_strings}
+use Rattle.rlp_reading.proofs.StringLaws.{kinds_read, array_strings}
 use Rattle.rlp.specs.Codec.{Codec, string_type}
 use Rattle.rlp_transactions.specs.{declared.recipient.Recipient.Recipient, declared.recipient.Recipient.TheVariants.{Creation, Account}}
 

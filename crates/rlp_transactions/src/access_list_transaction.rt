@@ -1,14 +1,14 @@
-//! Transactions of type 1.
+//! Transactions of type 1, and access lists.
 
 ghost use Rattle.std.specs.Prelude.{refl};
-ghost use Rattle.rlp_transactions.specs.AccessListTransaction.{access_list_transaction_fields};
+ghost use Rattle.rlp_transactions.specs.AccessListTransaction.{access_list, access_list_item, access_list_transaction_fields};
 
-use crate::{AccessList, Payload, Recipient, Tagged, TypedTransaction};
+use crate::{Payload, Recipient, Tagged, TypedTransaction};
 use rlp::{
-    AppendFields, CountedFields, DecodeFields, DecodeFieldsPlaced, DecoderError, Fields,
-    FixedFields, RlpStream, Uint,
+    AppendFields, CountedFields, DecodeFields, DecodeFieldsPlaced, DecoderError, Each, Encodable,
+    Fields, FixedFields, ListField, ListOf, Record, Rlp, RlpStream, Uint, put_list_path,
 };
-use rlp_records::ACCESS_LIST_TYPE;
+use rlp_records::{ACCESS_LIST_TYPE, Address, Hash};
 use std::alloc::{AllocError, Global};
 
 /// A transaction of type 1 without its signature: the list of its eight fields is signed after the
@@ -121,3 +121,73 @@ impl Tagged for AccessListTransaction {
 }
 
 impl TypedTransaction for AccessListTransaction {}
+
+/// An account and the keys of its storage that a transaction declares. It is written as the list of
+/// the two fields, as in EIP-2930.
+#[derive(Debug, Clone, PartialEq, Eq, Drop)]
+pub struct AccessListItem {
+    /// The account.
+    pub address: Address,
+    /// The keys of the account's storage, of 32 bytes each.
+    pub storage_keys: Vec<Hash>,
+}
+
+impl Encodable for AccessListItem {
+    ghost item = { access_list_item.item };
+
+    ghost fits = { access_list_item.Fits };
+
+    fn rlp_append(&self, s: &mut RlpStream) -> Result<(), AllocError> {
+        rlp::append_fields!(s, &self.address, ListOf(&self.storage_keys))
+    }
+}
+
+impl Record for AccessListItem {
+    ghost reading = { access_list_item.reading };
+
+    fn decode(alloc: Global, rlp: &Rlp<'_>) -> Result<AccessListItem, DecoderError> {
+        rlp::decode_fields!(
+            alloc,
+            rlp,
+            AccessListItem {
+                address,
+                storage_keys: [..]
+            }
+        )
+    }
+
+    fn put_path(alloc: Global, rlp: &Rlp<'_>, path: &mut Vec<usize>) -> Result<(), AllocError> {
+        rlp::put_struct_path!(alloc, rlp, path, Address, ListField<Hash>)
+    }
+
+    ghost lawful = { access_list_item.reads_strictly };
+}
+
+/// The accounts that a transaction declares, in order. It is written as the list of its items, as
+/// in EIP-2930.
+#[derive(Debug, Clone, PartialEq, Eq, Drop)]
+pub struct AccessList(pub Vec<AccessListItem>);
+
+impl Encodable for AccessList {
+    ghost item = { access_list.item };
+
+    ghost fits = { access_list.Fits };
+
+    fn rlp_append(&self, s: &mut RlpStream) -> Result<(), AllocError> {
+        rlp::append_fields!(s, Each(&self.0))
+    }
+}
+
+impl Record for AccessList {
+    ghost reading = { access_list.reading };
+
+    fn decode(alloc: Global, rlp: &Rlp<'_>) -> Result<AccessList, DecoderError> {
+        Ok(AccessList(rlp.as_list(alloc)?))
+    }
+
+    fn put_path(alloc: Global, rlp: &Rlp<'_>, path: &mut Vec<usize>) -> Result<(), AllocError> {
+        put_list_path::<AccessListItem>(alloc, rlp, path)
+    }
+
+    ghost lawful = { access_list.reads_strictly };
+}

@@ -4,9 +4,7 @@ ghost use Rattle.std.specs.Prelude.{◌≡◌, ◌⊎◌, Err, IfErr, IfOk, leng
 ghost use Rattle.rlp.specs.DecoderError.TheVariants.{OutOfMemory};
 ghost use Rattle.rlp_reading.specs.Form.{fault_of, fixed_of};
 
-use rlp::{
-    Decodable, DecodePlaced, DecoderError, Encodable, Rlp, RlpStream, RoundTrip, StrictRead,
-};
+use rlp::{DecoderError, Encodable, Record, Rlp, RlpStream};
 use std::alloc::{AllocError, Global};
 
 /// The number of bytes of a blob, as in EIP-4844: 4,096 numbers of 32 bytes.
@@ -65,7 +63,7 @@ impl Encodable for Blob {
 }
 
 /// Reads a string, with one copy. Fails as [`Blob::new`] does.
-impl Decodable for Blob {
+impl Record for Blob {
     ghost use Rattle.rlp_transactions.specs.Blob.{blob};
 
     ghost reading = { blob.reading };
@@ -74,22 +72,10 @@ impl Decodable for Blob {
         let string = rlp.decoder().string()?;
         Blob::new(alloc, string)
     }
-}
 
-impl DecodePlaced for Blob {
     fn put_path(_alloc: Global, _rlp: &Rlp<'_>, _path: &mut Vec<usize>) -> Result<(), AllocError> {
         Ok(())
     }
-}
 
-impl RoundTrip for Blob {
-    ghost use Rattle.rlp_transactions.specs.Blob.{blob};
-
-    ghost round_trip = { blob.reads_back };
-}
-
-impl StrictRead for Blob {
-    ghost use Rattle.rlp_transactions.specs.Blob.{blob};
-
-    ghost strict = { blob.reads_strictly };
+    ghost lawful = { blob.reads_strictly };
 }

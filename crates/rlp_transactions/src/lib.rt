@@ -1,9 +1,7 @@
 //! Transactions of Ethereum: of all types, signed and unsigned. The crate checks no signature.
 #![tactic(auto)]
 
-mod access;
 mod access_list_transaction;
-mod authorization;
 mod blob;
 mod blob_check;
 mod blob_transaction;
@@ -11,37 +9,33 @@ mod blob_wrapper;
 mod deposit_transaction;
 mod eip155;
 mod fee_market_transaction;
-mod hashing;
 pub mod laws;
 mod legacy_transaction;
-mod pooled_blob_transaction;
 mod pooled_transaction;
 mod recipient;
 mod scalar;
 mod set_code_transaction;
 mod signed;
 mod transaction;
-mod unsigned_legacy_transaction;
 mod unsigned_transaction;
 
-pub use access::{AccessList, AccessListItem};
-pub use access_list_transaction::AccessListTransaction;
-pub use authorization::{Authorization, SignedAuthorization};
+pub use access_list_transaction::{AccessList, AccessListItem, AccessListTransaction};
 pub use blob::{BLOB_LEN, Blob};
 pub use blob_check::{BlobFault, versioned_hash};
 pub use blob_transaction::BlobTransaction;
-pub use blob_wrapper::{BlobTransactionWithCellProofs, BlobTransactionWithProofs, WrapperVersion};
+pub use blob_wrapper::{
+    BlobTransactionWithCellProofs, BlobTransactionWithProofs, PooledBlobTransaction, WrapperVersion,
+};
 pub use deposit_transaction::DepositTransaction;
 pub use eip155::Eip155;
 pub use fee_market_transaction::FeeMarketTransaction;
-pub use hashing::signing_hash;
-pub use legacy_transaction::{LegacyTransaction, SignedLegacyTransaction};
-pub use pooled_blob_transaction::PooledBlobTransaction;
+pub use legacy_transaction::{
+    LegacyTransaction, SignedLegacyTransaction, UnsignedLegacyTransaction,
+};
 pub use pooled_transaction::PooledTransaction;
 pub use recipient::Recipient;
 pub use scalar::NonZeroScalar;
-pub use set_code_transaction::SetCodeTransaction;
+pub use set_code_transaction::{Authorization, SetCodeTransaction, SignedAuthorization};
 pub use signed::{Payload, Signed, Tagged, TypedTransaction};
-pub use transaction::{AnyTransaction, Transaction};
-pub use unsigned_legacy_transaction::UnsignedLegacyTransaction;
+pub use transaction::{AnyTransaction, Transaction, signing_hash};
 pub use unsigned_transaction::UnsignedTransaction;

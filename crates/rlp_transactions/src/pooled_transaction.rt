@@ -9,9 +9,7 @@ use crate::{
     SignedLegacyTransaction, Transaction,
 };
 use bytes::BytesMut;
-use rlp::{
-    Decodable, DecodePlaced, DecoderError, Encodable, Rlp, RlpStream, RoundTrip, StrictRead,
-};
+use rlp::{DecodePlaced, DecoderError, Encodable, Rlp, RlpStream};
 use rlp_records::{
     ACCESS_LIST_TYPE, BLOB_TYPE, Eip2718, FEE_MARKET_TYPE, Hash, SET_CODE_TYPE, keccak256,
     to_envelope,
@@ -154,24 +152,16 @@ impl Encodable for PooledTransaction {
     }
 }
 
-impl Decodable for PooledTransaction {
+impl rlp::Record for PooledTransaction {
     ghost reading = { pooled_transaction.reading };
 
     fn decode(alloc: Global, rlp: &Rlp<'_>) -> Result<PooledTransaction, DecoderError> {
         PooledTransaction::decode_item(alloc, rlp)
     }
-}
 
-impl DecodePlaced for PooledTransaction {
     fn put_path(alloc: Global, rlp: &Rlp<'_>, path: &mut Vec<usize>) -> Result<(), AllocError> {
         PooledTransaction::put_item_path(alloc, rlp, path)
     }
-}
 
-impl RoundTrip for PooledTransaction {
-    ghost round_trip = { pooled_transaction.reads_back };
-}
-
-impl StrictRead for PooledTransaction {
-    ghost strict = { pooled_transaction.reads_strictly };
+    ghost lawful = { pooled_transaction.reads_strictly };
 }

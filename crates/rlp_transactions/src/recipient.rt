@@ -4,9 +4,7 @@ ghost use Rattle.std.specs.Prelude.{◌≡◌, Err, IfErr, IfOk, Ok};
 ghost use Rattle.rlp_reading.specs.{Form.fault_of, Kinds.read_kind};
 ghost use Rattle.rlp_transactions.specs.Recipient.{account_of, is_account, recipient, recipient_bytes};
 
-use rlp::{
-    Decodable, DecodePlaced, DecoderError, Encodable, Rlp, RlpStream, RoundTrip, StrictRead,
-};
+use rlp::{DecoderError, Encodable, Record, Rlp, RlpStream};
 use rlp_records::Address;
 use std::alloc::{AllocError, Global};
 
@@ -37,27 +35,19 @@ impl Encodable for Recipient {
 
 /// Reading fails with `RlpIsTooShort` if the string has 1 to 19 bytes, and with `RlpIsTooBig` if
 /// it has more than 20. It doesn't allocate.
-impl Decodable for Recipient {
+impl Record for Recipient {
     ghost reading = { recipient.reading };
 
     fn decode(_alloc: Global, rlp: &Rlp<'_>) -> Result<Recipient, DecoderError> {
         let string = rlp.decoder().string()?;
         recipient_of(string)
     }
-}
 
-impl DecodePlaced for Recipient {
     fn put_path(_alloc: Global, _rlp: &Rlp<'_>, _path: &mut Vec<usize>) -> Result<(), AllocError> {
         Ok(())
     }
-}
 
-impl RoundTrip for Recipient {
-    ghost round_trip = { recipient.reads_back };
-}
-
-impl StrictRead for Recipient {
-    ghost strict = { recipient.reads_strictly };
+    ghost lawful = { recipient.reads_strictly };
 }
 
 /// Makes a recipient from a string of 20 bytes, or from the empty string. Fails as reading a

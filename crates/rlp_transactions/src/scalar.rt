@@ -1,12 +1,10 @@
 //! The two numbers of a signature.
 
-ghost use Rattle.std.specs.{Int.Digits.number_from_digits, Prelude.{◌≡◌, ◌↔◌, nat_lt, true, IfNone, IfSome, IsTrue}};
+ghost use Rattle.std.specs.{Int.Digits.number_from_digits, Prelude.{◌↔◌, ◌≡◌, IfNone, IfSome, IsTrue, nat_lt, true}};
 ghost use Rattle.rlp_transactions.specs.Secp256k1.{IsLow, IsScalar, group_order, is_scalar};
 
 use rlp::laws::uints_compare_as_numbers;
-use rlp::{
-    Decodable, DecodePlaced, DecoderError, Encodable, Rlp, RlpStream, RoundTrip, StrictRead, Uint,
-};
+use rlp::{DecoderError, Encodable, Record, Rlp, RlpStream, Uint};
 use std::alloc::{AllocError, Global};
 
 /// A number of a signature on secp256k1: from 1 to below the order of the curve's group, which SEC 2
@@ -90,7 +88,7 @@ impl Encodable for NonZeroScalar {
 
 /// Reading fails with `Custom("not a scalar of a signature")` if the number is 0, or not below the
 /// order, and else as for [`Uint`]. It doesn't allocate.
-impl Decodable for NonZeroScalar {
+impl Record for NonZeroScalar {
     ghost use Rattle.rlp_transactions.specs.NonZeroScalar.{scalar};
 
     ghost reading = { scalar.reading };
@@ -102,22 +100,10 @@ impl Decodable for NonZeroScalar {
             None => Err(DecoderError::Custom("not a scalar of a signature")),
         }
     }
-}
 
-impl DecodePlaced for NonZeroScalar {
     fn put_path(_alloc: Global, _rlp: &Rlp<'_>, _path: &mut Vec<usize>) -> Result<(), AllocError> {
         Ok(())
     }
-}
 
-impl RoundTrip for NonZeroScalar {
-    ghost use Rattle.rlp_transactions.specs.NonZeroScalar.{scalar};
-
-    ghost round_trip = { scalar.reads_back };
-}
-
-impl StrictRead for NonZeroScalar {
-    ghost use Rattle.rlp_transactions.specs.NonZeroScalar.{scalar};
-
-    ghost strict = { scalar.reads_strictly };
+    ghost lawful = { scalar.reads_strictly };
 }

@@ -1,7 +1,7 @@
 //! Payloads with their signatures and without.
 
-ghost use Rattle.std.specs.Prelude.{◌≡◌, ◌∷◌, ◌⊎◌, ◌↔◌, ℕ, true, Bool, Err, IfErr, IfOk, IsTrue, Ok, OnOk};
-ghost use Rattle.rlp.specs.{DecoderError.TheVariants.OutOfMemory, Format.Encoding.{encoding, list_of}, Codec.{codec_of, lawful_fields}};
+ghost use Rattle.std.specs.Prelude.{ℕ, ◌↔◌, ◌∷◌, ◌≡◌, ◌⊎◌, Bool, Err, IfErr, IfOk, IsTrue, Ok, OnOk, true};
+ghost use Rattle.rlp.specs.{Codec.{codec_of, lawful_fields}, DecoderError.TheVariants.OutOfMemory, Format.Encoding.{encoding, list_of}};
 ghost use Rattle.rlp_reading.specs.{Form.{fault_of, held_reading, struct_reading}, Laws.{AreLawful, fields_of}};
 ghost use Rattle.rlp_records.specs.Envelope.{another_type, read_after};
 ghost use Rattle.rlp_transactions.specs.{Secp256k1.IsLow, Signed.{SignedFits, listed, signed, signed_item, signed_reading}, declared.signed.Signed.Signed};

@@ -1,21 +1,36 @@
 //! Transactions of every type.
 
-ghost use Rattle.rlp_transactions.specs.Transaction.{transaction, transaction_types};
-
-mod parts;
-mod signatures;
+ghost use Rattle.std.specs.Prelude.{◌∷◌, IfOk, OnOk};
+ghost use Rattle.rlp.specs.Format.Encoding.{encoding, list_of};
+ghost use Rattle.rlp_records.specs.{Alone.bytes_alone, Hashing.IsHashOf};
+ghost use Rattle.rlp_transactions.specs.{Transaction.{transaction, transaction_types}, UnsignedTransaction.unsigned_transaction};
 
 use crate::{
     AccessListTransaction, BlobTransaction, FeeMarketTransaction, SetCodeTransaction, Signed,
-    SignedLegacyTransaction,
+    SignedLegacyTransaction, Tagged, UnsignedTransaction,
 };
-use rlp::{
-    Decodable, DecodePlaced, DecoderError, Encodable, Rlp, RlpStream, RoundTrip, StrictRead,
-};
+use rlp::{DecodePlaced, DecoderError, Encodable, Rlp, RlpStream};
 use rlp_records::{
-    ACCESS_LIST_TYPE, BLOB_TYPE, Eip2718, FEE_MARKET_TYPE, KnownOrOther, SET_CODE_TYPE,
+    ACCESS_LIST_TYPE, BLOB_TYPE, Eip2718, FEE_MARKET_TYPE, Hash, KnownOrOther, SET_CODE_TYPE,
+    keccak256,
 };
 use std::alloc::{AllocError, Global};
+
+/// The value of an expression about the signed payload of a transaction, whatever its type is.
+macro_rules! of_each {
+    ($transaction:expr, $tx:ident => $value:expr) => {
+        match $transaction {
+            Transaction::Legacy($tx) => $value,
+            Transaction::AccessList($tx) => $value,
+            Transaction::FeeMarket($tx) => $value,
+            Transaction::Blob($tx) => $value,
+            Transaction::SetCode($tx) => $value,
+        }
+    };
+}
+
+mod parts;
+mod signatures;
 
 /// A signed transaction, as in the list of a block's transactions: a legacy transaction is a list,
 /// and a typed transaction is the string of its envelope, as in EIP-2718.
@@ -52,13 +67,7 @@ impl Eip2718 for Transaction {
     }
 
     fn append_payload(&self, s: &mut RlpStream) -> Result<(), AllocError> {
-        match self {
-            Transaction::Legacy(tx) => tx.rlp_append(s),
-            Transaction::AccessList(tx) => tx.rlp_append(s),
-            Transaction::FeeMarket(tx) => tx.rlp_append(s),
-            Transaction::Blob(tx) => tx.rlp_append(s),
-            Transaction::SetCode(tx) => tx.rlp_append(s),
-        }
+        of_each!(self, tx => tx.rlp_append(s))
     }
 
     fn decode_payload(
@@ -105,24 +114,52 @@ impl Encodable for Transaction {
     }
 }
 
-impl Decodable for Transaction {
+impl rlp::Record for Transaction {
     ghost reading = { transaction.reading };
 
     fn decode(alloc: Global, rlp: &Rlp<'_>) -> Result<Transaction, DecoderError> {
         Transaction::decode_item(alloc, rlp)
     }
-}
 
-impl DecodePlaced for Transaction {
     fn put_path(alloc: Global, rlp: &Rlp<'_>, path: &mut Vec<usize>) -> Result<(), AllocError> {
         Transaction::put_item_path(alloc, rlp, path)
     }
+
+    ghost lawful = { transaction.reads_strictly };
 }
 
-impl RoundTrip for Transaction {
-    ghost round_trip = { transaction.reads_back };
+/// Returns the hash that is signed: the hash of [`Tagged::signing_payload`]. Fails as
+/// [`Tagged::signing_payload`] does.
+pub fn signing_hash<T: Tagged>(alloc: Global, payload: &T) -> Result<Hash, AllocError>
+    ensures fits { OnOk result (T.fit payload.now) }
+    ensures hash { IfOk result
+        (λ h. IsHashOf h (T.TAG ∷ encoding (list_of (T.items payload.now)))) }
+{
+    let signed = payload.signing_payload(alloc)?;
+    Ok(Hash(keccak256(signed.as_slice())))
 }
 
-impl StrictRead for Transaction {
-    ghost strict = { transaction.reads_strictly };
+impl Transaction {
+    /// Returns the hash that names the transaction: the hash of [`Eip2718::to_bytes`]. Fails as
+    /// [`Eip2718::to_bytes`] does.
+    pub fn hash(&self, alloc: Global) -> Result<Hash, AllocError>
+        ensures fits { OnOk result (transaction.Fits self.now) }
+        ensures hash { IfOk result (λ h. IsHashOf h (bytes_alone (transaction.item self.now))) }
+    {
+        let bytes = self.to_bytes(alloc)?;
+        Ok(Hash(keccak256(bytes.as_slice())))
+    }
+}
+
+impl UnsignedTransaction {
+    /// Returns the hash that is signed: the hash of [`Eip2718::to_bytes`]. Fails as
+    /// [`Eip2718::to_bytes`] does.
+    pub fn signing_hash(&self, alloc: Global) -> Result<Hash, AllocError>
+        ensures fits { OnOk result (unsigned_transaction.Fits self.now) }
+        ensures hash { IfOk result
+            (λ h. IsHashOf h (bytes_alone (unsigned_transaction.item self.now))) }
+    {
+        let payload = self.to_bytes(alloc)?;
+        Ok(Hash(keccak256(payload.as_slice())))
+    }
 }

@@ -1,7 +1,7 @@
 //! Transactions of every type, before they are signed.
 
 ghost use Rattle.std.specs.Prelude.{◌≡◌};
-ghost use Rattle.rlp_transactions.specs.{Signatures.{Signs, r_of, s_of}, UnsignedTransaction.unsigned_types};
+ghost use Rattle.rlp_transactions.specs.{TransactionParts.{Signs, r_of, s_of}, UnsignedTransaction.unsigned_types};
 
 use crate::signed::{Listed, Payload};
 use crate::{

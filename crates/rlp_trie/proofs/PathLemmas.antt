@@ -5,7 +5,7 @@ use Rattle.std.proofs.lemmas.List.Elements.{All-cons, All-drop, All-head, All-ni
 use mathlib.Core.Bool.{beq}
 use Rattle.std.specs.{Global.Vec, declared.alloc.AllocError.AllocError}
 use Rattle.rlp.specs.Format.Encoding.{AreBytes}
-use Rattle.rlp_reading.proofs.Lemmas.Reading.{bytes_held}
+use Rattle.rlp_format.proofs.Lemmas.Digits.{bytes_held}
 use Rattle.rlp_trie.specs.HexPrefix.{AreNibbles, IsHexPrefix, above_nibbles, bytes_of, ends_in_leaf, is_empty_extension, no_nibbles, first_ends_in_leaf, flag_of, hex_prefix, nibbles_of, odd_prefix, path_nibbles}
 
 abbrev IsNibble : ℕ → Type 0

@@ -8,7 +8,7 @@ use Rattle.rlp_format.proofs.Lemmas.Encodings.{listed_from}
 use Rattle.rlp_trie.specs.{BranchChild.place_item, BranchChildLaws.branch_child, Child.{IsChild, child_item}, ChildLaws.child_some}
 use Rattle.rlp_trie.specs.{HexPrefix.{AreNibbles, path_nibbles}, Lookup.{branch_value, ends, extension_step, goes, place_step, step}}
 use Rattle.rlp_trie.specs.{Trie.{branch, branch_fields, child_at, extension, leaf}, TrieNode.{IsTrieNode, node_item}, declared.branch.Branch.Branch}
-use Rattle.rlp_trie.specs.{declared.child.Child.Child, declared.extension.Extension.Extension, declared.leaf.Leaf.Leaf}
+use Rattle.rlp_trie.specs.{declared.child.Child.Child, declared.leaf.Extension.Extension, declared.leaf.Leaf.Leaf}
 use Rattle.rlp_trie.specs.declared.trie_node.TrieNode.{TrieNode}
 use Rattle.rlp_trie.specs.declared.trie_node.TrieNode.TheVariants as node
 use Rattle.rlp_trie.proofs.PathLemmas.{some_nibbles}
@@ -95,21 +95,12 @@ leaf_apart l e same =
 -- nodes with one item say the same of a path
 pub same_step : (n m : TrieNode) (path : List ℕ) → IsTrieNode n → IsTrieNode m → AreNibbles path → node_item n ≡ node_item m → step n path ≡ step m path
 same_step node.Empty node.Empty path fit other are same = refl
-same_step node.Empty (node.Leaf m) path fit other are same = absurd (let no : ⊥ = cc in no)
-same_step node.Empty (node.Extension f) path fit other are same = absurd (let no : ⊥ = cc in no)
-same_step node.Empty (node.Branch c) path fit other are same = absurd (let no : ⊥ = cc in no)
-same_step (node.Leaf l) node.Empty path fit other are same = absurd (let no : ⊥ = cc in no)
 same_step (node.Leaf l) (node.Leaf m) path fit other are same = leaf_same l m path same
 same_step (node.Leaf l) (node.Extension f) path fit other are same = absurd (leaf_apart l f same)
-same_step (node.Leaf l) (node.Branch c) path fit other are same = absurd (let no : ⊥ = cc in no)
-same_step (node.Extension e) node.Empty path fit other are same = absurd (let no : ⊥ = cc in no)
 same_step (node.Extension e) (node.Leaf m) path fit other are same = absurd (leaf_apart m e (sym same))
 same_step (node.Extension e) (node.Extension f) path fit other are same = extension_same e f path same
-same_step (node.Extension e) (node.Branch c) path fit other are same = absurd (let no : ⊥ = cc in no)
-same_step (node.Branch b) node.Empty path fit other are same = absurd (let no : ⊥ = cc in no)
-same_step (node.Branch b) (node.Leaf m) path fit other are same = absurd (let no : ⊥ = cc in no)
-same_step (node.Branch b) (node.Extension f) path fit other are same = absurd (let no : ⊥ = cc in no)
 same_step (node.Branch b) (node.Branch c) path fit other are same = branch_same b c path fit other are same
+same_step n m path fit other are same = absurd (let no : ⊥ = cc in no)
 
 -- ---- the rest of a path
 
@@ -137,11 +128,9 @@ place_rest (Some c) next nibble more rest is are =
 
 -- a node leads on by a shorter path
 pub step_rest : (n : TrieNode) (path rest : List ℕ) (next : Item) → step n path ≡ goes next rest → AreNibbles path → IsRest path rest
-step_rest node.Empty path rest next is are = absurd (let no : ⊥ = cc in no)
-step_rest (node.Leaf l) path rest next is are = absurd (let no : ⊥ = cc in no)
 step_rest (node.Extension e) path rest next is are =
     let own = path_nibbles (vec_items e.path.bytes) in
     extension_rest own (child_item e.child) next path rest (starts_with nat_eq path own) refl
     (some_nibbles (vec_items e.path.bytes) e.path.encoded e.path.some_nibble) is are
-step_rest (node.Branch b) [] rest next is are = absurd (let no : ⊥ = cc in no)
 step_rest (node.Branch b) (nibble ∷ more) rest next is are = place_rest (child_at nibble b).0 next nibble more rest is are
+step_rest n path rest next is are = absurd (let no : ⊥ = cc in no)

@@ -1,23 +1,23 @@
 -- The walk over the nodes of a proof ends in one way, and what it finds is what the trie has.
-use Rattle.std.proofs.Common.{◌≡◌, ◌<◌, ◌^◌, ◌⊎◌, inl, inr, ⊎_elim, ℕ, Bool, true, false, if◌then◌else◌, List, [], ◌∷◌, length, map, refl, sym, ap, ◌∙◌, subst, arith}
-use Rattle.std.proofs.{Common.{Option, Result, Ok, Err, IfOk}, lemmas.List.Elements.Contains-append_right, lemmas.Slice.Eq.bytes_eq-Decides}
+use Rattle.std.proofs.Common.{ℕ, ⊎_elim, ◌<◌, ◌^◌, ◌∙◌, ◌∷◌, ◌≡◌, ◌⊎◌, Bool, Err, IfOk, List, Ok, Option, Result, [], ap, arith, false, if◌then◌else◌, inl, inr, length, map, refl, subst, sym, true}
+use Rattle.std.proofs.{lemmas.List.Elements.Contains-append_right, lemmas.Slice.Eq.bytes_eq-Decides}
 use Rattle.std.specs.{Global.Vec, Prelude.{Contains, option_map}, Str.bytes_eq, Vec.vec_items}
+use Rattle.rlp_reading.proofs.Lemmas.Items.{encoding_same}
+use Rattle.rlp.specs.{DecoderError.DecoderError, Form.Faults, Format.Encoding.{Item, encoding, list, string}, Format.Framing.begins_as_list}
+use Rattle.rlp.specs.{Values.RawItem.raw_item_of, Views.View.strict_view_of}
+use Rattle.rlp_reading.proofs.Corollaries.{not_both}
+use Rattle.rlp_reading.proofs.RawLaws.{string_kind}
 use Rattle.rlp_records.specs.Keccak.{keccak256}
-use Rattle.rlp.specs.{DecoderError.DecoderError, Format.Encoding.{encoding, Item, list, string}, Format.Framing.begins_as_list}
-use Rattle.rlp.specs.{Values.RawItem.raw_item_of, Views.View.strict_view_of, Form.Faults}
-use Rattle.rlp.specs.DecoderError.TheVariants as decoder
-use Rattle.rlp_format.proofs.Lemmas.Encodings.{encoding_same}
-use Rattle.rlp_reading.proofs.{Lemmas.RawItems.string_kind, Corollaries.not_both}
-use Rattle.rlp_trie.specs.{Child.child_item, EmptyStringLaws.empty_string, HexPrefix.AreNibbles}
-use Rattle.rlp_trie.specs.Lookup.{Encodes, HasValue, StandsFor, by_hash, ends, ends_here, goes, in_parent, leads_on, step}
-use Rattle.rlp_trie.specs.Next.{Agrees, IsEnd, read_fault}
+use Rattle.rlp_trie.proofs.StepLemmas.{same_step, step_rest}
+use Rattle.rlp_trie.specs.{Child.child_item, EmptyString.empty_string, HexPrefix.AreNibbles}
+use Rattle.rlp_trie.specs.{Lookup.{Encodes, HasValue, StandsFor, by_hash, ends, ends_here, goes, in_parent, leads_on, step}, Next.{Agrees, IsEnd, read_fault}}
 use Rattle.rlp_trie.specs.ProofWalk.{IsKnown, IsNoNode, IsSameKind, IsUnread, TakesNode, Walk, ends_at_last, ends_early, next_node, next_unread, no_next, stops, unread, walks_on}
 use Rattle.rlp_trie.specs.{TrieNode.node_item, TrieNodeLaws.trie_node, declared.child.Child.Child, declared.inline_node.InlineNode.InlineNode}
-use Rattle.rlp_trie.specs.declared.proof_fault.ProofFault.{ProofFault}
-use Rattle.rlp_trie.specs.declared.proof_fault.ProofFault.TheVariants.{FaultyNode, MissingNode, NodesLeft, OtherHash, OutOfMemory}
+use Rattle.rlp_trie.specs.declared.proof.ProofFault.{ProofFault}
+use Rattle.rlp_trie.specs.declared.proof.ProofFault.TheVariants.{FaultyNode, MissingNode, NodesLeft, OtherHash, OutOfMemory}
 use Rattle.rlp_trie.specs.declared.trie_node.TrieNode.{TrieNode}
+use Rattle.rlp.specs.DecoderError.TheVariants as decoder
 use Rattle.rlp_trie.specs.declared.child.Child.TheVariants as child
-use Rattle.rlp_trie.proofs.StepLemmas.{same_step, step_rest}
 
 -- how a walk ends
 abbrev pub Outcome : Type 0
@@ -146,11 +146,8 @@ module _ (nodes left : List (List ℕ)) (reference : Item) (path : List ℕ) (n 
       let same = same_said m others other in absurd (let no : ⊥ = cc in no)
 
 same_kind : (e : ProofFault) → IsSameKind e e
-same_kind MissingNode = refl
-same_kind OtherHash = refl
 same_kind (FaultyNode d) = tt
-same_kind NodesLeft = refl
-same_kind OutOfMemory = refl
+same_kind e = refl
 
 -- why there is no node is of one kind
 one_kind : (nodes : List (List ℕ)) (reference : Item) (e f : ProofFault) → IsNoNode reference nodes e → IsNoNode reference nodes f → IsSameKind e f

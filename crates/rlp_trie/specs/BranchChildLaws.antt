@@ -1,13 +1,14 @@
 -- The places of branches are read back, and are read only from their encodings.
-use Rattle.std.specs.Prelude.{ℕ, ◌≡◌, Bool, true, false, Option, Some, None, List, [], Ok}
-use Rattle.std.proofs.{Common.{◌<◌, ◌^◌, refl, sym, ap, ◌∙◌, length}, lemmas.Bool.{cond-true, cond-false}}
-use Rattle.rlp.specs.{Format.Encoding.{string, IsSized, encoding, AreBytes}, Form.{here, map_value}, Codec.{Codec, lawful, newtype}}
+use Rattle.std.proofs.{Common.{◌<◌, ◌^◌, ◌∙◌, ap, length, refl, sym}, lemmas.Bool.{cond-false, cond-true}}
+use Rattle.std.specs.Prelude.{ℕ, ◌≡◌, Bool, List, None, Ok, Option, Some, [], false, true}
+use Rattle.rlp.specs.{Codec.{Codec, lawful, newtype}, Form.{here, map_value}, Format.Encoding.{AreBytes, IsSized, encoding, string}}
+use Rattle.rlp_reading.proofs.ListLaws.{is_mapped, options_fit}
+use Rattle.rlp_reading.proofs.RawLaws.{ReadsItems, items_lawful}
 use Rattle.rlp_reading.specs.FirstItems.{item_type}
-use Rattle.rlp_reading.proofs.{FirstItemLaws.{ReadsItems, items_lawful}, ListLaws.{is_mapped, options_fit}}
-use Rattle.rlp_trie.specs.{Child.{IsChild, child_item, child_of, seen_child}, ChildLaws.{child_back, child_fits, child_only, child_same, child_some}}
-use Rattle.rlp_trie.specs.{EmptyString.is_empty_string, EmptyStringLaws.{empty_found, empty_only, other_item}}
-use Rattle.rlp_trie.specs.{declared.branch_child.BranchChild.BranchChild, declared.child.Child.Child}
-use Rattle.rlp_trie.specs.BranchChild.{IsPlace, place_item, place_of, seen_place, written_place}
+use Rattle.rlp_trie.specs.{BranchChild.{IsPlace, place_item, place_of, seen_place, written_place}, Child.{IsChild, child_item, child_of, seen_child}}
+use Rattle.rlp_trie.specs.ChildLaws.{child_back, child_fits, child_only, child_same, child_some}
+use Rattle.rlp_trie.specs.{EmptyString.{empty_found, empty_only, is_empty_string, other_item}, declared.branch_child.BranchChild.BranchChild}
+use Rattle.rlp_trie.specs.declared.child.Child.{Child}
 
 place_back : (o : Option Child) → IsPlace o → IsSized (place_item o) → place_of (encoding (place_item o)) ≡ Ok (seen_place o)
 place_back None is sized = cond-true (is_empty_string (encoding (string []))) _ _ empty_found

@@ -4,8 +4,7 @@ use Rattle.std.proofs.lemmas.Bool.{cond-true, cond-false}
 use Rattle.std.specs.Prelude.{nat_le}
 use Rattle.rlp.specs.{Format.Encoding.{string, IsSized, encoding, AreBytes}, Format.Framing.begins_as_list, Values.RawItem.raw_item_of}
 use Rattle.rlp.specs.{Form.{here, is_too_big, map_value, raw_of}, Codec.{Codec, lawful}}
-use Rattle.rlp_reading.proofs.{Lemmas.RawItems.{raw_is, string_kind}, FirstItemLaws.{ReadsItems, items_lawful}}
-use Rattle.rlp_reading.proofs.{RawLaws.{raw_fits, raw_given, raw_of-canonical}, StringLaws.array_lawful}
+use Rattle.rlp_reading.proofs.{RawLaws.{raw_is, string_kind, ReadsItems, items_lawful, raw_fits, raw_given, raw_of-canonical}, StringLaws.array_lawful}
 use Rattle.rlp_reading.specs.FirstItems.{item_type}
 use Rattle.rlp_records.proofs.Alone.{left_only, not_left, not_right, right_only}
 use Rattle.rlp_trie.specs.{Child.{IsChild, child_item, child_of, hash_of, inline_of, seen_child, written_child}, declared.child.Child.Child}
@@ -55,10 +54,9 @@ child_only b c bytes fits is = child_by b c (begins_as_list b) bytes fits refl i
 
 pub child_fits : (c d : Child) → seen_child c ≡ seen_child d → IsChild c → IsChild d
 child_fits (Node hash) (Node other) same is = subst (λ d. length d ≡ 32) (let bytes : hash.0 ≡ other.0 = cc in bytes) is
-child_fits (Node hash) (Inline node) same is = absurd (let no : ⊥ = cc in no)
-child_fits (Inline node) (Node hash) same is = absurd (let no : ⊥ = cc in no)
 child_fits (Inline node) (Inline other) same is =
     subst (λ d. d ≡ encoding (raw_item_of d)) (let bytes : node.item ≡ other.item = cc in bytes) is
+child_fits c d same is = absurd (let no : ⊥ = cc in no)
 
 pub child_same : (c : Child) → written_child (seen_child c) ≡ child_item c
 child_same (Node hash) = refl

@@ -2,9 +2,9 @@
 use Rattle.std.specs.{Prelude.{ℕ, ◌≡◌, ◌⊎◌, List, Option, Result, Ok, Err, option_map}, Global.Vec, Vec.vec_items}
 use Rattle.rlp.specs.{DecoderError.DecoderError, Format.Encoding.Item}
 use Rattle.rlp.specs.DecoderError.TheVariants as decoder
-use Rattle.rlp_trie.specs.{Child.child_item, Lookup.{Step, ends, goes}, ProofWalk.{IsSameKind, Walk}, declared.proof_fault.ProofFault.ProofFault}
-use Rattle.rlp_trie.specs.{declared.proof_fault.ProofFault.TheVariants.{FaultyNode, OutOfMemory}, declared.step.Next.Next}
-use Rattle.rlp_trie.specs.declared.step.Next.TheVariants.{Below, Value}
+use Rattle.rlp_trie.specs.{Child.child_item, Lookup.{Step, ends, goes}, ProofWalk.{IsSameKind, Walk}, declared.proof.ProofFault.ProofFault}
+use Rattle.rlp_trie.specs.{declared.proof.ProofFault.TheVariants.{FaultyNode, OutOfMemory}, declared.walk.Next.Next}
+use Rattle.rlp_trie.specs.declared.walk.Next.TheVariants.{Below, Value}
 
 -- the value, or the reference to the node below and the rest of the path
 abbrev pub next_step : Next → Step

@@ -14,13 +14,9 @@ path_again : (leaf : Bool) (d : List ℕ) → ends_in_leaf d ≡ Some leaf → i
 path_again leaf d is some = ap (path_of_kind leaf d) is ∙ kind_again leaf d some
 
 kind_only : (leaf : Bool) (d x : List ℕ) (o : Option Bool) (empty : Bool) → is_empty_extension d ≡ empty → path_of_kind leaf d o ≡ Ok x → d ≡ x
-kind_only leaf d x None empty none is = absurd (let no : ⊥ = cc in no)
-kind_only true d x (Some false) empty none is = absurd (let no : ⊥ = cc in no)
-kind_only false d x (Some true) empty none is = absurd (let no : ⊥ = cc in no)
-kind_only true d x (Some true) true none is = absurd (let no : ⊥ = cc in no)
 kind_only true d x (Some true) false none is = cc
-kind_only false d x (Some false) true none is = absurd (let no : ⊥ = cc in no)
 kind_only false d x (Some false) false none is = cc
+kind_only leaf d x o empty none is = absurd (let no : ⊥ = cc in no)
 
 -- the bytes of a path are read back, and no other bytes are read
 pub path_strings : (flag : ℕ) → ReadsStrings (λ (p : Path flag). ⊤) (λ p. vec_items p.bytes) (λ p. vec_items p.bytes) (λ d. d) (path_of (is_leaf_flag flag))

@@ -4,8 +4,8 @@ use Rattle.rlp_records.specs.Keccak.{keccak256}
 use Rattle.rlp.specs.{DecoderError.DecoderError, Format.Encoding.{encoding, Item, list, string}, Views.Text.error_name, Views.View.strict_view_of}
 use Rattle.rlp.specs.Form.{Faults}
 use Rattle.rlp_trie.specs.{HexPrefix.nibbles_of, Lookup.{Encodes, ends, goes, step}, TrieNodeLaws.trie_node}
-use Rattle.rlp_trie.specs.declared.proof_fault.ProofFault.{ProofFault}
-use Rattle.rlp_trie.specs.declared.proof_fault.ProofFault.TheVariants.{FaultyNode, MissingNode, NodesLeft, OtherHash, OutOfMemory}
+use Rattle.rlp_trie.specs.declared.proof.ProofFault.{ProofFault}
+use Rattle.rlp_trie.specs.declared.proof.ProofFault.TheVariants.{FaultyNode, MissingNode, NodesLeft, OtherHash, OutOfMemory}
 use Rattle.rlp_trie.specs.declared.trie_node.TrieNode.{TrieNode}
 
 -- the printed text of a fault

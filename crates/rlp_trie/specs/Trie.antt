@@ -1,7 +1,7 @@
 -- How nodes of the trie are written and read.
 use Rattle.std.specs.{Prelude.{ℕ, None, get_or}, Vec.vec_items}
 use Rattle.rlp.specs.Codec.{Codec, Fields, byte_string, each, end, field, struct_of}
-use Rattle.rlp_trie.specs.{declared.branch.Branch.Branch, declared.branch_child.BranchChild.BranchChild, declared.extension.Extension.Extension}
+use Rattle.rlp_trie.specs.{declared.branch.Branch.Branch, declared.branch_child.BranchChild.BranchChild, declared.leaf.Extension.Extension}
 use Rattle.rlp_trie.specs.{declared.leaf.Leaf.Leaf, BranchChildLaws.branch_child, ChildLaws.child, PathLaws.path}
 
 -- a path and a value

@@ -1,17 +1,18 @@
 -- Nodes of the trie are read back, and are read only from their encodings.
-use Rattle.std.proofs.Common.{◌≡◌, ◌≢◌, ◌<◌, ◌^◌, ◌==◌, inl, inr, ℕ, Bool, true, false, List, [], ◌∷◌, length, refl, sym, ap, ◌∙◌, Ok, Err, Result, unwrap_or}
-use Rattle.std.proofs.lemmas.Bool.{cond-true, cond-false}
+use Rattle.std.proofs.Common.{ℕ, ◌<◌, ◌==◌, ◌^◌, ◌∙◌, ◌∷◌, ◌≡◌, ◌≢◌, Bool, Err, List, Ok, Result, [], ap, false, inl, inr, length, refl, sym, true, unwrap_or}
+use Rattle.std.proofs.lemmas.Bool.{cond-false, cond-true}
 use Rattle.std.specs.Vec.{vec_items}
-use Rattle.rlp.specs.{Format.Encoding.{IsSized, encoding, Item, list_of, string, AreBytes}, Views.View.{item_count, strict_view_of}}
-use Rattle.rlp.specs.{Form.{Fault, and_then, incorrect_list_len, map_value, seen_fault}, Codec.{Codec, lawful}}
-use Rattle.rlp_reading.proofs.{Lemmas.StringsHeld.held_only, Lemmas.WholeLists.{strict_first, strict_item_count, strict_items, strict_list_told}}
-use Rattle.rlp_reading.proofs.{FirstItemLaws.{ReadsItems, items_lawful}, ListLaws.{goes_on, is_mapped, items_sized}}
+use Rattle.rlp.specs.{Codec.{Codec, lawful}, Form.{Fault, and_then, incorrect_list_len, map_value, seen_fault}}
+use Rattle.rlp.specs.{Format.Encoding.{AreBytes, IsSized, Item, encoding, list_of, string}, Views.View.{item_count, strict_view_of}}
+use Rattle.rlp_reading.proofs.Lemmas.StringsHeld.{held_only}
+use Rattle.rlp_reading.proofs.RawLaws.{ReadsItems, items_lawful}
+use Rattle.rlp_reading.proofs.{Lemmas.WholeLists.{held_at, held_count}, ListLaws.{goes_on, is_mapped, items_sized}}
 use Rattle.rlp_reading.specs.FirstItems.{item_type}
 use Rattle.rlp_records.proofs.Alone.{result_same}
-use Rattle.rlp_trie.specs.{Child.child_item, EmptyString.is_empty_string, EmptyStringLaws.{empty_found, empty_only, other_item}}
-use Rattle.rlp_trie.specs.{HexPrefix.is_leaf_flag, Trie.{branch, branch_fields, extension, extension_fields, leaf, leaf_fields}}
+use Rattle.rlp_trie.specs.{Child.child_item, EmptyString.{empty_found, empty_only, is_empty_string, other_item}, HexPrefix.is_leaf_flag}
+use Rattle.rlp_trie.specs.Trie.{branch, branch_fields, extension, extension_fields, leaf, leaf_fields}
 use Rattle.rlp_trie.specs.TrieNode.{IsTrieNode, SeenNode, begins_as_leaf, is_leaf_item, is_leaf_string, list_of_len, node_item, node_of, pair_of, seen_node, written_node}
-use Rattle.rlp_trie.specs.{declared.branch.Branch.Branch, declared.extension.Extension.Extension, declared.leaf.Leaf.Leaf, declared.path.Path.Path}
+use Rattle.rlp_trie.specs.{declared.branch.Branch.Branch, declared.leaf.Extension.Extension, declared.leaf.Leaf.Leaf, declared.path.Path.Path}
 use Rattle.rlp_trie.specs.declared.trie_node.TrieNode.{TrieNode}
 use Rattle.rlp_trie.specs.declared.trie_node.TrieNode.TheVariants as node
 
@@ -25,7 +26,7 @@ module _ (xs : List Item) (sized : IsSized (list_of xs)) where
   by_len : list_of xs ≢ string [] → (node_of whole_list).result ≡ (list_of_len whole_list (length xs)).result
   by_len other =
       result_same (cond-false (is_empty_string whole_list) _ _ (other_item (list_of xs) sized other))
-      ∙ ap (λ r. and_then (seen_fault r) (λ n. (list_of_len whole_list n).result)) (strict_item_count xs whole_list sized refl)
+      ∙ ap (λ r. and_then (seen_fault r) (λ n. (list_of_len whole_list n).result)) (held_count (strict_view_of whole_list) xs sized refl)
 
 -- a list that begins with a path begins with the path of a leaf or of an extension, as the path says
 begins_by : (flag : ℕ) (p : Path flag) (x : Item) → IsSized (list_of (string (vec_items p.bytes) ∷ x ∷ []))
@@ -35,7 +36,7 @@ begins_by flag p x sized =
     let xs = first ∷ x ∷ [] in
     let b = encoding (list_of xs) in
     let parts = items_sized true b xs sized refl in
-    ap is_leaf_item (strict_first b (encoding first) (encoding x ∷ []) (strict_list_told xs b sized refl) (strict_items xs b sized refl))
+    ap is_leaf_item (held_at (strict_view_of b) [] (x ∷ []) first sized refl)
     ∙ ap is_leaf_string (held_only (strict_view_of (encoding first)) (vec_items p.bytes) parts.0 refl)
     ∙ ap (λ leaf. unwrap_or leaf false) p.encoded
 
@@ -78,23 +79,17 @@ module _ (b : List ℕ) (bytes : AreBytes b) (fits : length b < 2 ^ 64) where
   IsNode n = IsTrieNode n × (b ≡ encoding (node_item n))
 
   leaf_only : (n : TrieNode) (m : leaf.reading.M) → (leaf.reading.read (strict_view_of b)).result ≡ Ok m → as_leaf m ≡ seen_node n → IsNode n
-  leaf_only node.Empty m is same = absurd (let no : ⊥ = cc in no)
   leaf_only (node.Leaf l) m is same = leaf.reads_strictly.exact.only b l bytes fits (is ∙ ap Ok (let one : m ≡ leaf.reading.seen l = cc in one))
-  leaf_only (node.Extension e) m is same = absurd (let no : ⊥ = cc in no)
-  leaf_only (node.Branch x) m is same = absurd (let no : ⊥ = cc in no)
+  leaf_only n m is same = absurd (let no : ⊥ = cc in no)
 
   extension_only : (n : TrieNode) (m : extension.reading.M) → (extension.reading.read (strict_view_of b)).result ≡ Ok m → as_extension m ≡ seen_node n → IsNode n
-  extension_only node.Empty m is same = absurd (let no : ⊥ = cc in no)
-  extension_only (node.Leaf l) m is same = absurd (let no : ⊥ = cc in no)
   extension_only (node.Extension e) m is same =
       extension.reads_strictly.exact.only b e bytes fits (is ∙ ap Ok (let one : m ≡ extension.reading.seen e = cc in one))
-  extension_only (node.Branch x) m is same = absurd (let no : ⊥ = cc in no)
+  extension_only n m is same = absurd (let no : ⊥ = cc in no)
 
   branch_only : (n : TrieNode) (m : branch.reading.M) → (branch.reading.read (strict_view_of b)).result ≡ Ok m → as_branch m ≡ seen_node n → IsNode n
-  branch_only node.Empty m is same = absurd (let no : ⊥ = cc in no)
-  branch_only (node.Leaf l) m is same = absurd (let no : ⊥ = cc in no)
-  branch_only (node.Extension e) m is same = absurd (let no : ⊥ = cc in no)
   branch_only (node.Branch x) m is same = branch.reads_strictly.exact.only b x bytes fits (is ∙ ap Ok (let one : m ≡ branch.reading.seen x = cc in one))
+  branch_only n m is same = absurd (let no : ⊥ = cc in no)
 
   pair_only : (n : TrieNode) (kind : Bool) → begins_as_leaf b ≡ kind → (pair_of b).result ≡ Ok (seen_node n) → IsNode n
   pair_only n true kind is =
@@ -116,9 +111,7 @@ module _ (b : List ℕ) (bytes : AreBytes b) (fits : length b < 2 ^ 64) where
 
   empty_by : (n : TrieNode) → (let s : Result SeenNode Fault = Ok (inl tt) in s) ≡ Ok (seen_node n) → b ≡ encoding (string []) → IsNode n
   empty_by node.Empty same is = (tt, is)
-  empty_by (node.Leaf l) same is = absurd (let no : ⊥ = cc in no)
-  empty_by (node.Extension e) same is = absurd (let no : ⊥ = cc in no)
-  empty_by (node.Branch x) same is = absurd (let no : ⊥ = cc in no)
+  empty_by n same is = absurd (let no : ⊥ = cc in no)
 
   node_by : (n : TrieNode) (empty : Bool) → is_empty_string b ≡ empty → (node_of b).result ≡ Ok (seen_node n) → IsNode n
   node_by n true empty is = empty_by n (sym (result_same (cond-true (is_empty_string b) _ _ empty)) ∙ is) (empty_only b empty)
@@ -133,19 +126,11 @@ node_only b n bytes fits is = node_by b bytes fits n (is_empty_string b) refl is
 -- if contracts see two nodes alike and one of the two fits, both fit
 node_fits : (n m : TrieNode) → seen_node n ≡ seen_node m → IsTrieNode n → IsTrieNode m
 node_fits n node.Empty same fit = tt
-node_fits node.Empty (node.Leaf m) same fit = absurd (let no : ⊥ = cc in no)
-node_fits node.Empty (node.Extension f) same fit = absurd (let no : ⊥ = cc in no)
-node_fits node.Empty (node.Branch c) same fit = absurd (let no : ⊥ = cc in no)
 node_fits (node.Leaf l) (node.Leaf m) same fit = leaf.reads_strictly.told.fits l m (let one : leaf.reading.seen l ≡ leaf.reading.seen m = cc in one) fit
-node_fits (node.Leaf l) (node.Extension f) same fit = absurd (let no : ⊥ = cc in no)
-node_fits (node.Leaf l) (node.Branch c) same fit = absurd (let no : ⊥ = cc in no)
-node_fits (node.Extension e) (node.Leaf m) same fit = absurd (let no : ⊥ = cc in no)
 node_fits (node.Extension e) (node.Extension f) same fit =
     extension.reads_strictly.told.fits e f (let one : extension.reading.seen e ≡ extension.reading.seen f = cc in one) fit
-node_fits (node.Extension e) (node.Branch c) same fit = absurd (let no : ⊥ = cc in no)
-node_fits (node.Branch b) (node.Leaf m) same fit = absurd (let no : ⊥ = cc in no)
-node_fits (node.Branch b) (node.Extension f) same fit = absurd (let no : ⊥ = cc in no)
 node_fits (node.Branch b) (node.Branch c) same fit = branch.reads_strictly.told.fits b c (let one : branch.reading.seen b ≡ branch.reading.seen c = cc in one) fit
+node_fits n m same fit = absurd (let no : ⊥ = cc in no)
 
 node_same : (n : TrieNode) → written_node (seen_node n) ≡ node_item n
 node_same node.Empty = refl

@@ -3,9 +3,7 @@
 ghost use Rattle.rlp_trie.specs.Trie.{branch};
 
 use crate::BranchChild;
-use rlp::{
-    Decodable, DecodePlaced, DecoderError, Each, Encodable, Rlp, RlpStream, RoundTrip, StrictRead,
-};
+use rlp::{DecoderError, Each, Encodable, Record, Rlp, RlpStream};
 use std::alloc::{AllocError, Global};
 
 /// A node of the trie with a child for each value of the next nibble of the path: the list of the
@@ -36,7 +34,7 @@ impl Encodable for Branch {
     }
 }
 
-impl Decodable for Branch {
+impl Record for Branch {
     ghost reading = { branch.reading };
 
     fn decode(alloc: Global, rlp: &Rlp<'_>) -> Result<Branch, DecoderError> {
@@ -49,9 +47,7 @@ impl Decodable for Branch {
             }
         )
     }
-}
 
-impl DecodePlaced for Branch {
     fn put_path(alloc: Global, rlp: &Rlp<'_>, path: &mut Vec<usize>) -> Result<(), AllocError> {
         rlp::put_struct_path!(
             alloc, rlp, path, BranchChild, BranchChild, BranchChild, BranchChild, BranchChild,
@@ -59,12 +55,6 @@ impl DecodePlaced for Branch {
             BranchChild, BranchChild, BranchChild, BranchChild, BranchChild, Vec<u8>
         )
     }
-}
 
-impl RoundTrip for Branch {
-    ghost round_trip = { branch.reads_back };
-}
-
-impl StrictRead for Branch {
-    ghost strict = { branch.reads_strictly };
+    ghost lawful = { branch.reads_strictly };
 }

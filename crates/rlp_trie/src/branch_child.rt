@@ -1,13 +1,11 @@
 //! The places of branches of the trie: a child or no child.
 
-ghost use Rattle.rlp_trie.specs.BranchChildLaws.{branch_child};
+ghost use Rattle.std.specs.Prelude.{◌≡◌};
+ghost use Rattle.rlp_trie.specs.{BranchChildLaws.branch_child, EmptyString.is_empty_string};
 
 use crate::Child;
 use crate::child::child_of;
-use crate::empty::is_empty_string;
-use rlp::{
-    Decodable, DecodePlaced, DecoderError, Encodable, Rlp, RlpStream, RoundTrip, StrictRead,
-};
+use rlp::{DecoderError, Encodable, Record, Rlp, RlpStream};
 use std::alloc::{AllocError, Global};
 
 /// The child of a branch for one nibble of the path, or `None`, which is written as the empty
@@ -33,7 +31,7 @@ impl Encodable for BranchChild {
 
 /// Reads the first item as a [`Child`], or the empty string as `None`. Fails as reading a child
 /// does.
-impl Decodable for BranchChild {
+impl Record for BranchChild {
     ghost reading = { branch_child.reading };
 
     fn decode(alloc: Global, rlp: &Rlp<'_>) -> Result<BranchChild, DecoderError> {
@@ -44,18 +42,17 @@ impl Decodable for BranchChild {
         let child = child_of(alloc, item.as_raw())?;
         Ok(BranchChild(Some(child)))
     }
-}
 
-impl DecodePlaced for BranchChild {
     fn put_path(_alloc: Global, _rlp: &Rlp<'_>, _path: &mut Vec<usize>) -> Result<(), AllocError> {
         Ok(())
     }
+
+    ghost lawful = { branch_child.reads_strictly };
 }
 
-impl RoundTrip for BranchChild {
-    ghost round_trip = { branch_child.reads_back };
-}
-
-impl StrictRead for BranchChild {
-    ghost strict = { branch_child.reads_strictly };
+/// Returns whether bytes are the encoding of the empty string.
+pub(crate) fn is_empty_string(bytes: &[u8]) -> bool
+    ensures { result ≡ is_empty_string bytes.now }
+{
+    matches!(bytes, [0x80])
 }

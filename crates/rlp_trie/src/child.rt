@@ -5,10 +5,7 @@ ghost use Rattle.rlp.specs.{DecoderError.TheVariants.OutOfMemory, Form.fault_of}
 ghost use Rattle.rlp_trie.specs.{Child.{child_of, seen_child}, ChildLaws.child};
 
 use crate::InlineNode;
-use rlp::{
-    Decodable, DecodePlaced, DecoderError, Encodable, RawItem, Rlp, RlpStream, RoundTrip,
-    StrictRead,
-};
+use rlp::{DecoderError, Encodable, RawItem, Record, Rlp, RlpStream};
 use rlp_records::Hash;
 use std::alloc::{AllocError, Global};
 
@@ -45,27 +42,19 @@ impl Encodable for Child {
 /// Fails as [`Rlp::payload_info`] does, with `RlpIsTooShort` for a string of fewer than 32 bytes,
 /// with `RlpIsTooBig` for a string of more than 32 bytes or a list of 32 bytes or more, and as
 /// [`RawItem::new`] does.
-impl Decodable for Child {
+impl Record for Child {
     ghost reading = { child.reading };
 
     fn decode(alloc: Global, rlp: &Rlp<'_>) -> Result<Child, DecoderError> {
         let (item, _) = rlp.split_first()?;
         child_of(alloc, item.as_raw())
     }
-}
 
-impl DecodePlaced for Child {
     fn put_path(_alloc: Global, _rlp: &Rlp<'_>, _path: &mut Vec<usize>) -> Result<(), AllocError> {
         Ok(())
     }
-}
 
-impl RoundTrip for Child {
-    ghost round_trip = { child.reads_back };
-}
-
-impl StrictRead for Child {
-    ghost strict = { child.reads_strictly };
+    ghost lawful = { child.reads_strictly };
 }
 
 /// Reads a child from bytes that are one item.

@@ -1,11 +1,9 @@
-//! Leaves of the trie: the list of the rest of the path and the value.
+//! Nodes of the trie with a path: leaves, which end it, and extensions, which have one child.
 
-ghost use Rattle.rlp_trie.specs.Trie.{leaf};
+ghost use Rattle.rlp_trie.specs.Trie.{extension, leaf};
 
-use crate::LeafPath;
-use rlp::{
-    Decodable, DecodePlaced, DecoderError, Encodable, Rlp, RlpStream, RoundTrip, StrictRead,
-};
+use crate::{Child, ExtensionPath, LeafPath};
+use rlp::{DecoderError, Encodable, Record, Rlp, RlpStream};
 use std::alloc::{AllocError, Global};
 
 /// A node of the trie that ends a path: the list of the rest of the path and the value.
@@ -29,24 +27,51 @@ impl Encodable for Leaf {
     }
 }
 
-impl Decodable for Leaf {
+impl Record for Leaf {
     ghost reading = { leaf.reading };
 
     fn decode(alloc: Global, rlp: &Rlp<'_>) -> Result<Leaf, DecoderError> {
         rlp::decode_fields!(alloc, rlp, Leaf { path, value })
     }
-}
 
-impl DecodePlaced for Leaf {
     fn put_path(alloc: Global, rlp: &Rlp<'_>, path: &mut Vec<usize>) -> Result<(), AllocError> {
         rlp::put_struct_path!(alloc, rlp, path, LeafPath, Vec<u8>)
     }
+
+    ghost lawful = { leaf.reads_strictly };
 }
 
-impl RoundTrip for Leaf {
-    ghost round_trip = { leaf.reads_back };
+/// A node of the trie with one child: the list of a part of the path and the child.
+///
+/// See appendix D of the yellow paper.
+#[derive(Debug, Clone, PartialEq, Eq, Drop)]
+pub struct Extension {
+    /// A part of the path.
+    pub path: ExtensionPath,
+    /// The node at the end of this part. In a trie this node is a branch, which isn't tested.
+    pub child: Child,
 }
 
-impl StrictRead for Leaf {
-    ghost strict = { leaf.reads_strictly };
+impl Encodable for Extension {
+    ghost item = { extension.item };
+
+    ghost fits = { extension.Fits };
+
+    fn rlp_append(&self, s: &mut RlpStream) -> Result<(), AllocError> {
+        rlp::append_fields!(s, &self.path, &self.child)
+    }
+}
+
+impl Record for Extension {
+    ghost reading = { extension.reading };
+
+    fn decode(alloc: Global, rlp: &Rlp<'_>) -> Result<Extension, DecoderError> {
+        rlp::decode_fields!(alloc, rlp, Extension { path, child })
+    }
+
+    fn put_path(alloc: Global, rlp: &Rlp<'_>, path: &mut Vec<usize>) -> Result<(), AllocError> {
+        rlp::put_struct_path!(alloc, rlp, path, ExtensionPath, Child)
+    }
+
+    ghost lawful = { extension.reads_strictly };
 }

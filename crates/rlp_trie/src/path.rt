@@ -5,9 +5,7 @@ ghost use Rattle.rlp.specs.{DecoderError.TheVariants.OutOfMemory, Form.fault_of}
 ghost use Rattle.rlp_trie.specs.HexPrefix.{AreNibbles, IsNibbleFault, IsPath, ends_in_leaf, hex_prefix, is_empty_extension, is_leaf_flag, path_nibbles, path_of};
 
 use crate::hex_prefix::{are_nibbles, ends_in_leaf, hex_prefix, is_empty_extension, path_nibbles};
-use rlp::{
-    Decodable, DecodePlaced, DecoderError, Encodable, Rlp, RlpStream, RoundTrip, StrictRead,
-};
+use rlp::{DecoderError, Encodable, Record, Rlp, RlpStream};
 use std::alloc::{AllocError, Global};
 
 /// The path of a leaf.
@@ -111,7 +109,7 @@ impl<const FLAG: u8> Encodable for Path<FLAG> {
 }
 
 /// Reads a string, with one copy. Fails as [`Path::new`] does.
-impl<const FLAG: u8> Decodable for Path<FLAG> {
+impl<const FLAG: u8> Record for Path<FLAG> {
     ghost use Rattle.rlp_trie.specs.PathLaws.{path};
 
     ghost reading = { (path FLAG).reading };
@@ -119,22 +117,10 @@ impl<const FLAG: u8> Decodable for Path<FLAG> {
     fn decode(alloc: Global, rlp: &Rlp<'_>) -> Result<Path<FLAG>, DecoderError> {
         Path::new(alloc, rlp.decoder().string()?)
     }
-}
 
-impl<const FLAG: u8> DecodePlaced for Path<FLAG> {
     fn put_path(_alloc: Global, _rlp: &Rlp<'_>, _path: &mut Vec<usize>) -> Result<(), AllocError> {
         Ok(())
     }
-}
 
-impl<const FLAG: u8> RoundTrip for Path<FLAG> {
-    ghost use Rattle.rlp_trie.specs.PathLaws.{path};
-
-    ghost round_trip = { (path FLAG).reads_back };
-}
-
-impl<const FLAG: u8> StrictRead for Path<FLAG> {
-    ghost use Rattle.rlp_trie.specs.PathLaws.{path};
-
-    ghost strict = { (path FLAG).reads_strictly };
+    ghost lawful = { (path FLAG).reads_strictly };
 }

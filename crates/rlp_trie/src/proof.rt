@@ -1,15 +1,17 @@
-//! Proofs of what the trie has for a key, as `eth_getProof` of Ethereum's clients gives them.
+//! Proofs of what a trie has for a key, and why a proof fails.
 
-ghost use Rattle.std.specs.{Prelude.{ℕ, ◌≡◌, ◌⊎◌, IfErr, IfOk, IsErrAnd, List, Err, Ok, Option, map, option_map}, Vec.vec_items};
+ghost use Rattle.std.specs.{Prelude.{ℕ, ◌≡◌, ◌⊎◌, Err, IfErr, IfOk, IsErrAnd, List, Ok, Option, Some, map, option_map}, Vec.vec_items};
 ghost use Rattle.rlp.specs.Format.Encoding.{string};
-ghost use Rattle.rlp_trie.specs.{HexPrefix.nibbles_of, Lookup.HasValue, ProofWalk.{IsKnown, IsSameKind, ProofGives}};
-ghost use Rattle.rlp_trie.specs.{declared.proof_fault.ProofFault.ProofFault, declared.proof_fault.ProofFault.TheVariants.OutOfMemory};
+ghost use Rattle.rlp_trie.specs.{HexPrefix.nibbles_of, Lookup.HasValue, ProofWalk.{IsKnown, IsSameKind, ProofGives}, declared.proof.ProofFault.ProofFault, declared.proof.ProofFault.TheVariants.OutOfMemory};
 
+use crate::Child;
 use crate::hex_prefix::push_nibbles;
 use crate::walk::walk;
-use crate::{Child, ProofFault};
+use rlp::DecoderError;
 use rlp_records::Hash;
-use std::alloc::Global;
+use std::alloc::{AllocError, Global};
+use std::error::Error;
+use std::fmt;
 
 /// Returns the value that the trie with this root has for a key, or `None` if it has no value.
 /// `nodes` are the encodings of the nodes on the way from the root down, in order, which prove
@@ -44,4 +46,49 @@ pub fn verify_proof(
     let mut path = Vec::new(alloc);
     push_nibbles(&mut path, key)?;
     walk(alloc, Child::Node(*root), path.as_slice(), nodes)
+}
+
+/// Why nodes don't prove what the trie has for a key.
+#[derive(Debug, PartialEq, Eq, Drop)]
+pub enum ProofFault {
+    /// The nodes end before the walk does.
+    MissingNode,
+    /// The hash of a node isn't the root or the hash in the node above.
+    OtherHash,
+    /// A node, or a node that is kept in it, can't be read.
+    FaultyNode(DecoderError),
+    /// Nodes follow the node where the walk ends.
+    NodesLeft,
+    /// Memory was refused.
+    OutOfMemory,
+}
+
+/// Prints the variant's name, and for `FaultyNode` also the fault, as in
+/// `FaultyNode(RlpIsTooShort)`.
+impl fmt::Display for ProofFault {
+    ghost use Rattle.rlp_trie.specs.ProofWalk.{proof_fault_text};
+
+    ghost output = { λ e. Some (proof_fault_text e) };
+
+    fn fmt<W: fmt::Write>(&self, f: &mut fmt::Formatter<W>) -> fmt::Result {
+        match self {
+            ProofFault::MissingNode => f.write_str("MissingNode"),
+            ProofFault::OtherHash => f.write_str("OtherHash"),
+            ProofFault::FaultyNode(fault) => write!(f, "FaultyNode({fault})"),
+            ProofFault::NodesLeft => f.write_str("NodesLeft"),
+            ProofFault::OutOfMemory => f.write_str("OutOfMemory"),
+        }
+    }
+}
+
+impl Error for ProofFault {}
+
+impl From<AllocError> for ProofFault {
+    ghost use Rattle.rlp_trie.specs.declared.proof.ProofFault.TheVariants.{OutOfMemory};
+
+    ghost from_gives = { λ _ fault. fault ≡ OutOfMemory };
+
+    fn from(_refused: AllocError) -> ProofFault {
+        ProofFault::OutOfMemory
+    }
 }

@@ -5,12 +5,10 @@ ghost use Rattle.rlp.specs.{DecoderError.TheVariants.OutOfMemory, Format.Encodin
 ghost use Rattle.rlp_records.specs.Hashing.{IsHashOf};
 ghost use Rattle.rlp_trie.specs.{TrieNode.{begins_as_leaf, node_of, seen_node}, TrieNodeLaws.trie_node};
 
-use crate::empty::is_empty_string;
+use crate::branch_child::is_empty_string;
 use crate::hex_prefix::ends_in_leaf;
 use crate::{Branch, Extension, Leaf};
-use rlp::{
-    Decodable, DecodePlaced, DecoderError, Encodable, Rlp, RlpStream, RoundTrip, StrictRead,
-};
+use rlp::{DecoderError, Encodable, Record, Rlp, RlpStream};
 use rlp_records::{Hash, encoding_hash};
 use std::alloc::{AllocError, Global};
 
@@ -58,30 +56,22 @@ impl Encodable for TrieNode {
 /// [`Rlp::item_count`] do, with `RlpIncorrectListLen` for a list that has neither 2 nor 17 items, and
 /// else with the strict fault of the branch, the leaf or the extension. A list of two items is a leaf
 /// if it begins with the path of a leaf.
-impl Decodable for TrieNode {
+impl Record for TrieNode {
     ghost reading = { trie_node.reading };
 
     fn decode(alloc: Global, rlp: &Rlp<'_>) -> Result<TrieNode, DecoderError> {
         let (item, _) = rlp.split_first()?;
         node_of(alloc, item.as_raw())
     }
-}
 
-impl DecodePlaced for TrieNode {
     fn put_path(alloc: Global, rlp: &Rlp<'_>, path: &mut Vec<usize>) -> Result<(), AllocError> {
         match rlp.split_first() {
             Ok((item, _)) => put_node_path(alloc, item.as_raw(), path),
             Err(_) => Ok(()),
         }
     }
-}
 
-impl RoundTrip for TrieNode {
-    ghost round_trip = { trie_node.reads_back };
-}
-
-impl StrictRead for TrieNode {
-    ghost strict = { trie_node.reads_strictly };
+    ghost lawful = { trie_node.reads_strictly };
 }
 
 /// Reads a node from bytes that are one item.

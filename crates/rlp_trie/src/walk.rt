@@ -1,16 +1,15 @@
 //! The walk over the nodes of a proof.
 
-ghost use Rattle.std.specs.{Prelude.{ℕ, ◌≡◌, ◌⊎◌, IfErr, IfOk, List, Err, Ok, Option, Result, map}, Str.bytes_eq, Vec.vec_items};
-ghost use Rattle.rlp_records.specs.Keccak.{keccak256};
+ghost use Rattle.std.specs.{Prelude.{ℕ, ◌<◌, ◌≡◌, ◌⊎◌, Err, IfErr, IfOk, List, Ok, Option, Result, map, option_map}, Str.bytes_eq, Vec.vec_items};
 ghost use Rattle.rlp.specs.Format.Encoding.{string};
-ghost use Rattle.rlp_trie.specs.{Child.child_item, HexPrefix.AreNibbles, Lookup.Encodes, Next.{Agrees, IsEnd, read_fault}};
-ghost use Rattle.rlp_trie.specs.{ProofWalk.{IsNoNode, IsUnread, TakesNode, Walk, next_node}, declared.proof_fault.ProofFault.TheVariants.OutOfMemory};
+ghost use Rattle.rlp_records.specs.Keccak.{keccak256};
+ghost use Rattle.rlp_trie.specs.{Child.child_item, HexPrefix.{AreNibbles, path_nibbles}, Lookup.{Encodes, extension_step, place_step, step}, Next.{Agrees, IsEnd, next_step, read_fault}};
+ghost use Rattle.rlp_trie.specs.{ProofWalk.{IsNoNode, IsUnread, TakesNode, Walk, next_node}, Trie.child_at, declared.proof.ProofFault.TheVariants.OutOfMemory};
 
-use crate::step::{Next, step};
-use crate::{Child, ProofFault, TrieNode};
+use crate::{Branch, BranchChild, Child, Extension, Leaf, ProofFault, TrieNode};
 use rlp::{DecoderError, NULL_RLP};
 use rlp_records::{Hash, keccak256};
-use std::alloc::Global;
+use std::alloc::{AllocError, Global};
 
 /// Walks from a child along a path, over the nodes of a proof. Returns the value that the trie has
 /// for the path, or `None` if it has no value.
@@ -119,4 +118,80 @@ fn read_fault(fault: DecoderError) -> ProofFault
         DecoderError::OutOfMemory => ProofFault::OutOfMemory,
         fault => ProofFault::FaultyNode(fault),
     }
+}
+
+/// What a node says of a path.
+#[derive(Drop)]
+pub(crate) enum Next<'a> {
+    /// The value of the path, or `None` if the path has no value.
+    Value(Option<Vec<u8>>),
+    /// The node below, and the rest of the path.
+    Below(Child, &'a [u8]),
+}
+
+/// Returns what a node says of a path. Fails with `AllocError` if memory is refused.
+pub(crate) fn step<'a>(
+    alloc: Global,
+    node: TrieNode,
+    path: &'a [u8],
+) -> Result<Next<'a>, AllocError>
+    requires { AreNibbles path.now }
+    ensures { IfOk result (λ next. next_step next ≡ step node path.now) }
+{
+    match node {
+        TrieNode::Empty => Ok(Next::Value(None)),
+        TrieNode::Leaf(leaf) => leaf_step(alloc, leaf, path),
+        TrieNode::Extension(extension) => extension_step(alloc, extension, path),
+        TrieNode::Branch(branch) => Ok(branch_step(branch, path)),
+    }
+}
+
+/// Returns what a leaf says of a path.
+fn leaf_step<'a>(alloc: Global, leaf: Leaf, path: &'a [u8]) -> Result<Next<'a>, AllocError>
+    ensures { IfOk result (λ next. next_step next ≡ step (TrieNode.Leaf leaf) path.now) }
+{
+    let own = leaf.path.nibbles(alloc)?;
+    if own.as_slice() == path {
+        return Ok(Next::Value(Some(leaf.value)));
+    }
+    Ok(Next::Value(None))
+}
+
+/// Returns what an extension says of a path.
+fn extension_step<'a>(
+    alloc: Global,
+    extension: Extension,
+    path: &'a [u8],
+) -> Result<Next<'a>, AllocError>
+    ensures { IfOk result (λ next. next_step next ≡ step (TrieNode.Extension extension) path.now) }
+{
+    let own = extension.path.nibbles(alloc)?;
+    match path.strip_prefix(own.as_slice()) {
+        Some(rest) => Ok(Next::Below(extension.child, rest)),
+        None => Ok(Next::Value(None)),
+    }
+}
+
+/// Returns what a branch says of a path.
+fn branch_step<'a>(branch: Branch, path: &'a [u8]) -> Next<'a>
+    requires { AreNibbles path.now }
+    ensures { next_step result ≡ step (TrieNode.Branch branch) path.now }
+{
+    match path {
+        [] if branch.value.is_empty() => Next::Value(None),
+        [] => Next::Value(Some(branch.value)),
+        [nibble, rest @ ..] => match child_for(branch, *nibble) {
+            Some(child) => Next::Below(child, rest),
+            None => Next::Value(None),
+        },
+    }
+}
+
+/// Returns the child of a branch for a nibble.
+fn child_for(branch: Branch, nibble: u8) -> Option<Child>
+    requires { nibble < 16 }
+    ensures { result ≡ (child_at nibble branch).0 }
+{
+    let mut children = branch.children;
+    children[nibble as usize].0.take()
 }

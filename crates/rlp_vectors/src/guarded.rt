@@ -16,26 +16,21 @@ pub(crate) fn takes_items(s: &RlpStream, items: usize) -> bool
     }
 }
 
-/// Appends raw bytes. Returns `false` if the innermost open list awaits fewer items.
-pub(crate) fn put_raw(s: &mut RlpStream, bytes: &[u8], items: usize) -> Result<bool, AllocError> {
-    if !takes_items(s, items) {
-        return Ok(false);
-    }
-    s.append_raw(bytes, items).and(Ok(true))
-}
-
-/// Appends raw bytes within a size limit. Returns `false` if the closed size would be over the
-/// limit, or if the innermost open list awaits fewer items.
-pub(crate) fn put_raw_within(
+/// Appends raw bytes, within a limit of the closed size if one is given. Returns `false` if the
+/// closed size would be over the limit, or if the innermost open list awaits fewer items.
+pub(crate) fn put_raw(
     s: &mut RlpStream,
     bytes: &[u8],
     items: usize,
-    max_size: usize,
+    limit: Option<usize>,
 ) -> Result<bool, AllocError> {
     if !takes_items(s, items) {
         return Ok(false);
     }
-    s.append_raw_checked(bytes, items, max_size)
+    match limit {
+        Some(limit) => s.append_raw_checked(bytes, items, limit),
+        None => s.append_raw(bytes, items).and(Ok(true)),
+    }
 }
 
 /// Closes the innermost open list. Returns `false` if it isn't unbounded, or if no list is open.

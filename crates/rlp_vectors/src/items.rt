@@ -1,165 +1,142 @@
-//! The items of a list and the value of an item, by the calls of a view.
+//! The items of a list, items that are split off bytes, and trees in flat form. The answers were
+//! worked out by hand.
 
 use crate::rows::{Hex, Line, number};
-use crate::tables::raw;
+use crate::tables::Asked;
 use rlp::{DecoderError, Rlp};
+use std::alloc::Global;
 use std::fmt;
 use std::fmt::Write;
 
-/// Rows of items and values.
+/// Rows of items and values. No call takes memory.
 pub(crate) const ROWS: &str = "
-    lenient item: Items are found up to the first that isn't framed. Past them is the fault of what
-    follows.
-    c983636174c20102c103 2 | Ok(c103) Ok(c103) 8
-    c10102 0 | Ok(01) Ok(01) 1
-    none 0 | Err(RlpExpectedToBeList) RlpExpectedToBeList
-    05 0 | Err(RlpExpectedToBeList) RlpExpectedToBeList
-    c10102 1 | Err(RlpIsTooShort) RlpIsTooShort
-    c20582 1 | Err(RlpIsTooShort) RlpIsTooShort
-    c20582 7 | Err(RlpIsTooShort) RlpIsTooShort
-    c3058200 1 | Err(RlpIsTooShort) RlpIsTooShort
-    c305b800 1 | Err(RlpDataLenWithZeroPrefix) RlpDataLenWithZeroPrefix
-    c305b800 2 | Err(RlpDataLenWithZeroPrefix) RlpDataLenWithZeroPrefix
-    lenient count: The framed items are counted.
-    c88363617483646f67 | 2 2
-    c983636174c20102c103 | 3 3
-    c4c2010203 | 2 2
-    c88363617483646f | 0 0
-    c10102 | 1 1
-    c3058200 | 1 1
-    c305b800 | 1 1
-    ffffffffffffffffff | 0 0
-    c5 | 0 0
-    none | RlpExpectedToBeList
-    05 | RlpExpectedToBeList
-    lenient iterated: An iterator gives the framed items.
-    c5 | 0 (0, Some(0)); 0 (0, Some(0));
-    05 | 0 (0, Some(0)); 0 (0, Some(0));
-    lenient payload: A value may be followed by other bytes, and needn't be canonical.
+    items: The framed items up to the first that isn't framed, and the fault behind them.
+    c983636174c20102c103 | Ok(3) Ok(83636174) 1 Ok(c20102) 5 Ok(c103) 8 Err(RlpIsTooShort)
+    c88363617483646f67 | Ok(2) Ok(83636174) 1 Ok(83646f67) 5 Err(RlpIsTooShort)
+    c4c2010203 | Ok(2) Ok(c20102) 1 Ok(03) 4 Err(RlpIsTooShort)
+    c10102 | Ok(1) Ok(01) 1 Err(RlpIsTooShort)
+    c20582 | Ok(1) Ok(05) 1 Err(RlpIsTooShort)
+    c3058200 | Ok(1) Ok(05) 1 Err(RlpIsTooShort)
+    c305b800 | Ok(1) Ok(05) 1 Err(RlpDataLenWithZeroPrefix)
+    c88363617483646f | Ok(0) Err(RlpIsTooShort)
+    ffffffffffffffffff | Ok(0) Err(RlpIsTooShort)
+    c5 | Ok(0) Err(RlpIsTooShort)
+    none | Err(RlpExpectedToBeList) Err(RlpExpectedToBeList)
+    05 | Err(RlpExpectedToBeList) Err(RlpExpectedToBeList)
+    strict items: A strict view has items only if it is exactly one list of framed items, and they
+    are strict.
+    c101 | Ok(1) Ok(01) 1 Err(RlpIsTooShort)
+    c28105 | Ok(1) Ok(8105) 1 Err(RlpIsTooShort)
+    c10102 | Err(RlpIsTooBig) Err(RlpIsTooBig)
+    c3058200 | Err(RlpIsTooShort) Err(RlpIsTooShort)
+    c305b800 | Err(RlpDataLenWithZeroPrefix) Err(RlpDataLenWithZeroPrefix)
+    payload: A value may be followed by other bytes, and needn't be canonical.
     c88363617483646f67 | 1 8 8363617483646f67 of Ok(c88363617483646f67)
     c3830102 | 1 3 830102 of Ok(c3830102)
     0506 | 0 1 05 of Ok(0506)
     8105 | 1 1 05 of Ok(8105)
-    strict item: A strict view has items only if it is exactly one list of framed items, and they
-    are strict.
-    c101 0 | Ok(01) Ok(01) 1
-    c10102 0 | Err(RlpIsTooBig) RlpIsTooBig
-    c10102 1 | Err(RlpIsTooBig) RlpIsTooBig
-    c3058200 0 | Err(RlpIsTooShort) RlpIsTooShort
-    c305b800 0 | Err(RlpDataLenWithZeroPrefix) RlpDataLenWithZeroPrefix
-    c101 1 | Err(RlpIsTooShort) RlpIsTooShort
-    strict count: So does a strict view count items.
-    c10102 | RlpIsTooBig
-    c3058200 | RlpIsTooShort
-    c28105 | 1 1
-    strict iterated: An iterator of a strict view gives them.
-    c101 | 1 (1, Some(1)) Ok(01); 0 (0, Some(0)); 0 (0, Some(0));
     strict payload: Bytes after the value of a strict view are too much.
     8105 | 1 1 05 of Ok(8105)
     810500 | Some(RlpIsTooBig) Some(RlpIsTooBig)
-    lenient taken: An item stays after the view that it is taken from.
+    taken: An item stays after the view that it is taken from.
     c88363617483646f67 | Ok(83636174)
 ";
 
-/// Tells what a view answers about its items and its value. After the name of the call come the
-/// numbers of the items that it is asked for.
-pub(crate) fn tell_items(view: Rlp<'_>, call: &str, given: &str, out: &mut Line) -> fmt::Result {
-    let strict = view.is_strict();
-    match call {
-        "item" => tell_item(&view, strict, number(given), out),
-        "at" => tell_texts(&view, strict, given, out),
-        "at_with_offset" => tell_places(&view, strict, given, out),
-        "count" => tell_count(&view, out),
-        "iterated" => {
-            tell_iterated(&view, strict, out)?;
-            tell_texts(&view, strict, given, out)
-        }
-        _ => tell_payload(view, strict, out),
-    }
-}
+/// Rows of items that are split off, and of trees.
+pub(crate) const WITH_MEMORY: &str = "
+    split: Bytes that consist of items, and bytes that don't begin with one.
+    none | RlpIsTooShort
+    05 | Ok(05) RlpIsTooShort
+    c106 | Ok(c106) RlpIsTooShort
+    05c106 | Ok(05) Ok(c106) RlpIsTooShort
+    8363617480c000 | Ok(83636174) Ok(80) Ok(c0) Ok(00) RlpIsTooShort
+    810506 | Ok(8105) Ok(06) RlpIsTooShort
+    836361 | RlpIsTooShort 836361
+    c505 | RlpIsTooShort c505
+    b8 | RlpIsTooShort b8
+    b83800 | RlpIsTooShort b83800
+    b80005 | RlpDataLenWithZeroPrefix b80005
+    f80005 | RlpListLenWithZeroPrefix f80005
+    strict split: A strict view is split only if it is one item. If it isn't framed, this fault
+    comes first.
+    none | RlpIsTooShort
+    c106 | Ok(c106) RlpIsTooShort
+    8105 | Ok(8105) RlpIsTooShort
+    05c106 | RlpIsTooBig 05c106
+    8363617480 | RlpIsTooBig 8363617480
+    c505 | RlpIsTooShort c505
+    b80005 | RlpDataLenWithZeroPrefix b80005
+    first: Items that are framed but not canonical, with an empty list after them.
+    8105c0 | false Some(RlpInvalidIndirection) c0
+    c28105c0 | false Some(RlpInvalidIndirection) c0
+    c3058200c0 | false None c0
+    strict first: The same items alone, as strict views.
+    8105 | false Some(RlpInvalidIndirection)
+    c28105 | false Some(RlpInvalidIndirection)
+    c3058200 | false Some(RlpIsTooShort)
+    tree: Bytes and the greatest depth, and the items of their tree.
+    05 0 | string 0+0+1 in 0;
+    80 0 | string 0+1+0 in 0;
+    83636174 0 | string 0+1+3 in 0;
+    c0 1 | list 0+1+0 in 0;
+    c683636174c105 2 | list 0+1+6 in 0; string 1+1+3 in 1; list 5+1+1 in 1; string 6+0+1 in 2;
+    c3c0c1c0 3 | list 0+1+3 in 0; list 1+1+0 in 1; list 2+1+1 in 1; list 3+1+0 in 2;
+    c3c0c1c0 2 | TooDeep
+    c0 0 | TooDeep
+    none 9 | RlpIsTooShort
+    c005 9 | RlpIsTooBig
+    c28105 9 | RlpInvalidIndirection
+    c3058201 9 | RlpIsTooShort
+    c4c1c08105 1 | TooDeep
+    c48105c1c0 1 | RlpInvalidIndirection
+";
 
-/// Tells the items of these numbers, one after another by `at` of the same view, and their values as
-/// texts.
-fn tell_texts(view: &Rlp<'_>, strict: bool, numbers: &str, out: &mut Line) -> fmt::Result {
-    for index in numbers.split_whitespace() {
-        out.debug(raw(view.at(number(index)), strict))?;
-        out.then(text_at(view, number(index)))?;
-        out.write_str("; ")?;
-    }
-    Ok(())
-}
-
-/// Returns the value of the item of a number, as a text.
-fn text_at<'a>(view: &Rlp<'a>, index: usize) -> Result<&'a str, DecoderError> {
-    let item = view.at(index)?;
-    match std::str::from_utf8(item.data()?) {
-        Ok(text) => Ok(text),
-        Err(_) => Err(DecoderError::Custom("no text")),
-    }
-}
-
-/// Tells the items of these numbers, one after another by `at_with_offset` of the same view, and their
-/// places.
-fn tell_places(view: &Rlp<'_>, strict: bool, numbers: &str, out: &mut Line) -> fmt::Result {
-    for index in numbers.split_whitespace() {
-        tell_place(view, strict, number(index), out)?;
-        out.write_str("; ")?;
-    }
-    Ok(())
-}
-
-/// Tells the item of a number by `at_with_offset`, with its place.
-fn tell_place(view: &Rlp<'_>, strict: bool, index: usize, out: &mut Line) -> fmt::Result {
-    match view.at_with_offset(index) {
-        Ok((item, place)) => {
-            out.debug(raw(Ok(item), strict))?;
-            out.then(place)
-        }
-        Err(fault) => out.debug(fault),
-    }
-}
-
-/// Tells the item of a number, by `at`, and by `at_with_offset` with its place.
-fn tell_item(view: &Rlp<'_>, strict: bool, index: usize, out: &mut Line) -> fmt::Result {
-    out.debug(raw(view.at(index), strict))?;
-    out.write_str(" ")?;
-    tell_place(view, strict, index, out)
-}
-
-/// Tells the number of items, and how many an iterator gives.
-fn tell_count(view: &Rlp<'_>, out: &mut Line) -> fmt::Result {
-    match view.item_count() {
-        Ok(count) => {
-            out.debug(count)?;
-            out.then(view.iter().count())
-        }
-        Err(fault) => out.display(fault),
-    }
-}
-
-/// Tells what an iterator announces and gives, and twice what it announces once it has ended.
-fn tell_iterated(view: &Rlp<'_>, strict: bool, out: &mut Line) -> fmt::Result {
+/// Tells the number of items, and each item with its place and the fault behind them. They are the
+/// same by `at`, by `at_with_offset` and by an iterator, which announces how many items are left. An
+/// iterator of a strict view without items isn't compared. The first item is asked for again.
+pub(crate) fn tell_items(asked: &Asked<'_>, out: &mut Line) -> fmt::Result {
+    let view = asked.view();
     let mut items = view.iter();
-    for _ in 0..items.len().saturating_add(2) {
-        out.debug(items.len())?;
-        out.then(items.size_hint())?;
-        if let Some(item) = items.next() {
-            out.then(raw(Ok(item), strict))?;
+    let (count, first) = (view.item_count().unwrap_or(0), asked.raw(view.at(0)));
+    let is_iterated = !asked.strict || view.item_count().is_ok();
+    out.debug(view.item_count())?;
+    for index in 0..=count {
+        let (left, hint) = (items.len(), items.size_hint());
+        let found = asked.raw(view.at(index));
+        let is_same = match (view.at_with_offset(index), items.next()) {
+            (Ok((item, place)), Some(next)) => {
+                let is_same = asked.raw(Ok(item)) == found && asked.raw(Ok(next)) == found;
+                out.then(found)?;
+                out.then(place)?;
+                is_same
+            }
+            (Err(fault), next) => {
+                let is_end = next.is_none() && items.next().is_none();
+                let behind = view.at(index.saturating_add(6)).err();
+                out.then(found)?;
+                let is_first_again = asked.raw(view.at(0)) == first;
+                behind == Some(fault) && is_first_again && (is_end || !is_iterated)
+            }
+            _ => false,
+        };
+        let is_announced = left == count.saturating_sub(index) && hint == (left, Some(left));
+        if !is_same || (is_iterated && !is_announced) {
+            return out.write_str(" and otherwise by another call");
         }
-        out.write_str("; ")?;
     }
     Ok(())
 }
 
 /// Tells the lengths of the header and of the value, the value, and the bytes of the view.
-fn tell_payload(view: Rlp<'_>, strict: bool, out: &mut Line) -> fmt::Result {
+pub(crate) fn tell_payload(asked: &Asked<'_>, out: &mut Line) -> fmt::Result {
+    let view = asked.view();
     match (view.payload_info(), view.data()) {
         (Ok(info), Ok(value)) => {
             out.debug(info.header_len)?;
             out.then(info.value_len)?;
             out.then(Hex(value))?;
             out.write_str(" of")?;
-            out.then(raw(Ok(view), strict))
+            out.then(asked.raw(Ok(view.clone())))
         }
         (info, value) => {
             out.debug(info.err())?;
@@ -170,8 +147,8 @@ fn tell_payload(view: Rlp<'_>, strict: bool, out: &mut Line) -> fmt::Result {
 
 /// Tells the first item of a list. The view that it is taken from is dropped before the item is
 /// read.
-pub(crate) fn tell_taken(bytes: &[u8], out: &mut Line) -> fmt::Result {
-    out.debug(raw(taken(bytes), false))
+pub(crate) fn tell_taken(asked: &Asked<'_>, out: &mut Line) -> fmt::Result {
+    out.debug(asked.raw(taken(asked.bytes)))
 }
 
 /// Returns the first item of a list.
@@ -179,4 +156,81 @@ fn taken<'a>(bytes: &'a [u8]) -> Result<Rlp<'a>, DecoderError> {
     let view = Rlp::new(bytes);
     let mut items = view.iter();
     items.next().ok_or(DecoderError::Custom("no item"))
+}
+
+/// Tells the items that are split off one after another, and then the fault, and what is left.
+pub(crate) fn tell_split(asked: &Asked<'_>, out: &mut Line) -> fmt::Result {
+    let mut left = asked.view();
+    for _ in 0..=asked.bytes.len() {
+        match left.split_first() {
+            Ok((item, rest)) => {
+                out.debug(asked.raw(Ok(item)))?;
+                out.write_str(" ")?;
+                left = if asked.strict {
+                    Rlp::new_strict(rest)
+                } else {
+                    Rlp::new(rest)
+                };
+            }
+            Err(fault) => {
+                out.debug(fault)?;
+                return out.then(Hex(left.as_raw()));
+            }
+        }
+    }
+    Ok(())
+}
+
+/// Tells whether the first item is canonical, its fault as a number or as a list of numbers, and
+/// the bytes that follow it.
+pub(crate) fn tell_first(asked: &Asked<'_>, out: &mut Line) -> fmt::Result {
+    match asked.view().split_first() {
+        Ok((item, rest)) => {
+            out.debug(item.is_canonical(9))?;
+            out.then(fault_of(asked.alloc, &item))?;
+            out.then(Hex(rest))
+        }
+        Err(fault) => out.display(fault),
+    }
+}
+
+/// Returns the fault of an item as a number or as a list of numbers.
+fn fault_of(alloc: Global, item: &Rlp<'_>) -> Option<DecoderError> {
+    if item.is_list() {
+        item.as_list::<u8>(alloc).err()
+    } else {
+        item.as_val::<u8>(alloc).err()
+    }
+}
+
+/// Tells the place, the header, the payload and the depth of each item of a tree, or the fault.
+pub(crate) fn tell_tree(asked: &Asked<'_>, out: &mut Line) -> fmt::Result {
+    let items = match asked.view().flatten(asked.alloc, number(asked.rest)) {
+        Ok(items) => items,
+        Err(fault) => return out.display(fault),
+    };
+    for item in items.as_slice() {
+        let kind = if item.is_list { "list" } else { "string" };
+        let (header, payload) = (item.header_len, item.payload_len);
+        write!(
+            out,
+            "{kind} {}+{header}+{payload} in {}; ",
+            item.place, item.depth
+        )?;
+    }
+    Ok(())
+}
+
+/// Tells the number of the items of a list before and after its third item is read, whether the
+/// second item is a list, and the third number of the third item.
+pub(crate) fn tell_third(alloc: Global, view: &Rlp<'_>, out: &mut Line) -> fmt::Result {
+    out.debug(view.item_count())?;
+    out.then(matches!(view.at(1), Ok(item) if item.is_list()))?;
+    out.then(third_of_third(alloc, view))?;
+    out.then(view.item_count())
+}
+
+/// Returns the third number of the third item.
+fn third_of_third(alloc: Global, view: &Rlp<'_>) -> Result<u16, DecoderError> {
+    view.at(2)?.val_at::<u16>(alloc, 2)
 }

@@ -8,11 +8,7 @@ mod appended;
 #[cfg(test)]
 mod carried;
 #[cfg(test)]
-mod compare;
-#[cfg(test)]
 mod fields;
-#[cfg(test)]
-mod flattened;
 #[cfg(test)]
 mod guarded;
 #[cfg(test)]
@@ -24,44 +20,24 @@ mod laws;
 #[cfg(test)]
 mod limits;
 #[cfg(test)]
-mod lists;
-#[cfg(test)]
 mod never;
 #[cfg(test)]
-mod places;
-#[cfg(test)]
-mod raw_items;
-#[cfg(test)]
 mod refused;
-#[cfg(test)]
-mod refused_reads;
 pub mod rows;
 #[cfg(test)]
 mod script;
 #[cfg(test)]
-mod splitting;
-#[cfg(test)]
 mod streams;
 #[cfg(test)]
-mod strict;
-#[cfg(test)]
-mod structs;
-#[cfg(test)]
 mod tables;
-#[cfg(test)]
-mod texts;
 #[cfg(test)]
 mod trees;
 #[cfg(test)]
 mod two_bytes;
 #[cfg(test)]
-mod types;
-#[cfg(test)]
-mod uints;
+mod typed;
 #[cfg(test)]
 mod uses;
-#[cfg(test)]
-mod values;
 #[cfg(test)]
 mod views;
 #[cfg(test)]

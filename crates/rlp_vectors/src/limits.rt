@@ -1,10 +1,10 @@
 //! Raw bytes that are appended within a limit, for limits below and above the resulting closed
 //! size.
 
-use crate::rows::{cut, number};
-use crate::script::is_met;
-use rlp_write::RlpStream;
+use crate::rows::{Line, cut, number};
+use crate::tables::check;
 use std::alloc::{AllocError, Global};
+use std::fmt::Write;
 use std::test::Fail;
 
 /// A row has the number of open lists, one inside another; the number of bytes 00 in the innermost;
@@ -62,63 +62,75 @@ fn numbers_of(row: &str) -> (usize, usize, usize, usize) {
     (number(lists), number(held), number(added), number(size))
 }
 
-/// Returns a script for a row, with how its lists are begun: its bytes are appended if and only if
-/// the resulting closed size is within the limit. An open list holds a byte 00 in the place of its
-/// header.
-fn script_of(
+/// Appends the script of a row for a limit: its bytes are appended if and only if the resulting closed
+/// size is within the limit. An open list holds a byte 00 in the place of its header.
+fn push_script(
+    scripts: &mut String,
+    (lists, held, added, size): (usize, usize, usize, usize),
+    [outer, innermost, left]: [&str; 3],
+    (front, len): (&str, usize),
+    limit: usize,
+) -> Result<(), AllocError> {
+    let (before, last) = (lists.saturating_sub(1), usize::from(lists > 0));
+    let zeros = lists.saturating_add(held).saturating_add(added);
+    write!(
+        scripts,
+        "over {front}; {before} times {outer}; {last} times {innermost}; raw 1 00*{held}; "
+    )?;
+    if limit < size {
+        write!(scripts, "!")?;
+    }
+    write!(scripts, "within {limit} 00*{added}")?;
+    let end = if limit < size { held } else { size };
+    if lists > 0 && limit < size {
+        writeln!(scripts, " | open")?;
+    } else if lists > 0 && left != "done" {
+        writeln!(scripts, "; is {size} {left} {front}+00*{zeros} | open")?;
+    } else {
+        let all = len.saturating_add(end);
+        writeln!(scripts, "; size {end} | {all} begins {front}")?;
+    }
+    Ok(())
+}
+
+/// Returns scripts for a row, with how its lists are begun. The limits are 0, around the size, around
+/// the size with nine bytes for each header, and the greatest `usize`.
+fn scripts_of(
     alloc: Global,
     row: &str,
     begun: [&str; 3],
     front: (&str, usize),
-    limit: usize,
 ) -> Result<String, AllocError> {
-    let (lists, held, added, size) = numbers_of(row);
-    let ([outer, innermost, left], (front, len)) = (begun, front);
-    let (before, last) = (lists.saturating_sub(1), usize::from(lists > 0));
-    let open = format!(in alloc;
-        "over {front}; {before} times {outer}; {last} times {innermost}; raw 1 00*{held}"
-    )?;
+    let numbers = numbers_of(row);
+    let (lists, held, added, size) = numbers;
+    let (below, above) = (size.saturating_sub(1), size.saturating_add(1));
     let zeros = lists.saturating_add(held).saturating_add(added);
-    let within = limit >= size;
-    if lists > 0 && !within {
-        return format!(in alloc; "{open}; !within {limit} 00*{added} = open");
+    let most = zeros.saturating_add(lists.saturating_mul(8));
+    let mut scripts = String::from_str(alloc, "script:\n")?;
+    for limit in [
+        0,
+        below,
+        size,
+        above,
+        most.saturating_sub(1),
+        most,
+        usize::MAX,
+    ] {
+        push_script(&mut scripts, numbers, begun, front, limit)?;
     }
-    if lists > 0 && left != "done" {
-        let is = format!(in alloc; "is {size} {left} {front}+00*{zeros} = open")?;
-        return format!(in alloc; "{open}; within {limit} 00*{added}; {is}");
-    }
-    let (sign, size) = if within { ("", size) } else { ("!", held) };
-    let len = len.saturating_add(size);
-    format!(in alloc; "{open}; {sign}within {limit} 00*{added}; size {size} = {len} begins {front}")
-}
-
-/// Fails with the first script that isn't met, for one of these limits: 0, around the size, around
-/// the size with nine bytes for each header, or the greatest `usize`.
-fn all_answered(alloc: Global, begun: [&str; 3], front: (&str, usize)) -> Result<(), Fail> {
-    for row in ROWS.lines() {
-        let (lists, held, added, size) = numbers_of(row);
-        let most = lists
-            .saturating_mul(9)
-            .saturating_add(held)
-            .saturating_add(added);
-        let (below, above) = (size.saturating_sub(1), size.saturating_add(1));
-        let almost = most.saturating_sub(1);
-        for limit in [0, below, size, above, almost, most, usize::MAX] {
-            let script = script_of(alloc, row, begun, front, limit)?;
-            if !is_met(alloc, RlpStream::new(alloc)?, script.as_str())? {
-                return Err(Fail::new(script.as_str()));
-            }
-        }
-    }
-    Ok(())
+    Ok(scripts)
 }
 
 #[test]
 fn limits(rt: HostRuntime) -> Result<(), Fail> {
+    let mut wrong = Line::new();
     for begun in LISTS {
         for front in FRONTS {
-            all_answered(rt.alloc(), begun, front)?;
+            for row in ROWS.lines() {
+                let scripts = scripts_of(rt.alloc(), row, begun, front)?;
+                check(rt.alloc(), scripts.as_str(), &mut wrong);
+            }
         }
     }
-    Ok(())
+    wrong.none_noted()
 }

@@ -2,8 +2,9 @@
 //! many lengths.
 
 use crate::guarded::finishes_as;
-use crate::script::{all_met, halves};
-use rlp_write::RlpStream;
+use crate::rows::push_header;
+use crate::tables::check_rows;
+use rlp::RlpStream;
 use std::alloc::{AllocError, Global};
 use std::fmt::Write;
 use std::test::Fail;
@@ -13,10 +14,10 @@ use std::test::Fail;
 const TREES: usize = 2 + 1 + 93 + 93 * 93;
 
 /// The rows of two strings: the empty string, and the string of a byte 80.
-const STRINGS: &str = "empty = 80\nstring 80 = 8180\n";
+const STRINGS: &str = "empty | 80\nstring 80 | 8180\n";
 
 /// The row of no item.
-const NONE: &str = "raw 0 = ";
+const NONE: &str = "raw 0 | ";
 
 /// How a list of no item, of one, or of two begins, and how it ends.
 type Ways = [&'static str; 4];
@@ -27,6 +28,11 @@ const ANNOUNCED: Ways = ["begin 0", "begin 1", "begin 2", ""];
 /// Unbounded lists.
 const UNBOUNDED: Ways = ["unbounded", "unbounded", "unbounded", "; finalize"];
 
+/// Returns the script and the bytes of a row.
+fn cells(row: &str) -> (&str, &str) {
+    row.split_once(" | ").unwrap_or((row, ""))
+}
+
 /// Writes the row of a list of the items of two rows. Its payload has fewer than 56 bytes, so its
 /// header has one byte.
 fn push_list(
@@ -36,14 +42,13 @@ fn push_list(
     first: &str,
     second: &str,
 ) -> Result<(), AllocError> {
-    let (one, bytes) = halves(first);
-    let (two, more) = halves(second);
+    let ((one, bytes), (two, more)) = (cells(first), cells(second));
     let header = 0xc0usize
         .saturating_add(bytes.len() / 2)
         .saturating_add(more.len() / 2);
     writeln!(
         trees,
-        "{begins}; {one}; {two}{ends} = {header:02x}{bytes}{more}"
+        "{begins}; {one}; {two}{ends} | {header:02x}{bytes}{more}"
     )
 }
 
@@ -77,20 +82,20 @@ fn trees_are_written(alloc: Global, ways: Ways) -> Result<(), Fail> {
     if deep.as_str().lines().count() != TREES {
         return Err(Fail::new("another number of trees"));
     }
-    all_met(alloc, deep.as_str())
+    check_rows(alloc, format!(in alloc; "script:\n{deep}")?.as_str())
 }
 
-/// Writes the string of this payload of fewer than 2^24 bytes.
-fn write(bytes: &mut Vec<u8>, payload: &[u8]) -> Result<(), AllocError> {
-    let [_, _, _, _, _, high, middle, low] = payload.len().to_be_bytes();
-    match payload {
-        [byte] if *byte < 0x80 => {}
-        _ if high > 0 => bytes.extend_from_slice(&[0xba, high, middle, low])?,
-        _ if middle > 0 => bytes.extend_from_slice(&[0xb9, middle, low])?,
-        _ if low > 55 => bytes.extend_from_slice(&[0xb8, low])?,
-        _ => bytes.extend_from_slice(&[low.wrapping_add(0x80)])?,
+/// Returns the string of `len` bytes 00: its header is that of a list, less 40.
+fn zeros_of(alloc: Global, len: usize) -> Result<Vec<u8>, AllocError> {
+    let mut backwards = vec![in alloc; 0u8; len]?;
+    if len != 1 {
+        push_header(&mut backwards)?;
+        if let Some(first) = backwards.as_mut_slice().last_mut() {
+            *first = first.wrapping_sub(0x40);
+        }
     }
-    bytes.extend_from_slice(payload)
+    backwards.as_mut_slice().reverse();
+    Ok(backwards)
 }
 
 /// Returns the first length, of lengths around those at which headers get longer and of other
@@ -98,12 +103,9 @@ fn write(bytes: &mut Vec<u8>, payload: &[u8]) -> Result<(), AllocError> {
 fn first_wrong_len(alloc: Global) -> Result<Option<usize>, AllocError> {
     for len in 0usize..70_001 {
         if len < 301 || (len + 2) % 1_000 < 3 || (len + 10) % 512 < 20 {
-            let zeros = vec![in alloc; 0u8; len]?;
-            let mut bytes = Vec::new(alloc);
-            write(&mut bytes, zeros.as_slice())?;
             let mut s = RlpStream::new(alloc)?;
-            s.append(&zeros)?;
-            if !finishes_as(s, bytes.as_slice()) {
+            s.append(&vec![in alloc; 0u8; len]?)?;
+            if !finishes_as(s, zeros_of(alloc, len)?.as_slice()) {
                 return Ok(Some(len));
             }
         }

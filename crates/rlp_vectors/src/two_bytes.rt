@@ -2,6 +2,8 @@
 //! expected numbers were counted by the tables of the format, not by these calls.
 
 use crate::rows::{Line, cut, number};
+use crate::tables::{Asked, check_rows};
+use crate::views::FAULTS;
 use bytes::{Bytes, BytesMut};
 use rlp::{BasicDecoder, Decodable, DecoderError, PayloadInfo, Prototype, Rlp, Uint};
 use std::alloc::Global;
@@ -9,84 +11,42 @@ use std::fmt;
 use std::fmt::Write;
 use std::test::Fail;
 
-/// The number of inputs with an `Ok` result, then the number of inputs with each fault, in the order
-/// in which the faults are declared, and then the sum of what the results measure.
-type Tally = [usize; 14];
-
-/// What a call gives for an input: what its result measures, or a fault.
+/// What a call gives for an input: what its result measures, such as a length, or 1 if it is `true`;
+/// or a fault.
 type Answer = Result<usize, DecoderError>;
 
-/// Returns the place of a fault in a tally.
-fn place_of(fault: &DecoderError) -> usize {
-    match fault {
-        DecoderError::RlpIsTooBig => 1,
-        DecoderError::RlpIsTooShort => 2,
-        DecoderError::RlpExpectedToBeList => 3,
-        DecoderError::RlpExpectedToBeData => 4,
-        DecoderError::RlpIncorrectListLen => 5,
-        DecoderError::RlpDataLenWithZeroPrefix => 6,
-        DecoderError::RlpListLenWithZeroPrefix => 7,
-        DecoderError::RlpInvalidIndirection => 8,
-        DecoderError::RlpInconsistentLengthAndData => 9,
-        DecoderError::RlpInvalidLength => 10,
-        DecoderError::Custom(_) => 11,
-        DecoderError::OutOfMemory => 12,
-    }
-}
-
-/// Adds to a number of a tally.
-fn add(tally: &mut Tally, place: usize, more: usize) {
-    if let Some(count) = tally.get_mut(place) {
-        *count = count.saturating_add(more);
-    }
-}
-
-/// Counts the answers to all inputs.
-fn counted(alloc: Global, call: &str) -> Tally {
-    let mut tally = [0; 14];
+/// Tells how all inputs are answered: the number of `Ok` results, the numbers of each fault, in the
+/// order in which the faults are declared, and then the sum of what the results measure. Or the sum
+/// alone.
+pub(crate) fn tell_tally(asked: &Asked<'_>, out: &mut Line) -> fmt::Result {
+    let mut counts = [0usize; 13];
+    let mut sum = 0usize;
     for word in 0..=u16::MAX {
-        match answered(alloc, &word.to_be_bytes(), call) {
-            Ok(measure) => {
-                add(&mut tally, 0, 1);
-                add(&mut tally, 13, measure);
-            }
-            Err(fault) => add(&mut tally, place_of(&fault), 1),
+        let answer = answered(asked.alloc, &word.to_be_bytes(), asked.given);
+        if let Some(count) = counts.get_mut(place_of(&answer)) {
+            *count = count.saturating_add(1);
         }
+        sum = sum.saturating_add(answer.unwrap_or(0));
     }
-    tally
+    if asked.call == "sum" {
+        return out.debug(sum);
+    }
+    for count in counts {
+        write!(out, "{count} ")?;
+    }
+    out.debug(sum)
 }
 
-/// Writes the numbers of a tally.
-fn tell_tally(tally: &Tally, out: &mut Line) -> fmt::Result {
-    let mut gap = "";
-    for count in tally {
-        out.write_str(gap)?;
-        out.debug(count)?;
-        gap = " ";
+/// Returns the place of an answer in a tally.
+fn place_of(answer: &Answer) -> usize {
+    let Err(fault) = answer else {
+        return 0;
+    };
+    let custom = 11;
+    match FAULTS.iter().position(|other| other == fault) {
+        Some(place) => place.saturating_add(1),
+        None => custom,
     }
-    Ok(())
-}
-
-/// Writes the tally of a call, or behind `sum: ` the sum of what it measures.
-fn tell(alloc: Global, call: &str, out: &mut Line) -> fmt::Result {
-    match call.strip_prefix("sum: ") {
-        Some(call) => out.display(summed(alloc, call)),
-        None => tell_tally(&counted(alloc, call), out),
-    }
-}
-
-/// Fails with the calls of a table that have another tally or sum. A row has a call, a bar, and what
-/// is told of it. Other lines are comments.
-fn check(alloc: Global, table: &str) -> Result<(), Fail> {
-    let mut wrong = Line::new();
-    for line in table.lines() {
-        if let Some((call, want)) = line.trim().split_once(" | ") {
-            let mut said = Line::new();
-            let _ = tell(alloc, call, &mut said);
-            wrong.note(call, "", said.as_str(), want);
-        }
-    }
-    wrong.none_noted()
 }
 
 /// Returns what a call gives for an input: a call of a lenient or a strict view, or a way to read it.
@@ -97,128 +57,46 @@ fn answered(alloc: Global, bytes: &[u8], call: &str) -> Answer {
         "lenient" => of_view(&Rlp::new(bytes), call),
         "strict" => of_view(&Rlp::new_strict(bytes), call),
         "decoded" => decoded(alloc, bytes, call),
-        "listed" => listed(alloc, &Rlp::new(bytes), call),
+        "as_list" => Rlp::new(bytes).as_list::<u8>(alloc).and(Ok(0)),
+        "val_at" => Rlp::new(bytes).val_at::<u8>(alloc, 0).and(Ok(0)),
+        "list_at" => Rlp::new(bytes).list_at::<u8>(alloc, 0).and(Ok(0)),
         "decoder" => BasicDecoder::new(bytes).decode_value(length),
-        _ => Rlp::new(bytes).decoder().decode_value(length),
+        "view's" => Rlp::new(bytes).decoder().decode_value(length),
+        "begun" => Ok(usize::from(is_begun(alloc, bytes))),
+        _ => Ok(usize::from(is_sound(bytes, false) && is_sound(bytes, true))),
     }
+}
+
+/// Returns the length of a string.
+fn length(string: &[u8]) -> Answer {
+    Ok(string.len())
 }
 
 /// Returns what a call of a view gives. A header measures the lengths of header and value together,
 /// and an item its place.
 fn of_view(view: &Rlp<'_>, call: &str) -> Answer {
-    match call {
-        "payload_info" => Ok(view.payload_info()?.checked_total().unwrap_or(0)),
-        "data" => Ok(view.data()?.len()),
-        "item_count" => view.item_count().and(Ok(0)),
-        "at 0" => view.at(0).and(Ok(0)),
-        "at 1" => view.at(1).and(Ok(0)),
-        "item 0" => Ok(view.at_with_offset(0)?.1),
-        "item 1" => Ok(view.at_with_offset(1)?.1),
-        _ => Ok(view.at_with_offset(usize::MAX)?.1),
-    }
-}
-
-/// Rows of views.
-const VIEWS: &str = "
-    What the calls give that read a header, or the value of a view. Strict views are whole where
-    the input is exactly one framed item: `8100` to `81ff`, `c100` to `c1ff`.
-    header | 61840 0 3570 0 0 0 8 8 110 0 0 0 0 912920
-    lenient payload_info | 33792 0 31618 0 0 0 8 8 110 0 0 0 0 34304
-    lenient data | 33792 0 31618 0 0 0 8 8 110 0 0 0 0 33280
-    strict payload_info | 512 33280 31618 0 0 0 8 8 110 0 0 0 0 1024
-    strict data | 512 33280 31618 0 0 0 8 8 110 0 0 0 0 512
-
-    What the calls give that count or find items. Strict views have items where the input is
-    exactly one list of framed items: `c100` to `c180`, `c1c0`. None of those lists has a second
-    item.
-    lenient item_count | 16384 0 0 49152 0 0 0 0 0 0 0 0 0 0
-    lenient item 0 | 130 0 16191 49152 0 0 0 8 55 0 0 0 0 130
-    lenient item 1 | 0 0 16321 49152 0 0 0 8 55 0 0 0 0 0
-    lenient last item | 0 0 16321 49152 0 0 0 8 55 0 0 0 0 0
-    strict item_count | 130 256 15935 49152 0 0 0 8 55 0 0 0 0 0
-    strict at 0 | 130 256 15935 49152 0 0 0 8 55 0 0 0 0 0
-    strict at 1 | 0 256 16065 49152 0 0 0 8 55 0 0 0 0 0
-
-    The numbers of inputs that are a list, are a string, are empty, begin with a number, and
-    nest within 0, 1 and 2 lists; the sums of the sizes, of the lengths in prototypes of
-    strings, and of the numbers of items in prototypes of lists; and the numbers of inputs that
-    are canonical within the depths 0 to 3, by a lenient view and by a strict one. `8180` to
-    `81ff` are canonical and have depth 0, `c100` to `c17f` and `c180` have depth 1, and `c1c0`
-    has depth 2.
-    sum: sound | 65536
-    sum: lenient is_list | 16384
-    sum: lenient is_data | 49152
-    sum: lenient is_empty | 512
-    sum: lenient is_int | 47049
-    sum: lenient within 0 | 65024
-    sum: lenient within 1 | 65535
-    sum: lenient within 2 | 65536
-    sum: lenient size | 33024
-    sum: lenient string | 33024
-    sum: lenient items | 130
-    sum: lenient canonical 0 | 128
-    sum: lenient canonical 1 | 257
-    sum: lenient canonical 2 | 258
-    sum: lenient canonical 3 | 258
-    sum: strict canonical 0 | 128
-    sum: strict canonical 1 | 257
-    sum: strict canonical 2 | 258
-    sum: strict canonical 3 | 258
-    sum: lenient numbered | 65536
-";
-
-/// Returns whether a view and its clone have these bytes and are of this kind.
-fn is_sound(view: &Rlp<'_>, is_strict: bool, bytes: &[u8]) -> bool {
-    let copy = view.clone();
-    let are_same = view.as_raw() == bytes && copy.as_raw() == bytes;
-    !view.is_null() && view.is_strict() == is_strict && copy.is_strict() == is_strict && are_same
-}
-
-/// Returns whether the item of this number has these bytes.
-fn is_item(view: &Rlp<'_>, index: usize, bytes: &[u8]) -> bool {
-    match view.at(index) {
-        Ok(item) => item.as_raw() == bytes,
-        Err(_) => false,
-    }
-}
-
-/// Returns whether each item of the iterator is the item of the same number by `at`, each of two
-/// times, and the iterator gives the number of items that it announces, and then `None`.
-fn is_numbered(view: &Rlp<'_>) -> bool {
-    let mut items = view.iter();
-    let (len, mut index) = (items.len(), 0usize);
-    for item in view {
-        let bytes = item.as_raw();
-        if items.next().is_none() || !is_item(view, index, bytes) || !is_item(view, index, bytes) {
-            return false;
-        }
-        index = index.saturating_add(1);
-    }
-    items.next().is_none()
-        && items.next().is_none()
-        && items.len() == 0
-        && items.size_hint() == (0, Some(0))
-        && len == index
-        && len == view.item_count().unwrap_or(0)
-}
-
-/// Returns what a view measures of an input: 1 if it is so, or a length.
-fn measured(view: &Rlp<'_>, call: &str) -> usize {
-    let (call, limit) = cut(call);
-    match call {
+    let (name, index) = (cut(call).0, number(cut(call).1));
+    let measure = match name {
+        "payload_info" => view.payload_info()?.checked_total().unwrap_or(0),
+        "data" => view.data()?.len(),
+        "item_count" => return view.item_count().and(Ok(0)),
+        "at" => return view.at(index).and(Ok(0)),
+        "item" => view.at_with_offset(index)?.1,
+        "last" => view.at_with_offset(usize::MAX)?.1,
         "is_list" => usize::from(view.is_list()),
         "is_data" => usize::from(view.is_data()),
         "is_empty" => usize::from(view.is_empty()),
         "is_int" => usize::from(view.is_int()),
-        "within" => usize::from(view.is_nested_within(number(limit))),
-        "canonical" => usize::from(view.is_canonical(number(limit))),
+        "within" => usize::from(view.is_nested_within(index)),
+        "canonical" => usize::from(view.is_canonical(index)),
         "size" => view.size(),
         "string" => lengths_of(view).0,
         "items" => lengths_of(view).1,
         "numbered" => usize::from(is_numbered(view)),
         "letters" => text_of(view).as_str().len(),
         _ => usize::from(text_of(view).as_str() == "[]"),
-    }
+    };
+    Ok(measure)
 }
 
 /// Returns the lengths in a view's prototype: of a string, and of a list.
@@ -237,29 +115,91 @@ fn text_of(view: &Rlp<'_>) -> Line {
     text
 }
 
-/// Returns the sum of what all inputs measure, by a lenient view or a strict one.
-fn summed(alloc: Global, call: &str) -> usize {
-    let mut sum = 0usize;
-    let (kind, call) = cut(call);
-    for word in 0..=u16::MAX {
-        let bytes = word.to_be_bytes();
-        let (view, strict) = (Rlp::new(&bytes), Rlp::new_strict(&bytes));
-        let measure = match kind {
-            "sound" => {
-                usize::from(is_sound(&view, false, &bytes) && is_sound(&strict, true, &bytes))
-            }
-            "begun" => usize::from(is_begun(alloc, &bytes)),
-            "strict" => measured(&strict, call),
-            _ => measured(&view, call),
-        };
-        sum = sum.saturating_add(measure);
-    }
-    sum
+/// Returns whether a view of the bytes and its clone have these bytes and are of this kind.
+fn is_sound(bytes: &[u8], is_strict: bool) -> bool {
+    let view = if is_strict {
+        Rlp::new_strict(bytes)
+    } else {
+        Rlp::new(bytes)
+    };
+    let copy = view.clone();
+    let are_same = view.as_raw() == bytes && copy.as_raw() == bytes;
+    !view.is_null() && view.is_strict() == is_strict && copy.is_strict() == is_strict && are_same
 }
+
+/// Returns whether each item of the iterator is the item of the same number by `at`, each of two
+/// times, and the iterator gives the number of items that it announces, and then `None`.
+fn is_numbered(view: &Rlp<'_>) -> bool {
+    let mut items = view.iter();
+    let (len, mut index) = (items.len(), 0usize);
+    for item in view {
+        let bytes = item.as_raw();
+        let is_same = matches!(view.at(index), Ok(item) if item.as_raw() == bytes)
+            && matches!(view.at(index), Ok(item) if item.as_raw() == bytes);
+        if items.next().is_none() || !is_same {
+            return false;
+        }
+        index = index.saturating_add(1);
+    }
+    items.next().is_none()
+        && items.next().is_none()
+        && items.len() == 0
+        && items.size_hint() == (0, Some(0))
+        && len == index
+        && len == view.item_count().unwrap_or(0)
+}
+
+/// Rows of views.
+const VIEWS: &str = "
+    tally: What the calls give that read a header, or the value of a view. Strict views are whole
+    where the input is exactly one framed item, which is `8100` to `81ff` or `c100` to `c1ff`.
+    header | 61840 0 3570 0 0 0 8 8 110 0 0 0 0 912920
+    lenient payload_info | 33792 0 31618 0 0 0 8 8 110 0 0 0 0 34304
+    lenient data | 33792 0 31618 0 0 0 8 8 110 0 0 0 0 33280
+    strict payload_info | 512 33280 31618 0 0 0 8 8 110 0 0 0 0 1024
+    strict data | 512 33280 31618 0 0 0 8 8 110 0 0 0 0 512
+
+    What the calls give that count or find items. Strict views have items where the input is
+    exactly one list of framed items, `c100` to `c180` or `c1c0`. None of those lists has a second
+    item.
+    lenient item_count | 16384 0 0 49152 0 0 0 0 0 0 0 0 0 0
+    lenient item 0 | 130 0 16191 49152 0 0 0 8 55 0 0 0 0 130
+    lenient item 1 | 0 0 16321 49152 0 0 0 8 55 0 0 0 0 0
+    lenient last item | 0 0 16321 49152 0 0 0 8 55 0 0 0 0 0
+    strict item_count | 130 256 15935 49152 0 0 0 8 55 0 0 0 0 0
+    strict at 0 | 130 256 15935 49152 0 0 0 8 55 0 0 0 0 0
+    strict at 1 | 0 256 16065 49152 0 0 0 8 55 0 0 0 0 0
+
+    sum: The numbers of inputs that are a list, are a string, are empty, begin with a number, and
+    nest within 0, 1 and 2 lists, the sums of the sizes, of the lengths in prototypes of strings, and
+    of the numbers of items in prototypes of lists, and the numbers of inputs that are canonical
+    within the depths 0 to 3, by a lenient view and by a strict one. `8180` to `81ff` are canonical
+    and have depth 0, `c100` to `c17f` and `c180` have depth 1, and `c1c0` has depth 2.
+    sound | 65536
+    lenient is_list | 16384
+    lenient is_data | 49152
+    lenient is_empty | 512
+    lenient is_int | 47049
+    lenient within 0 | 65024
+    lenient within 1 | 65535
+    lenient within 2 | 65536
+    lenient size | 33024
+    lenient string | 33024
+    lenient items | 130
+    lenient canonical 0 | 128
+    lenient canonical 1 | 257
+    lenient canonical 2 | 258
+    lenient canonical 3 | 258
+    strict canonical 0 | 128
+    strict canonical 1 | 257
+    strict canonical 2 | 258
+    strict canonical 3 | 258
+    lenient numbered | 65536
+";
 
 #[test]
 fn views_of_two_bytes(rt: HostRuntime) -> Result<(), Fail> {
-    check(rt.alloc(), VIEWS)
+    check_rows(rt.alloc(), VIEWS)
 }
 
 /// Returns what reading an input as a `T` gives.
@@ -288,14 +228,9 @@ fn decoded(alloc: Global, bytes: &[u8], of: &str) -> Answer {
     }
 }
 
-/// Returns the length of a string.
-fn length(string: &[u8]) -> Answer {
-    Ok(string.len())
-}
-
 /// Rows of numbers.
 const NUMBERS: &str = "
-    256 inputs for each byte from 01 to 80, and `8180` to `81ff`, are numbers. 256 inputs for
+    tally: 256 inputs for each byte from 01 to 80, and `8180` to `81ff`, are numbers. 256 inputs for
     each of the bytes 01 and 80 are truth values, and other numbers are none. `decode_value`, by
     the view's decoder and by a new one, calls its closure with strings, of which are 256 for
     each byte up to 80, and `8180` to `81ff`. The sum of their lengths is 256 for each byte
@@ -314,43 +249,8 @@ const NUMBERS: &str = "
 
 #[test]
 fn numbers_of_two_bytes(rt: HostRuntime) -> Result<(), Fail> {
-    check(rt.alloc(), NUMBERS)
+    check_rows(rt.alloc(), NUMBERS)
 }
-
-/// Returns what reading an input as a list of `u8` gives, its first item as a `u8`, or its first
-/// item as a list of `u8`.
-fn listed(alloc: Global, view: &Rlp<'_>, call: &str) -> Answer {
-    match call {
-        "as_list" => view.as_list::<u8>(alloc).and(Ok(0)),
-        "val_at" => view.val_at::<u8>(alloc, 0).and(Ok(0)),
-        _ => view.list_at::<u8>(alloc, 0).and(Ok(0)),
-    }
-}
-
-/// Rows of strings and lists.
-const STRINGS: &str = "
-    Strings are 256 inputs for each byte up to 80, and `8180` to `81ff`. The empty string is too
-    short for an array, and the strings of `8180` to `81ff` are no texts. Each list but `c100`
-    and `c1c0` is read as an option, most as `None`. All inputs but these two are read as lists,
-    most as empty ones.
-    decoded Vec | 33152 0 0 0 16384 0 0 0 184 15816 0 0 0 0
-    decoded Bytes | 33152 0 0 0 16384 0 0 0 184 15816 0 0 0 0
-    decoded BytesMut | 33152 0 0 0 16384 0 0 0 184 15816 0 0 0 0
-    decoded [u8; 1] | 32896 0 256 0 16384 0 0 0 184 15816 0 0 0 0
-    decoded String | 33024 0 0 0 16512 0 0 0 184 15816 0 0 0 0
-    decoded Box | 32896 0 0 0 16384 0 0 0 440 15816 0 0 0 0
-    decoded Option | 16382 0 0 49152 1 0 0 0 1 0 0 0 0 0
-    listed as_list | 65534 0 0 0 1 0 0 0 1 0 0 0 0 0
-    listed val_at | 128 0 16191 49152 1 0 0 8 56 0 0 0 0 0
-    listed list_at | 130 0 16191 49152 0 0 0 8 55 0 0 0 0 0
-
-    The number of inputs that print as `[]`, and the sum of the lengths of all texts.
-    sum: lenient printed as [] | 382
-    sum: lenient letters | 614694
-
-    The inputs that give a number are exactly the 32,896 that begin with the encoding of a number.
-    sum: begun | 32896
-";
 
 /// Returns whether an input gives a number and begins with its encoding.
 fn is_begun(alloc: Global, bytes: &[u8]) -> bool {
@@ -363,7 +263,31 @@ fn is_begun(alloc: Global, bytes: &[u8]) -> bool {
     }
 }
 
+/// Rows of strings and lists.
+const STRINGS: &str = "
+    tally: Strings are 256 inputs for each byte up to 80, and `8180` to `81ff`. The empty string is too
+    short for an array, and the strings of `8180` to `81ff` are no texts. Each list but `c100`
+    and `c1c0` is read as an option, most as `None`. All inputs but these two are read as lists,
+    most as empty ones.
+    decoded Vec | 33152 0 0 0 16384 0 0 0 184 15816 0 0 0 0
+    decoded Bytes | 33152 0 0 0 16384 0 0 0 184 15816 0 0 0 0
+    decoded BytesMut | 33152 0 0 0 16384 0 0 0 184 15816 0 0 0 0
+    decoded [u8; 1] | 32896 0 256 0 16384 0 0 0 184 15816 0 0 0 0
+    decoded String | 33024 0 0 0 16512 0 0 0 184 15816 0 0 0 0
+    decoded Box | 32896 0 0 0 16384 0 0 0 440 15816 0 0 0 0
+    decoded Option | 16382 0 0 49152 1 0 0 0 1 0 0 0 0 0
+    as_list | 65534 0 0 0 1 0 0 0 1 0 0 0 0 0
+    val_at | 128 0 16191 49152 1 0 0 8 56 0 0 0 0 0
+    list_at | 130 0 16191 49152 0 0 0 8 55 0 0 0 0 0
+
+    sum: The number of inputs that print as `[]`, the sum of the lengths of all texts, and the number
+    of inputs that give a number, which are exactly those that begin with the encoding of one.
+    lenient printed | 382
+    lenient letters | 614694
+    begun | 32896
+";
+
 #[test]
 fn strings_and_lists_of_two_bytes(rt: HostRuntime) -> Result<(), Fail> {
-    check(rt.alloc(), STRINGS)
+    check_rows(rt.alloc(), STRINGS)
 }

@@ -1,9 +1,13 @@
 //! The examples of calls, some of which the pages show.
 
 use crate::guarded::finishes_as;
-use rlp::{DecoderError, Rlp, RlpStream};
+use bytes::BytesMut;
+use rlp::{
+    DecoderError, EMPTY_LIST_RLP, Each, Encodable, Flattened, ListOf, NULL_RLP, Rlp, RlpStream,
+};
 use rlp_examples::{
-    append_by_stream, append_each, chain_and_encoder, first_and_text, nested, received, renumbered,
+    HalfWritten, Refusing, Trio, append_by_stream, append_each, bytes_of_three, chain_and_encoder,
+    first_and_text, nested, received, renumbered,
 };
 use std::alloc::{AllocError, Global};
 use std::test::Fail;
@@ -36,12 +40,21 @@ fn stream_holds(alloc: Global) -> Result<bool, AllocError> {
     Ok(finishes_as(s, &[1, 2, 3, 4, 1, 2, 0x81, 0x80, 0x80]))
 }
 
-/// Returns whether the list of the example is written.
-fn list_is_nested(alloc: Global) -> Result<bool, AllocError> {
-    match nested(alloc)? {
-        Some(bytes) => Ok(bytes.as_slice() == b"\xc9\x83cat\xc2\x01\x02\xc1\x03".as_slice()),
-        None => Ok(false),
-    }
+/// Returns whether fields that are slices are written.
+fn slices_are_fields(alloc: Global) -> Result<bool, AllocError> {
+    let mut s = RlpStream::new(alloc)?;
+    let pairs = [(&1u64, &2u64), (&3u64, &4u64)];
+    rlp::append_fields!(&mut s, Each(&[7u64, 8]), Flattened(&pairs), ListOf(&[5u64]))?;
+    Ok(s.as_raw() == b"\xc8\x07\x08\x01\x02\x03\x04\xc1\x05".as_slice())
+}
+
+/// Returns whether a value whose writing fails leaves the stream as it was, and has no encoding.
+fn is_refused<E: Encodable>(alloc: Global, value: &E) -> Result<bool, AllocError> {
+    let mut s = RlpStream::new(alloc)?;
+    s.append(&"cat")?;
+    let refused = s.append(value).is_err();
+    let alone = rlp::encode(alloc, value).is_err() && value.rlp_bytes(alloc).is_err();
+    Ok(refused && alone && finishes_as(s, b"\x83cat"))
 }
 
 #[test]
@@ -51,6 +64,13 @@ fn examples_as_shown(rt: HostRuntime) -> Result<(), Fail> {
     assert!(rt; view_is_read(alloc)?);
     assert!(rt; parcel_is_renumbered(alloc)?);
     assert!(rt; rlp::decode::<u64>(alloc, &[0x82, 0x01, 0x00])? == 256);
-    assert!(rt; list_is_nested(alloc)?);
+    let list = nested(alloc)?.unwrap_or(BytesMut::new(alloc));
+    assert!(rt; list.as_slice() == b"\xc9\x83cat\xc2\x01\x02\xc1\x03".as_slice());
+    assert!(rt; NULL_RLP == [0x80] && EMPTY_LIST_RLP == [0xc0]);
+    assert!(rt; slices_are_fields(alloc)?);
+    let three = bytes_of_three(alloc, &"cat", &128u64, &"")?;
+    assert!(rt; three.as_slice() == b"\x83cat\x81\x80\x80".as_slice());
+    assert!(rt; is_refused(alloc, &Trio(1, Refusing, 3))?);
+    assert!(rt; is_refused(alloc, &HalfWritten)?);
     Ok(())
 }

@@ -1,13 +1,33 @@
-//! The calls of a view about all its bytes, and headers at the lengths at which their form changes.
+//! The calls of a view about all its bytes, headers at the lengths at which their form changes, and
+//! the texts of views and of faults.
 
-use crate::rows::Line;
-use rlp::{PayloadInfo, Rlp};
+use crate::carried::HASHES;
+use crate::rows::{Line, number};
+use crate::tables::{Asked, check_row};
+use rlp::{DecoderError, PayloadInfo, Rlp};
 use std::fmt;
 use std::fmt::Write;
+use std::test::Fail;
 
-/// Rows of headers and views.
+/// The faults, in the order of their declaration.
+pub(crate) const FAULTS: [DecoderError; 12] = [
+    DecoderError::RlpIsTooBig,
+    DecoderError::RlpIsTooShort,
+    DecoderError::RlpExpectedToBeList,
+    DecoderError::RlpExpectedToBeData,
+    DecoderError::RlpIncorrectListLen,
+    DecoderError::RlpDataLenWithZeroPrefix,
+    DecoderError::RlpListLenWithZeroPrefix,
+    DecoderError::RlpInvalidIndirection,
+    DecoderError::RlpInconsistentLengthAndData,
+    DecoderError::RlpInvalidLength,
+    DecoderError::Custom("text"),
+    DecoderError::OutOfMemory,
+];
+
+/// Rows of headers and views. No call takes memory.
 pub(crate) const ROWS: &str = "
-    lenient header: The first bytes of strings, at the least and the greatest length of each form.
+    header: The first bytes of strings, at the least and the greatest length of each form.
     00 | 0 + 1 = Some(1)
     7f | 0 + 1 = Some(1)
     80 | 1 + 0 = Some(1)
@@ -26,7 +46,7 @@ pub(crate) const ROWS: &str = "
     05ff | 0 + 1 = Some(1)
     bffffffffffffffff6 | 9 + 18446744073709551606 = Some(18446744073709551615)
     bffffffffffffffff7 | 9 + 18446744073709551607 = None
-    lenient header: The first bytes of lists, at the least and the greatest length of each form.
+    header: The first bytes of lists, at the least and the greatest length of each form.
     c0 | 1 + 0 = Some(1)
     c1 | 1 + 1 = Some(2)
     f7 | 1 + 55 = Some(56)
@@ -41,7 +61,7 @@ pub(crate) const ROWS: &str = "
     fc0100000000 | 6 + 4294967296 = Some(4294967302)
     ffffffffffffffffff | 9 + 18446744073709551615 = None
     c001 | 1 + 0 = Some(1)
-    lenient header: Bytes that don't begin with a header.
+    header: Bytes that don't begin with a header.
     none | RlpIsTooShort
     b8 | RlpIsTooShort
     f8 | RlpIsTooShort
@@ -52,14 +72,14 @@ pub(crate) const ROWS: &str = "
     f900 | RlpListLenWithZeroPrefix
     f801 | RlpInvalidIndirection
     b837 | RlpInvalidIndirection
-    lenient view kinds: A view that is null, empty, a list or a string.
+    view kinds: A view that is null, empty, a list or a string.
     none | true false false false
     80 | false true false true
     c0 | false true true false
     05 | false false false true
     c105 | false false true false
     c88363617483646f67 | false false true false
-    lenient view int: Numbers at the front, and others.
+    view int: Numbers at the front, and others.
     none | false
     81 | false
     8100 | false
@@ -68,14 +88,14 @@ pub(crate) const ROWS: &str = "
     b838 | false
     b83805 | true
     c0 | false
-    lenient view nested: Lists, and the limit within which they nest.
+    view nested: Lists, and the limit within which they nest.
     80 0 | true
     c0 0 | false
     c0 1 | true
     c2c105 1 | false
     c2c105 2 | true
     c5 0 | true
-    lenient view sizes: Prototypes and sizes.
+    view sizes: Prototypes and sizes.
     none | Ok(Null) 0
     84636174 | Ok(Data(0)) 0
     8363617400 | Ok(Data(3)) 3
@@ -85,7 +105,7 @@ pub(crate) const ROWS: &str = "
     strict view sizes: The prototype of a strict view counts the items as that of a lenient view
     does.
     c10102 | Ok(List(1)) 0
-    lenient view canonical, strict view canonical: Encodings and other bytes, and a depth, for views
+    view canonical, strict view canonical: Encodings and other bytes, and a depth, for views
     of both kinds. The last two are a list of 56 numbers 1, whose header has two bytes.
     none 5 | false
     8105 5 | false
@@ -103,50 +123,99 @@ pub(crate) const ROWS: &str = "
      101010101010101010101 0 | false
 ";
 
+/// Rows of texts.
+pub(crate) const TEXTS: &str = "
+    view text: A string prints as its bytes, a list as its framed items, and other bytes as
+    a fault.
+    none | null
+    c0 | []
+    80 | \"0x\"
+    c20582 | [\"0x05\"]
+    c405c20182 | [\"0x05\", [\"0x01\"]]
+    c88363617483646f | RlpIsTooShort
+    84636174 | RlpIsTooShort
+    c5 | RlpIsTooShort
+    b800 | RlpDataLenWithZeroPrefix
+    f800 | RlpListLenWithZeroPrefix
+    c3830102 | []
+    8105 | \"0x05\"
+    fault: The faults in the order of their declaration, with their texts, which are their names,
+    of each and of its clone.
+    0 | RlpIsTooBig RlpIsTooBig true
+    1 | RlpIsTooShort RlpIsTooShort true
+    2 | RlpExpectedToBeList RlpExpectedToBeList true
+    3 | RlpExpectedToBeData RlpExpectedToBeData true
+    4 | RlpIncorrectListLen RlpIncorrectListLen true
+    5 | RlpDataLenWithZeroPrefix RlpDataLenWithZeroPrefix true
+    6 | RlpListLenWithZeroPrefix RlpListLenWithZeroPrefix true
+    7 | RlpInvalidIndirection RlpInvalidIndirection true
+    8 | RlpInconsistentLengthAndData RlpInconsistentLengthAndData true
+    9 | RlpInvalidLength RlpInvalidLength true
+    10 | Custom(\"text\") Custom(\"text\") true
+    11 | OutOfMemory OutOfMemory true
+    flags: A view and a fault, whatever the flags.
+    none | [\"0x05\", \"0x06\"]|Custom(\"a \"b\"\")|Custom(\"a \"b\"\")
+";
+
 /// Tells the lengths of a header and of its value, and their sum if a `usize` can hold it.
 pub(crate) fn tell_header(bytes: &[u8], out: &mut Line) -> fmt::Result {
     match PayloadInfo::from(bytes) {
         Ok(info) => {
-            out.debug(info.header_len)?;
-            out.write_str(" +")?;
-            out.then(info.value_len)?;
-            out.write_str(" =")?;
-            out.then(info.checked_total())
+            let (header, value) = (info.header_len, info.value_len);
+            write!(out, "{header} + {value} = {:?}", info.checked_total())
         }
         Err(fault) => out.display(fault),
     }
 }
 
 /// Tells what a view answers: the results of `is_null`, `is_empty`, `is_list` and `is_data`, its
-/// prototype and its size, its text, or one of what `holds` says.
+/// prototype and its size, its text, or whether it holds what is asked.
 pub(crate) fn tell_view(view: &Rlp<'_>, of: &str, limit: usize, out: &mut Line) -> fmt::Result {
     match of {
-        "kinds" => tell_kinds(view, out),
+        "kinds" => {
+            out.debug(view.is_null())?;
+            out.then(view.is_empty())?;
+            out.then(view.is_list())?;
+            out.then(view.is_data())
+        }
         "sizes" => {
             out.debug(view.prototype())?;
             out.then(view.size())
         }
         "text" => out.display(view),
-        _ => out.display(holds(view, of, limit)),
+        "int" => out.debug(view.is_int()),
+        "nested" => out.debug(view.is_nested_within(limit)),
+        "canonical" => out.debug(view.is_canonical(limit)),
+        _ => Err(fmt::Error),
     }
 }
 
-/// Tells whether a view is null, empty, a list and a string.
-fn tell_kinds(view: &Rlp<'_>, out: &mut Line) -> fmt::Result {
-    out.debug(view.is_null())?;
-    out.then(view.is_empty())?;
-    out.then(view.is_list())?;
-    out.then(view.is_data())
+/// Tells the text of the fault of a number, and of its clone.
+pub(crate) fn tell_fault(asked: &Asked<'_>, out: &mut Line) -> fmt::Result {
+    let fault = FAULTS.get(number(asked.given)).ok_or(fmt::Error)?;
+    let copy = fault.clone();
+    let text = copy.to_string(asked.alloc)?;
+    write!(out, "{fault} {text} {}", copy == *fault)
 }
 
-/// Returns the result of `is_int`, whether a view's lists nest within a limit, or whether its bytes
-/// are the encoding of an item within a depth.
-fn holds(view: &Rlp<'_>, of: &str, limit: usize) -> bool {
-    match of {
-        "int" => view.is_int(),
-        "nested" => view.is_nested_within(limit),
-        _ => view.is_canonical(limit),
+/// Tells a view and a fault, with flags.
+pub(crate) fn tell_flagged(out: &mut Line) -> fmt::Result {
+    let view = Rlp::new(&[0xc2, 0x05, 0x06]);
+    let fault = DecoderError::Custom("a \"b\"");
+    write!(out, "{view:>40}|{fault:#}|{fault:>40}")
+}
+
+// The first bytes of the list of hashes print as `null` if there are none, and else as `RlpIsTooShort`.
+// The text of the whole list stands in `test_rlp_display`.
+#[test]
+fn texts_of_cut_lists(rt: HostRuntime) -> Result<(), Fail> {
+    let mut wrong = Line::new();
+    for len in 0..79usize {
+        let want = if len == 0 { "null" } else { "RlpIsTooShort" };
+        let digits = HASHES.get(..2 * len).unwrap_or("");
+        check_row(rt.alloc(), "view text", digits, want, &mut wrong);
     }
+    wrong.none_noted()
 }
 
 #[test]

@@ -1,233 +1,245 @@
 //! Values of each type, and the bytes that they are written as. The bytes were worked out by hand.
 
-use crate::compare::{is_again, is_listed, is_written};
+use crate::appended::{Columns, LastField, Tagged};
 use crate::guarded::finishes_as;
-use crate::rows::{bytes_of, cut, number};
-use crate::structs::{Columns, LastField, Tagged};
+use crate::rows::{Line, cut, number};
+use crate::tables::Asked;
 use bytes::{Bytes, BytesMut};
-use rlp::{EMPTY_LIST_RLP, Encodable, NULL_RLP, RlpStream};
-use rlp_examples::{HalfWritten, Nonce, Pair, Refusing, Trio, bytes_of_three};
+use rlp::{Decodable, Encodable, RlpStream};
+use rlp_examples::{Inner, Nest, Nonce, Pair};
 use std::alloc::{AllocError, Global};
-use std::test::Fail;
+use std::fmt;
+use std::fmt::Write;
 
-/// A row is a kind of value, what it is made from, and behind ` = ` its bytes. A line that begins
-/// with `//` is a comment.
-const ROWS: &str = "\
-// Numbers, and the bytes that they are written as. A number of eight bytes is written under its \
-    own name too.
-u32 40 = 28
-u64 127 = 7f
-u64 128 = 8180
-u64 256 = 820100
-u64 18446744073709551615 = 88ffffffffffffffff
-usize 18446744073709551615 = 88ffffffffffffffff
-// Arrays of no byte, one and three; options, of a text and of an array of 55 bytes; and a pair.
-no_bytes = 80
-five = 05
-cat = 83636174
-some cat = c483636174
-none = c0
-some_some cat = c5c483636174
-some_array = f838b7+61*55
-pair = c401820100
-// Structs of no field, one, 55, 56, and 256, which have a header of one, two or three bytes: the \
-    number of each field, and their number. A struct of one field that may be missing. And \
-    envelopes, each with its tag.
-columns 5 0 = c0
-columns 128 1 = c28180
-columns 5 55 = f7+05*55
-columns 5 56 = f838+05*56
-columns 5 256 = f90100+05*256
-last_field = c0
-last_field 256 = c3820100
-tagged 0 5 = 820005
-tagged 4 0 = 820480
-tagged 127 5 = 827f05
-tagged 128 5 = 828005
-tagged 255 256 = 84ff820100
-// Lists of no number of four bytes, and of pairs.
-no_u32s = c0
-pairs = c6c20102c20304
-// Lists of equal values: what they are, their number, and the encoding. The values are 0 and the \
-    empty text, the number 7, or a pair of 1 and 2.
-zeros 0 = c0
-zeros 1 = c1+80
-zeros 55 = f7+80*55
-zeros 56 = f838+80*56
-zeros 255 = f8ff+80*255
-zeros 256 = f90100+80*256
-zeros 1025 = f90401+80*1025
-zeros 65535 = f9ffff+80*65535
-zeros 65536 = fa010000+80*65536
-sevens 65537 = fa010001+07*65537
-same_pairs 600 = f90708+c20102*600
-// Strings of bytes, which are read again: a single byte, and lengths at which the header gets \
-    longer.
-string 80 = 8180
-string 00*55 = b7+00*55
-string 00*56 = b838+00*56
-string 00*255 = b8ff+00*255
-string 00*256 = b90100+00*256
-string 00*65535 = b9ffff+00*65535
-string 00*65536 = ba010000+00*65536
-string 00*1048576 = ba100000+00*1048576
-string 07*2097152 = ba200000+07*2097152
-string 07*16777215 = baffffff+07*16777215
-string 00*16777216 = bb01000000+00*16777216
+/// Rows of what a value is made from, and its bytes.
+pub(crate) const ROWS: &str = "
+    written u32: A number.
+    40 | 28
+    written u64, written Nonce: A number of eight bytes is written under its own name too.
+    127 | 7f
+    128 | 8180
+    256 | 820100
+    18446744073709551615 | 88ffffffffffffffff
+    written usize: The greatest number.
+    18446744073709551615 | 88ffffffffffffffff
+    written array: Arrays of no byte, one and three.
+    0 | 80
+    1 | 05
+    3 | 83636174
+    written some: Options, of a text and of an array of 55 bytes.
+    cat | c483636174
+    written some some: An option in an option.
+    cat | c5c483636174
+    written none, listed u32, listed u64: No value, and lists of no numbers.
+    none | c0
+    written some array: An array of 55 bytes.
+    none | f838b7+61*55
+    written pair: A pair.
+    1 256 | c401820100
+    written columns: Structs of no field, one, 55, 56, and 256, which have a header of one, two or
+    three bytes. A row has the number of each field, and their number.
+    5 0 | c0
+    128 1 | c28180
+    5 55 | f7+05*55
+    5 56 | f838+05*56
+    5 256 | f90100+05*256
+    written last_field: A struct of one field that may be missing.
+    none | c0
+    256 | c3820100
+    written tagged: Envelopes, each with its tag.
+    0 5 | 820005
+    4 0 | 820480
+    127 5 | 827f05
+    128 5 | 828005
+    255 256 | 84ff820100
+    listed pairs: A list of pairs.
+    none | c6c20102c20304
+    listed zeros, listed empty: Lists of equal values, which are 0 and the empty text, and their number.
+    0 | c0
+    1 | c1+80
+    55 | f7+80*55
+    56 | f838+80*56
+    255 | f8ff+80*255
+    256 | f90100+80*256
+    1025 | f90401+80*1025
+    65535 | f9ffff+80*65535
+    65536 | fa010000+80*65536
+    listed sevens: Lists of the number 7.
+    65537 | fa010001+07*65537
+    listed same_pairs: Lists of a pair of 1 and 2.
+    600 | f90708+c20102*600
+    written slice, written Vec, written Bytes, written BytesMut: Strings, which are a single byte, or
+    have lengths at which the header gets longer.
+    80 | 8180
+    00*55 | b7+00*55
+    00*56 | b838+00*56
+    00*255 | b8ff+00*255
+    00*256 | b90100+00*256
+    00*65535 | b9ffff+00*65535
+    00*65536 | ba010000+00*65536
+    00*1048576 | ba100000+00*1048576
+    07*2097152 | ba200000+07*2097152
+    07*16777215 | baffffff+07*16777215
+    00*16777216 | bb01000000+00*16777216
 ";
 
-/// Returns whether a number is written as these bytes, if a text is one.
-fn is_parsed<N: Encodable + Drop, E: Drop>(
-    alloc: Global,
-    parsed: Result<N, E>,
-    want: &[u8],
-) -> Result<bool, AllocError> {
-    match parsed {
-        Ok(number) => is_written(alloc, &number, want),
-        Err(_) => Ok(false),
+/// Tells the bytes that a value of a type is written as. Most types are read again.
+pub(crate) fn tell_value(asked: &Asked<'_>, out: &mut Line) -> fmt::Result {
+    let (alloc, bytes) = (asked.alloc, asked.bytes);
+    let text = if asked.given == "none" {
+        ""
+    } else {
+        asked.given
+    };
+    match asked.of {
+        "bool" => tell_both(asked, Ok::<bool, ()>(text == "true"), out),
+        "u8" => tell_both(asked, text.parse::<u8>(), out),
+        "u16" => tell_both(asked, text.parse::<u16>(), out),
+        "u32" => tell_both(asked, text.parse::<u32>(), out),
+        "u64" => tell_both(asked, text.parse::<u64>(), out),
+        "u128" => tell_both(asked, text.parse::<u128>(), out),
+        "usize" => tell_both(asked, text.parse::<usize>(), out),
+        "text" => tell_both(asked, String::from_str(alloc, text), out),
+        "Vec" => tell_both(asked, Vec::from_slice(alloc, bytes), out),
+        "Bytes" => tell_both(asked, Bytes::copy_from_slice(alloc, bytes), out),
+        "BytesMut" => tell_both(asked, BytesMut::copy_from_slice(alloc, bytes), out),
+        "Nest<Inner>" => tell_both(asked, four_pairs(alloc), out),
+        "Nest<Nest<Inner>>" => tell_both(asked, two_nests(alloc), out),
+        "slice" => tell_written(asked, &bytes, out),
+        "none" => tell_written(asked, &None::<&str>, out),
+        "some" => tell_written(asked, &Some(text), out),
+        "some some" => tell_written(asked, &Some(Some(text)), out),
+        "some array" => tell_written(asked, &Some([0x61u8; 55]), out),
+        "last_field" => tell_written(asked, &LastField(text.parse::<u64>().ok()), out),
+        _ => tell_numbers(asked, out),
     }
 }
 
-/// Returns whether a number is written as these bytes, also under its own name.
-fn is_nonce(alloc: Global, number: u64, want: &[u8]) -> Result<bool, AllocError> {
-    Ok(is_written(alloc, &number, want)? && is_written(alloc, &Nonce(number), want)?)
-}
-
-/// Returns whether a value of this kind is written as these bytes.
-fn is_met(alloc: Global, kind: &str, text: &str, want: &[u8]) -> Result<bool, AllocError> {
-    match kind {
-        "bool" => is_written(alloc, &(text == "true"), want),
-        "u8" => is_parsed(alloc, text.parse::<u8>(), want),
-        "u16" => is_parsed(alloc, text.parse::<u16>(), want),
-        "u32" => is_parsed(alloc, text.parse::<u32>(), want),
-        "u64" => is_nonce(alloc, number(text) as u64, want),
-        "u128" => is_parsed(alloc, text.parse::<u128>(), want),
-        "usize" => is_parsed(alloc, text.parse::<usize>(), want),
-        "no_bytes" => is_written(alloc, &[0u8; 0], want),
-        "five" => is_written(alloc, &[5u8], want),
-        "cat" => is_written(alloc, b"cat", want),
-        "some" => is_written(alloc, &Some(text), want),
-        "none" => is_written(alloc, &None::<&str>, want),
-        "some_some" => is_written(alloc, &Some(Some(text)), want),
-        "some_array" => is_written(alloc, &Some([0x61u8; 55]), want),
-        "pair" => is_written(alloc, &Pair(1, 256), want),
-        "text" => is_text(alloc, text, want),
-        "Vec" | "Bytes" | "BytesMut" | "string" => {
-            is_string(alloc, kind, &bytes_of(alloc, text)?, want)
-        }
-        _ => is_list(alloc, kind, text, want),
-    }
-}
-
-/// Returns whether a struct, an envelope or a list of values is written as these bytes.
-fn is_list(alloc: Global, kind: &str, text: &str, want: &[u8]) -> Result<bool, AllocError> {
-    let (first, second) = cut(text);
-    let (first, second) = (number(first), number(second));
-    match kind {
+/// Tells the bytes of an array, or of a value of the two numbers of a row.
+fn tell_numbers(asked: &Asked<'_>, out: &mut Line) -> fmt::Result {
+    let (first, second) = (number(cut(asked.given).0), number(asked.rest));
+    match asked.of {
+        "array" if first == 0 => tell_written(asked, &[0u8; 0], out),
+        "array" if first == 1 => tell_written(asked, &[5u8], out),
+        "array" => tell_written(asked, b"cat", out),
+        "array of 32" => tell_written(asked, &[0x61u8; 32], out),
+        "some number" => tell_written(asked, &Some(first as u64), out),
+        "Nonce" => tell_written(asked, &Nonce(first as u64), out),
+        "pair" => tell_written(asked, &Pair(first as u64, second as u64), out),
         "columns" => {
-            let fields = vec![in alloc; first as u64; second]?;
-            is_written(alloc, &Columns(fields.as_slice()), want)
+            let fields = vec![in asked.alloc; first as u64; second]?;
+            tell_written(asked, &Columns(fields.as_slice()), out)
         }
-        "last_field" => is_written(alloc, &LastField(text.parse::<u64>().ok()), want),
         "tagged" => {
             let tag = u8::try_from(first).unwrap_or(0);
-            is_written(alloc, &Tagged(tag, second as u64), want)
+            tell_written(asked, &Tagged(tag, second as u64), out)
         }
-        "no_u32s" => is_listed::<u32>(alloc, &[], want),
-        "pairs" => is_listed(alloc, &[Pair(1, 2), Pair(3, 4)], want),
-        "zeros" => Ok(are_listed(alloc, 0u64, first, want)? && are_listed(alloc, "", first, want)?),
-        "sevens" => are_listed(alloc, 7u8, first, want),
-        "same_pairs" => are_listed(alloc, Pair(1, 2), first, want),
-        _ => Ok(false),
+        _ => Err(fmt::Error),
     }
 }
 
-/// Returns whether the list of `count` times a value is written as these bytes.
-fn are_listed<E: Encodable + Copy + Drop>(
-    alloc: Global,
-    value: E,
-    count: usize,
-    want: &[u8],
-) -> Result<bool, AllocError> {
-    is_listed(alloc, vec![in alloc; value; count]?.as_slice(), want)
-}
-
-/// Returns whether a text is written as these bytes, and is read again.
-fn is_text(alloc: Global, text: &str, want: &[u8]) -> Result<bool, AllocError> {
-    let read = rlp::decode_strict::<String>(alloc, want);
-    Ok(is_written(alloc, &text, want)? && is_again(alloc, read, want)?)
-}
-
-/// Returns whether a string of this kind is written as these bytes, and is read again. A `string` is
-/// one of each kind.
-fn is_string(alloc: Global, kind: &str, string: &Vec<u8>, want: &[u8]) -> Result<bool, AllocError> {
-    let bytes = string.as_slice();
-    let shared = is_again(alloc, rlp::decode_strict::<Bytes>(alloc, want), want)?;
-    let unique = is_again(alloc, rlp::decode_strict::<BytesMut>(alloc, want), want)?;
-    match kind {
-        "Bytes" => Ok(shared && is_written(alloc, &Bytes::copy_from_slice(alloc, bytes)?, want)?),
-        "BytesMut" => {
-            Ok(unique && is_written(alloc, &BytesMut::copy_from_slice(alloc, bytes)?, want)?)
+/// Tells the bytes that a list of values is written as.
+pub(crate) fn tell_listed(asked: &Asked<'_>, out: &mut Line) -> fmt::Result {
+    let count = number(asked.given);
+    match asked.of {
+        "u32" => tell_list::<u32>(asked, &[], out),
+        "u64" => tell_list(asked, numbers_of(asked)?.as_slice(), out),
+        "texts" => tell_list(asked, &["cat", "dog"], out),
+        "pairs" => tell_list(asked, &[Pair(1, 2), Pair(3, 4)], out),
+        "zeros" => { tell_list(asked, vec![in asked.alloc; 0u64; count]?.as_slice(), out) }
+        "empty" => tell_list(asked, vec![in asked.alloc; ""; count]?.as_slice(), out),
+        "greatest" => {
+            tell_list(
+                asked,
+                vec![in asked.alloc; u64::MAX; count]?.as_slice(),
+                out,
+            )
         }
-        _ => {
-            let again = kind == "Vec" || (shared && unique);
-            Ok(again && is_written(alloc, &bytes, want)? && is_written(alloc, string, want)?)
+        "sevens" => tell_list(asked, vec![in asked.alloc; 7u8; count]?.as_slice(), out),
+        "same_pairs" => {
+            tell_list(
+                asked,
+                vec![in asked.alloc; Pair(1, 2); count]?.as_slice(),
+                out,
+            )
         }
+        _ => Err(fmt::Error),
     }
 }
 
-/// Fails with the first row of a table that isn't met.
-pub(crate) fn all_met(alloc: Global, table: &str) -> Result<(), Fail> {
-    for row in table.lines() {
-        let (what, want) = row.split_once(" = ").unwrap_or((row, ""));
-        let (kind, text) = cut(what.trim());
-        if !row.starts_with("//")
-            && !is_met(alloc, kind, text, bytes_of(alloc, want)?.as_slice())?
-        {
-            return Err(Fail::new(row));
+/// Returns the numbers of a row.
+fn numbers_of(asked: &Asked<'_>) -> Result<Vec<u64>, AllocError> {
+    let mut numbers = Vec::new(asked.alloc);
+    for digits in asked.given.split_whitespace() {
+        if let Ok(number) = digits.parse::<u64>() {
+            numbers.push(number)?;
         }
     }
-    Ok(())
+    Ok(numbers)
 }
 
-/// Returns whether a stream holds values that were appended beside a string that isn't counted.
-fn holds_appended(alloc: Global) -> Result<bool, AllocError> {
-    let mut s = RlpStream::new(alloc)?;
-    s.append(&1u64)?.append(&"cat")?.append(&0u64)?;
-    s.encoder().encode_value(&[0x80])?;
-    s.append(&Nonce(256))?.append(&"a")?.append(&"dog")?;
-    Ok(finishes_as(s, b"\x01\x83cat\x80\x81\x80\x82\x01\x00a\x83dog"))
+/// Returns the nest of four pairs of a number and the next.
+fn four_pairs(alloc: Global) -> Result<Nest<Inner>, AllocError> {
+    let mut pairs = Vec::new(alloc);
+    for first in 0..4u64 {
+        pairs.push(Inner(first, first + 1))?;
+    }
+    Ok(Nest(pairs))
 }
 
-/// Returns whether the encodings of three values follow one another.
-fn three_are_joined(alloc: Global) -> Result<bool, AllocError> {
-    let three = bytes_of_three(alloc, &"cat", &128u64, &"")?;
-    Ok(three.as_slice() == b"\x83cat\x81\x80\x80".as_slice())
+/// Returns the nest of two such nests.
+fn two_nests(alloc: Global) -> Result<Nest<Nest<Inner>>, AllocError> {
+    let mut nests = Vec::new(alloc);
+    nests.push(four_pairs(alloc)?)?;
+    nests.push(four_pairs(alloc)?)?;
+    Ok(Nest(nests))
 }
 
-/// Returns whether a value whose writing fails leaves the stream as it was, and has no encoding.
-fn is_refused<E: Encodable>(alloc: Global, value: &E) -> Result<bool, AllocError> {
-    let mut s = RlpStream::new(alloc)?;
-    s.append(&"cat")?;
-    let refused = s.append(value).is_err();
-    let alone = rlp::encode(alloc, value).is_err() && value.rlp_bytes(alloc).is_err();
-    Ok(refused && alone && finishes_as(s, b"\x83cat"))
-}
-
-#[test]
-fn values_are_written(rt: HostRuntime) -> Result<(), Fail> {
-    let alloc = rt.alloc();
-    all_met(alloc, ROWS)?;
-    assert!(rt; NULL_RLP == [0x80] && EMPTY_LIST_RLP == [0xc0]);
-    assert!(rt; holds_appended(alloc)?, "values, strings and texts");
-    assert!(rt; three_are_joined(alloc)?, "three values");
-    assert!(rt;
-        is_refused(alloc, &Trio(1, Refusing, 3))?,
-        "a list with a refused value"
+/// Tells the bytes that a value is written as: alone, by both functions for it, and in a stream.
+pub(crate) fn tell_written<E: Encodable>(
+    asked: &Asked<'_>,
+    value: &E,
+    out: &mut Line,
+) -> fmt::Result {
+    let mut s = RlpStream::new(asked.alloc)?;
+    s.append(value)?;
+    let (made, same) = (
+        rlp::encode(asked.alloc, value)?,
+        value.rlp_bytes(asked.alloc)?,
     );
-    assert!(rt;
-        is_refused(alloc, &HalfWritten)?,
-        "a value refused in the middle of its bytes"
-    );
-    Ok(())
+    if same.as_slice() != made.as_slice() || !finishes_as(s, made.as_slice()) {
+        return out.write_str("written in two ways");
+    }
+    asked.tell_bytes(made.as_slice(), out)
+}
+
+/// Tells the bytes that a value is written as, from which it is read, and written again.
+fn tell_both<T: Decodable + Encodable + Drop, E: Drop>(
+    asked: &Asked<'_>,
+    value: Result<T, E>,
+    out: &mut Line,
+) -> fmt::Result {
+    let Ok(value) = value else {
+        return Err(fmt::Error);
+    };
+    let made = rlp::encode(asked.alloc, &value)?;
+    let again = match rlp::decode_strict::<T>(asked.alloc, made.as_slice()) {
+        Ok(again) => again,
+        Err(fault) => return out.debug(fault),
+    };
+    if rlp::encode(asked.alloc, &again)?.as_slice() != made.as_slice() {
+        return out.write_str("written otherwise again");
+    }
+    tell_written(asked, &value, out)
+}
+
+/// Tells the bytes that a list of values is written as, alone and in a stream.
+fn tell_list<E: Encodable>(asked: &Asked<'_>, values: &[E], out: &mut Line) -> fmt::Result {
+    let mut s = RlpStream::new(asked.alloc)?;
+    s.append_list(values)?;
+    let made = rlp::encode_list(asked.alloc, values)?;
+    if !finishes_as(s, made.as_slice()) {
+        return out.write_str("written in two ways");
+    }
+    asked.tell_bytes(made.as_slice(), out)
 }

@@ -1,6 +1,5 @@
 //! The buffer of a stream, which counts the bytes that closings move, and the strings at its end.
 
-pub mod alone;
 mod counted;
 mod moving;
 pub mod strings;

@@ -18,6 +18,7 @@ pub(crate) struct Plan {
 
 /// Finds how many lists the count of these items closes, and by how many bytes the buffer then
 /// grows. It walks these lists from the inside out, and doesn't allocate.
+#[tactic(auto, using(crate::proofs::Streams::Closings::planned_more))]
 pub(crate) fn plan_count(lists: &OpenLists, end: usize, items: usize) -> Plan
     requires order { Descends end lists.now }
     requires size { end < 2 ^ 63 }
@@ -48,6 +49,7 @@ pub(crate) fn plan_count(lists: &OpenLists, end: usize, items: usize) -> Plan
 
 /// The number of bytes behind `start` once every list is closed, if `more` bytes are put behind the
 /// first `end`. `None` if this number is 2^64 or more.
+#[tactic(auto, using(crate::proofs::Streams::ClosedSize::measures))]
 pub(crate) fn closed_len(lists: &OpenLists, start: usize, end: usize, more: usize) -> Option<usize>
     requires order { Descends end lists.now }
     requires lowest { start ≤ left_of (length lists.now) end lists.now }
@@ -59,12 +61,8 @@ pub(crate) fn closed_len(lists: &OpenLists, start: usize, end: usize, more: usiz
     let mut left = end;
     let mut tail = more;
     while let Some(list) = rest.next() {
-        let Some(len) = (left - (list.position + 1)).checked_add(tail) else {
-            return None;
-        };
-        let Some(written) = list_header_len(len).checked_add(len) else {
-            return None;
-        };
+        let len = (left - (list.position + 1)).checked_add(tail)?;
+        let written = list_header_len(len).checked_add(len)?;
         tail = written;
         left = list.position;
     }

@@ -14,6 +14,7 @@ use std::alloc::AllocError;
 ///
 /// The payload is written into a buffer of its own first. Fails with `AllocError` if memory is
 /// refused, or if the [`Encodable::rlp_append`] of the payload fails, and then writes nothing.
+#[tactic(auto, using(crate::proofs::Streams::Growth::growth))]
 pub fn write_envelope<T: Encodable>(
     s: &mut RlpStream,
     tag: u8,

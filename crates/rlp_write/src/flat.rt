@@ -106,6 +106,7 @@ impl RlpStream {
     }
 
     /// Puts the encoding of a string.
+    #[tactic(auto, using(crate::proofs::Streams::FlatBuffer::puts))]
     pub(crate) fn put_string(&mut self, value: &[u8]) -> Result<(), AllocError>
         ensures ok { OnOk result
             (self.new.state ≡ put (encoding (string value.now)) self.old.state) }
@@ -121,6 +122,7 @@ impl RlpStream {
     }
 
     /// Puts the encoding of the string that an iterator gives.
+    #[tactic(auto, using(crate::proofs::Streams::FlatBuffer::puts))]
     pub(crate) fn put_string_of<I: IntoIterator<Item = u8>>(
         &mut self,
         value: I,
@@ -137,6 +139,7 @@ impl RlpStream {
     }
 
     /// Opens a list. It awaits the given number of items, or is unbounded.
+    #[tactic(auto, using(crate::proofs::Streams::FlatBuffer::opens))]
     pub(crate) fn open(&mut self, awaits: Option<usize>) -> Result<(), AllocError>
         requires { AwaitsSome awaits }
         ensures ok { OnOk result (self.new.state ≡ with_list awaits self.old.state) }
@@ -193,6 +196,7 @@ impl RlpStream {
     }
 
     /// Sets the number of items that each of the `count` innermost lists awaits.
+    #[tactic(auto, using(crate::proofs::Streams::FlatBuffer::awaits))]
     pub(crate) fn set_awaits(&mut self, count: usize, awaits: Option<usize>)
         requires some { AwaitsSome awaits }
         requires open { count ≤ length self.old.state.stack.lists }
@@ -203,6 +207,7 @@ impl RlpStream {
     }
 
     /// The current place of the stream, to go back to.
+    #[tactic(auto, using(crate::proofs::Streams::FlatBuffer::places))]
     pub(crate) fn place(&self) -> Place
         ensures is { result ≡ place_of self.now.state }
         ensures awaits { AwaitsSome result.awaits }
@@ -230,6 +235,7 @@ impl RlpStream {
     }
 
     /// Drops everything that was written and every open list. The front and `is_counted` stay.
+    #[tactic(auto, using(crate::proofs::Streams::FlatBuffer::clears))]
     pub fn clear(&mut self)
         ensures state { self.new.state ≡ effect clear self.old.state }
         ensures moved { self.new.moved ≡ self.old.moved }
@@ -240,13 +246,15 @@ impl RlpStream {
 
     /// The closed size: the number of bytes behind the front once every list is closed. Lists count
     /// as closed even if they still await items.
+    #[tactic(auto, using(crate::proofs::Streams::ClosedSize::closed_size_none))]
     pub fn len(&self) -> usize
         ensures { result ≡ closed_size self.now.state }
     {
-        closed_len(&self.lists, self.start, self.buffer.len(), 0).unwrap()
+        self.size_with(0).unwrap()
     }
 
     /// Whether nothing was written and no list is open, so [`RlpStream::len`] is 0.
+    #[tactic(auto, using(crate::proofs::Streams::FlatBuffer::empties))]
     pub fn is_empty(&self) -> bool
         ensures { IsTrue result ↔ (closed_size self.now.state ≡ 0) }
     {
@@ -258,11 +266,23 @@ impl RlpStream {
         ensures { SomeIff result (closed_size_with add self.now.state < 2 ^ 64)
             (closed_size_with add self.now.state) }
     {
-        closed_len(&self.lists, self.start, self.buffer.len(), add)
+        self.size_with(add)
+    }
+
+    /// The closed size with `more` bytes put, or `None` if it is 2^64 or more. It adds up the size,
+    /// list by list.
+    #[tactic(auto, using(crate::proofs::Streams::ClosedSize::placed))]
+    fn size_with(&self, more: usize) -> Option<usize>
+        ensures size { SomeIff result (closed_size_with more self.now.state < 2 ^ 64)
+            (closed_size_with more self.now.state) }
+        ensures small { closed_size self.now.state < 2 ^ 64 }
+    {
+        closed_len(&self.lists, self.start, self.buffer.len(), more)
     }
 
     /// Whether the closed size with `add` bytes put is at most the limit even if each open list has
     /// the longest header. It doesn't walk the lists.
+    #[tactic(auto, using(crate::proofs::Streams::FlatBuffer::start_le))]
     pub(crate) fn is_surely_within_size(&self, add: usize, limit: usize) -> bool
         ensures { IsTrue result → closed_size_with add self.now.state ≤ limit }
     {
@@ -297,6 +317,7 @@ impl RlpStream {
     }
 
     /// The number of innermost lists that are unbounded, at most `most`.
+    #[tactic(auto, using(crate::proofs::Streams::FlatBuffer::unbounded_lists))]
     pub(crate) fn unbounded_lists(&self, most: usize) -> usize
         ensures { result ≡ min most (unbounded_count self.now.state.stack.lists) }
     {
@@ -305,6 +326,7 @@ impl RlpStream {
 
     /// The bytes now: the front, the payload of the top, and then each open list, from the outside
     /// in. An open list has one byte `0x00` in the place of its header, and then its payload.
+    #[tactic(auto, using(crate::proofs::Streams::FlatBuffer::places))]
     pub fn as_raw(&self) -> &[u8]
         ensures { result.now ≡ raw_text self.now.state }
     {
@@ -313,6 +335,7 @@ impl RlpStream {
 
     /// The front, and then the payload of the top. No list may be open: test this by
     /// [`RlpStream::is_finished`].
+    #[tactic(auto, using(crate::proofs::Streams::FlatBuffer::finishes))]
     pub fn out(self) -> BytesMut
         requires { IsFinished self.state }
         ensures bytes { result.items ≡ self.state.front ++ self.state.stack.inner }

@@ -65,7 +65,7 @@ pub fn written_header(base: u8, len: usize) -> HeaderBytes
 }
 
 /// The length in bytes of a list's header, for the length of its payload.
-#[tactic(auto, using(crate::proofs::Streams::Written::written))]
+#[tactic(auto, using(crate::proofs::Streams::Written::lengths))]
 pub fn list_header_len(len: usize) -> usize
     ensures value { result ≡ length (written_header 0xc0 len) }
     ensures some { 0 < result }

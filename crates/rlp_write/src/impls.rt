@@ -1,12 +1,6 @@
 //! The types that are written and read.
 
 mod boolean;
-mod boxed;
-mod byte_array;
-mod byte_string;
-mod bytes_mut;
-mod bytes_shared;
 mod number;
 mod option;
-mod text;
-mod uint;
+mod strings;

@@ -164,6 +164,7 @@ impl OpenLists {
     }
 
     /// Keeps the `count` outermost lists.
+    #[tactic(auto, using(crate::proofs::Streams::Closings::reverse_kept))]
     pub(crate) fn truncate(&mut self, count: usize)
         ensures { self.new ≡ drop (length self.old - count) self.old }
     {
@@ -178,6 +179,7 @@ impl OpenLists {
     }
 
     /// Sets the number of items that the innermost list awaits.
+    #[tactic(auto, using(crate::proofs::Streams::Closings::set_last))]
     pub(crate) fn set_innermost(&mut self, awaits: Option<usize>)
         ensures { self.new ≡ with_innermost (λ _. awaits) self.old }
     {
@@ -189,6 +191,7 @@ impl OpenLists {
 
     /// Counts items in the innermost list, if it is bounded.
     #[inline]
+    #[tactic(auto, using(crate::proofs::Streams::Closings::set_last))]
     pub(crate) fn count_innermost(&mut self, items: usize)
         ensures { self.new ≡ with_innermost (awaits_after items) self.old }
     {

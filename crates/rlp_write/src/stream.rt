@@ -2,24 +2,21 @@
 
 ghost use Rattle.std.specs.{Prelude.{◌≡◌, ◌≤◌, ◌<◌, ◌^◌, ℕ, List, IsTrue, IsOk, IfOk, IfErr, OnOk, OnErr, [], length, map, min, All, false}, Borrow.sem};
 ghost use Rattle.std.specs.Iterator.{IsFiniteIterable};
-ghost use Rattle.rlp_format.specs.Format.Encoding.{string, list_of, encoding};
-ghost use Rattle.rlp_write.specs.Streams.Stream.{unbounded_count, append, append_empty_data, append_raw, append_raw_checked, begin_list, begin_unbounded_list, finalize_unbounded_list, append_internal, effect, finalized, is_admitted, is_within_size, initial_state, IsFinished, IsAsBefore, MovedGrows, MovesWithin, closed_size, closed_size_with};
+ghost use Rattle.rlp_format.specs.Format.Encoding.{Item, is_list, string, list_of, encoding};
+ghost use Rattle.rlp_write.specs.Streams.Stream.{unbounded_count, append, append_empty_data, append_raw, append_raw_checked, begin_list, begin_unbounded_list, finalize_unbounded_list, append_internal, effect, finalized, is_admitted, is_within_size, initial_state, IsFinished, IsAsBefore, MovedGrows, MovesWithin, closed_size, closed_size_with, put_item};
 ghost use Rattle.rlp_write.specs.{Streams.Iterated.GivesAll, Streams.Chain.{stays_if_refused, rests_if_refused, HoldsStream}};
 
 mod chain;
-mod encoded;
 mod encoder;
-mod listed;
 mod steps;
 
 use crate::NULL_RLP;
 pub use crate::flat::RlpStream;
+use crate::structs::Listed;
 use crate::traits::Encodable;
 use bytes::BytesMut;
 pub use chain::Chain;
-pub use encoded::append_list_encoding;
 pub use encoder::BasicEncoder;
-pub(crate) use listed::Listed;
 use std::alloc::{AllocError, Global};
 
 // The number of bytes that a new stream takes without another allocation.
@@ -251,6 +248,7 @@ impl RlpStream {
     /// assert!(rt; s.finalize_unbounded_lists(9)? == 2);
     /// assert_eq!(rt; s.out().as_slice(), [0xc2, 0xc1, 0x01]);
     /// ```
+    #[tactic(auto, using(crate::proofs::Streams::States::size_kept_each))]
     pub fn finalize_unbounded_lists(&mut self, most: usize) -> Result<usize, AllocError>
         ensures number { IfOk result
             (λ n. n ≡ min most (unbounded_count self.old.state.stack.lists)) }
@@ -282,4 +280,21 @@ impl RlpStream {
     {
         BasicEncoder { stream: self }
     }
+}
+
+/// Writes a list from its encoding, as the `rlp_append` of a list does: puts the bytes, and counts
+/// one item. The bytes must be the encoding of a list.
+///
+/// Fails with `AllocError` if memory is refused, and then writes nothing.
+#[tactic(auto, using(crate::proofs::Streams::Listed::encoded))]
+pub fn append_list_encoding(s: &mut RlpStream, bytes: &[u8]) -> Result<(), AllocError>
+    requires { (x : Item) × IsTrue (is_list x) × (bytes.now ≡ encoding x) }
+    ensures ok { (x : Item) → IsTrue (is_list x) → bytes.now ≡ encoding x
+        → OnOk result (s.new.state ≡ put_item x s.old.state) }
+    ensures refused { OnErr result (IsAsBefore s.old s.new) }
+    ensures moved { MovedGrows s.old s.new }
+{
+    s.put_counted(bytes, 1)?;
+    s.set_counted(true);
+    Ok(())
 }

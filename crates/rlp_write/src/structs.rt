@@ -5,13 +5,12 @@ ghost use Rattle.rlp_format.specs.Format.Encoding.{Item, list_of};
 ghost use Rattle.rlp_write.specs.{Streams.Stream.{MovedGrows, add_all, put_item}, Streams.Growth.GrowsTo, Streams.Fields.AppendsSome};
 
 mod optional;
-mod parts;
 mod slices;
 
 use crate::stream::RlpStream;
 use crate::traits::Encodable;
 pub use optional::{Optional, OptionalGroupOf, OptionalListOf};
-pub use parts::FieldsOf;
+pub(crate) use slices::Listed;
 pub use slices::{Each, Flattened, ListOf};
 use std::alloc::AllocError;
 
@@ -51,6 +50,7 @@ impl<T: Encodable> AppendFields for &T {
     }
 
     #[inline(always)]
+    #[tactic(auto, using(crate::proofs::Streams::Fields::some_none))]
     fn append_fields(&self, s: &mut RlpStream) -> Result<(), AllocError> {
         s.try_append(*self)
     }
@@ -61,15 +61,35 @@ impl<P: AppendFields, Q: AppendFields> AppendFields for (P, Q) {
 
     ghost fit = { λ v. P.fit v.0 × Q.fit v.1 };
 
+    #[tactic(auto, using(crate::proofs::Streams::Fields::counts))]
     fn field_count(&self) -> Option<usize> {
         let first = self.0.field_count()?;
         let others = self.1.field_count()?;
         first.checked_add(others)
     }
 
+    #[tactic(auto, using(crate::proofs::Streams::Fields::pairs))]
     fn append_fields(&self, s: &mut RlpStream) -> Result<(), AllocError> {
         self.0.append_fields(s)?;
         self.1.append_fields(s)
+    }
+}
+
+/// The fields of a struct, in the list of another struct.
+#[derive(Clone, Copy)]
+pub struct FieldsOf<'a, S>(pub &'a S);
+
+impl<S: AppendFields> AppendFields for FieldsOf<'_, S> {
+    ghost items = { λ v. S.items v.0.now };
+
+    ghost fit = { λ v. S.fit v.0.now };
+
+    fn field_count(&self) -> Option<usize> {
+        self.0.field_count()
+    }
+
+    fn append_fields(&self, s: &mut RlpStream) -> Result<(), AllocError> {
+        self.0.append_fields(s)
     }
 }
 
@@ -94,15 +114,15 @@ impl AppendFields for () {
 /// Fails with `AllocError` if memory is refused, if the [`Encodable::rlp_append`] of a value fails,
 /// or if the number of items is 2^64 or more.
 #[inline(always)]
+#[tactic(auto, using(crate::proofs::Streams::Fields::filled))]
 pub fn write_struct<F: AppendFields>(s: &mut RlpStream, fields: &F) -> Result<(), AllocError>
     ensures fits { OnOk result (F.fit fields.now) }
     ensures ok { OnOk result (s.new.state ≡ put_item (list_of (F.items fields.now)) s.old.state) }
     ensures refused { OnErr result (GrowsTo s.old.state s.new.state) }
     ensures moved { MovedGrows s.old s.new }
 {
-    let count = match fields.field_count() {
-        Some(count) => count,
-        None => return Err(AllocError),
+    let Some(count) = fields.field_count() else {
+        return Err(AllocError);
     };
     s.try_begin(count)?;
     fields.append_fields(s)

@@ -1,10 +1,11 @@
 //! Values that are encoded alone, and lists of them.
 
-ghost use Rattle.std.specs.Prelude.{◌≡◌, ◌++◌, IfOk, OnOk, map, All};
+ghost use Rattle.std.specs.Prelude.{◌≡◌, ◌++◌, drop, IfOk, OnOk, map, All};
 ghost use Rattle.rlp_format.specs.Format.Encoding.{list_of, encoding, join};
-ghost use Rattle.rlp_write.specs.Streams.Stream.{IsFinished};
+ghost use Rattle.rlp_write.specs.Streams.Stream.{IsFinished, list_encoding};
 
-use crate::buffer::alone::list_alone;
+use crate::buffer::Buffer;
+use crate::header::list_header_len;
 use crate::stream::RlpStream;
 use crate::traits::Encodable;
 use bytes::BytesMut;
@@ -28,6 +29,7 @@ pub fn encode<E: Encodable>(alloc: Global, object: &E) -> Result<BytesMut, Alloc
 }
 
 /// Puts the encoding of each value at the end of the top. No list may be open.
+#[tactic(auto, using(crate::proofs::Streams::Joined::joined))]
 fn put_each<E: Encodable>(s: &mut RlpStream, values: &[E]) -> Result<(), AllocError>
     requires { IsFinished s.old.state }
     ensures fits { OnOk result (All E.fits values.now) }
@@ -59,4 +61,21 @@ pub fn encode_list<E: Encodable>(alloc: Global, values: &[E]) -> Result<BytesMut
     let mut s = RlpStream::new_with_buffer(alloc, bytes);
     put_each(&mut s, values)?;
     list_alone(s.out())
+}
+
+/// Turns joined encodings into the encoding of the list of their items. The joined encodings follow
+/// one byte, which keeps the place of the header. An empty buffer becomes the encoding of the empty
+/// list.
+fn list_alone(bytes: BytesMut) -> Result<BytesMut, AllocError>
+    ensures { IfOk result (λ b. b.items ≡ list_encoding (drop 1 bytes.items)) }
+{
+    let mut buffer = Buffer::new(bytes);
+    let len = buffer.len().saturating_sub(1);
+    let header = list_header_len(len);
+    let room = header + len - buffer.len();
+    buffer.reserve(room)?;
+    buffer.advance_mut(room);
+    buffer.shift(1, len, header);
+    buffer.write_list_header(header);
+    Ok(buffer.into_bytes())
 }

@@ -1,16 +1,17 @@
 -- What a stream writes is the join of the items that its calls describe.
 use Rattle.std.proofs.Common.{◌≡◌, ◌<◌, ◌^◌, ℕ, suc, ◌+◌, arith, length-append, Bool, true, false, cond, List, [], ◌∷◌, ◌++◌, length, map, Some, None}
-use Rattle.std.proofs.{Common.{refl, sym, ap, ◌∙◌, append-nil, Result, Ok, Err, IsTrue, not, All}, lemmas.List.append_cancel_left}
+use Rattle.std.proofs.{Common.{refl, sym, ap, ◌∙◌, append-nil, Result, Ok, Err, IsTrue, not, All}, lemmas.Bool.{cond-true, cond-false, cond_both}, lemmas.List.append_cancel_left}
 use Rattle.std.proofs.lemmas.List.Concat.{flat_map-append}
 use Rattle.rlp_format.specs.Format.Encoding.{big_endian, written_header, Item, string, list_of, encoding, join, IsSized}
 use Rattle.rlp_write.specs.Streams.Stream.{OpenList, Stack, empty_stack, stack_put, stack_shut, shut_around, stack_count, count_around, is_last}
-use Rattle.rlp_write.specs.Streams.Stream.{State, initial_state, list_encoding, put, count}
+use Rattle.rlp_write.specs.Streams.Stream.{State, initial_state, list_encoding}
 use Rattle.rlp_write.specs.Streams.Stream.{Call, effect, is_within_size, is_admitted, after, after_from}
 use Rattle.rlp.specs.Streams.Described.{Step, one_list, items_after, items_after_all, Describes, by_append, by_empty_data, by_raw, by_checked_raw}
 use Rattle.rlp.specs.Streams.Described.{by_refused_raw, by_empty_list, by_list, by_unbounded_list, by_finalize, by_internal_list, by_clear}
 use Rattle.rlp.specs.Streams.Described.{AreDescribed, IsDescribed, DescribesWhere, AreDescribedWhere, IsDescribedWhere, joined_stack, joined_list}
 use Rattle.rlp.specs.Streams.Described.{FinishAs}
-use Rattle.rlp_format.proofs.Lemmas.Encodings.{encoding_list, join_same}
+use Rattle.rlp_format.proofs.Lemmas.Encodings.{encoding_list}
+use Rattle.rlp_reading.proofs.Lemmas.Items.{join_same}
 use Rattle.rlp_reading.proofs.Lemmas.Views.{sized_items}
 
 one_list_joined : (xs : List Item) → list_encoding (join xs) ≡ join (one_list xs)
@@ -59,13 +60,9 @@ empty_string : encoding (string []) ≡ 0x80 ∷ []
 unfolding encoding written_header big_endian
 empty_string = refl
 
-taken : (b : Bool) (x y : State) (t : Stack ℕ) → IsTrue b → x.stack ≡ t → (cond b x y).stack ≡ t
-taken true x y t h e = e
-taken false x y t h e = absurd (let no : ⊥ = cc in no)
-
-not_taken : (b : Bool) (x y : State) → IsTrue (not b) → (cond b x y).stack ≡ y.stack
-not_taken true x y h = absurd (let no : ⊥ = cc in no)
-not_taken false x y h = refl
+untrue : (b : Bool) → IsTrue (not b) → b ≡ false
+untrue true h = absurd (let no : ⊥ = cc in no)
+untrue false h = refl
 
 effect_joined : (s : State) {c : Call} {m : Step} → Describes s c m → (t : Stack Item) → s.stack ≡ joined_stack t
     → (effect c s).stack ≡ joined_stack (items_after m t)
@@ -75,9 +72,9 @@ effect_joined s by_empty_data t e =
     ∙ ap (λ (b : List ℕ). stack_count list_encoding 1 (stack_put b (joined_stack t))) (sym empty_string) ∙ one_joined (string []) t
 effect_joined s (by_raw xs a p) t e = ap (λ (k : Stack ℕ). stack_count list_encoding (length xs) (stack_put (join xs) k)) e ∙ brought_joined xs (length xs) t
 effect_joined s (by_checked_raw xs limit a p h) t e =
-    taken (is_within_size (join xs) limit s) (count (length xs) (put (join xs) s)) s _ h
-    (ap (λ (k : Stack ℕ). stack_count list_encoding (length xs) (stack_put (join xs) k)) e ∙ brought_joined xs (length xs) t)
-effect_joined s (by_refused_raw b k limit h) t e = not_taken (is_within_size b limit s) (count k (put b s)) s h ∙ e
+    ap (λ (u : State). u.stack) (cond-true (is_within_size (join xs) limit s) _ _ h)
+    ∙ ap (λ (k : Stack ℕ). stack_count list_encoding (length xs) (stack_put (join xs) k)) e ∙ brought_joined xs (length xs) t
+effect_joined s (by_refused_raw b k limit h) t e = ap (λ (u : State). u.stack) (cond-false (is_within_size b limit s) _ _ (untrue _ h)) ∙ e
 effect_joined s by_empty_list t e = ap (λ (k : Stack ℕ). stack_count list_encoding 1 (stack_put (encoding (list_of [])) k)) e ∙ one_joined (list_of []) t
 effect_joined s (by_list n) t e = let with_list : Stack ℕ → Stack ℕ = λ k.
     record { inner = []; lists = record { awaits = Some (suc n); outer = k.inner } ∷ k.lists } in ap with_list e
@@ -90,22 +87,14 @@ effect_joined s (by_internal_list xs) t e = ap (λ (k : Stack ℕ). stack_count 
     ∙ one_joined (list_of xs) t
 effect_joined s by_clear t e = refl
 
-cond_true : {A : Type 0} (b : Bool) (x y : A) → IsTrue b → cond b x y ≡ x
-cond_true true x y h = refl
-cond_true false x y h = absurd (let no : ⊥ = cc in no)
-
 -- ---- the front stays
-
-cond_front : (b : Bool) (x y : State) (f : List ℕ) → x.front ≡ f → y.front ≡ f → (cond b x y).front ≡ f
-cond_front true x y f e g = e
-cond_front false x y f e g = g
 
 effect_front : (s : State) {c : Call} {m : Step} → Describes s c m → (effect c s).front ≡ s.front
 effect_front s (by_append x) = refl
 effect_front s by_empty_data = refl
 effect_front s (by_raw xs a p) = refl
-effect_front s (by_checked_raw xs limit a p h) = cond_front (is_within_size (join xs) limit s) (count (length xs) (put (join xs) s)) s s.front refl refl
-effect_front s (by_refused_raw b k limit h) = cond_front (is_within_size b limit s) (count k (put b s)) s s.front refl refl
+effect_front s (by_checked_raw xs limit a p h) = cond_both (is_within_size (join xs) limit s) _ _ (λ (u : State). u.front ≡ s.front) (λ _. refl) (λ _. refl)
+effect_front s (by_refused_raw b k limit h) = cond_both (is_within_size b limit s) _ _ (λ (u : State). u.front ≡ s.front) (λ _. refl) (λ _. refl)
 effect_front s by_empty_list = refl
 effect_front s (by_list n) = refl
 effect_front s by_unbounded_list = refl
@@ -128,7 +117,7 @@ after_described (c ∷ calls) [] n s t d e = absurd d
 after_described (c ∷ calls) (m ∷ steps) n s t d e =
     let r : Leaves (after_from (n + 1) (effect c s) calls) (effect c s).front (joined_stack (items_after_all steps (items_after m t))) =
     after_described calls steps (n + 1) (effect c s) (items_after m t) d.2 (effect_joined s d.1 t e) in
-    (r.0, cond_true (is_admitted c s) (after_from (n + 1) (effect c s) calls) (Err n) d.0 ∙ r.1, r.2 ∙ effect_front s d.1, r.3)
+    (r.0, cond-true (is_admitted c s) (after_from (n + 1) (effect c s) calls) (Err n) d.0 ∙ r.1, r.2 ∙ effect_front s d.1, r.3)
 
 -- after described calls, each payload is the join of its items
 pub described_joins : (front : List ℕ) (calls : List Call) (steps : List Step) → AreDescribed (initial_state front) calls steps
@@ -227,3 +216,5 @@ pub same_items : (front : List ℕ) (calls more : List Call) (xs ys : List Item)
     → FinishAs front calls one → IsDescribed front more ys → FinishAs front more other → xs ≡ ys → one ≡ other
 same_items front calls more xs ys one other d f e g same =
     described_buffer_only front calls xs one d f ∙ ap (λ (zs : List Item). front ++ join zs) same ∙ sym (described_buffer_only front more ys other e g)
+
+pub ruleset describes = (described_joins, described_finishes, steps_anyhow, items_anyhow)

@@ -1,8 +1,8 @@
-use Rattle.std.proofs.Common.{arith}
+use Rattle.std.proofs.Common.{arith, true}
 use Rattle.std.specs.Vec.{vec_items}
 use Rattle.rlp_format.proofs.Lemmas.Digits.{bytes_held}
 use Rattle.rlp_reading.specs.Laws.{form_of}
-use Rattle.rlp_reading.proofs.Corollaries.{strict_list_alike, strict_list_memory, strict_list_only, strict_list_whole}
+use Rattle.rlp_reading.proofs.Corollaries.{list_alike, list_memory, strict_list_only, strict_list_whole}
 use Rattle.rlp.proofs.decode_list_whole.Goals as goal
 
 pub returns-clause-whole : goal.returns-clause-whole
@@ -18,8 +18,9 @@ returns-clause-only g c = λ vs same.
 
 pub returns-clause-alike : goal.returns-clause-alike
 returns-clause-alike g c = λ vs all whole.
-    strict_list_alike (form_of _ _ _) vec_items g.met.T.StrictRead.strict _ vs _ (omega arith) all whole c.decode_list_strict.ensures.value
+    list_alike (form_of _ _ _) (g.met.T.StrictRead.strict.back true) _ vs (omega arith) all whole vec_items _ g.met.T.StrictRead.strict.told
+    c.decode_list_strict.ensures.value
 
 pub returns-clause-memory : goal.returns-clause-memory
 returns-clause-memory g c = λ vs all whole.
-    strict_list_memory (form_of _ _ _) g.met.T.StrictRead.strict _ vs _ (omega arith) all whole c.decode_list_strict.ensures.fault
+    list_memory (form_of _ _ _) (g.met.T.StrictRead.strict.back true) _ vs (omega arith) all whole _ c.decode_list_strict.ensures.fault

@@ -1,13 +1,14 @@
 //! Numbers: written as the string of their digits to the base 256, the most significant first.
 
-ghost use Rattle.std.specs.{Prelude.{◌≡◌, ◌≤◌, ◌<◌, length, Ok, Err, IfOk, IfErr, IfSome}, Int.Digits.number_from_digits};
+ghost use Rattle.std.specs.{Prelude.{◌≡◌, ◌≤◌, ◌<◌, false, length, Ok, Err, IfOk, IfErr, IfSome}, Int.Digits.number_from_digits};
 ghost use Rattle.rlp_format.specs.Values.Value.{FitsBytes};
 ghost use Rattle.rlp_reading.specs.Form.{and_then, fault_of, number_of, string_of};
-ghost use Rattle.rlp_reading.proofs.StringLaws.{number_scalar};
-ghost use Rattle.rlp.specs.Codec.{number};
+ghost use Rattle.rlp_reading.proofs.{ListLaws.value_only, StringLaws.number_scalar};
+ghost use Rattle.rlp.specs.Codec.{number, plain, uint};
 
 use crate::rlpin::{Rlp, may_end_at, short_string};
 use crate::traits::{Decodable, RoundTrip, Scalar, StrictRead};
+use rlp_format::Uint;
 use rlp_format::digits::{number_of, wide_number_of};
 use rlp_reading::error::DecoderError;
 use rlp_reading::numbers::few_digits;
@@ -141,6 +142,7 @@ pub(crate) fn number_digits<'a>(rlp: &Rlp<'a>, width: usize) -> Result<&'a [u8],
 /// Tests whether these are the digits of a number of at most `width` bytes: first the number of
 /// digits, and then the first digit.
 #[inline(always)]
+#[tactic(auto, using(rlp_reading::proofs::StringLaws::number_fits))]
 fn check_digits(digits: &[u8], width: usize) -> Result<(), DecoderError>
     ensures few { IfOk result (λ _. length digits.now ≤ width) }
     ensures fits { IfOk result (λ _. FitsBytes width (number_from_digits 256 digits.now)) }
@@ -227,4 +229,39 @@ impl Scalar for u128 {
 
 impl StrictRead for u128 {
     ghost strict = { (number 16).reads_strictly };
+}
+
+/// Reads a number of at most `N` bytes. Fails with the same errors as for `u64`.
+impl<const N: usize> Decodable for Uint<N> {
+    ghost reading = { (uint N).reading };
+
+    #[inline(always)]
+    fn decode(_alloc: Global, rlp: &Rlp<'_>) -> Result<Uint<N>, DecoderError> {
+        let bytes = padded(number_digits(rlp, N)?);
+        Ok(Uint { bytes })
+    }
+}
+
+/// Returns the digits with zeros before them.
+fn padded<const N: usize>(digits: &[u8]) -> [u8; N]
+    requires { length digits.now ≤ N }
+    ensures { number_from_digits 256 result ≡ number_from_digits 256 digits.now }
+{
+    let mut bytes = [0; N];
+    let all = &mut bytes[..];
+    all[N - digits.len()..].copy_from_slice(digits);
+    bytes
+}
+
+impl<const N: usize> RoundTrip for Uint<N> {
+    ghost round_trip = { (uint N).reads_back };
+}
+
+impl<const N: usize> Scalar for Uint<N> {
+    ghost exact = { value_only (plain (number N)) (λ (n : Self). number_from_digits 256 n.bytes) false false
+        (number_scalar N) };
+}
+
+impl<const N: usize> StrictRead for Uint<N> {
+    ghost strict = { (uint N).reads_strictly };
 }

@@ -1,10 +1,12 @@
-//! Options: written as a list of no items or of one item.
+//! Options, written as a list of no items or of one item, and boxes, written as the value that they
+//! hold.
 
-ghost use Rattle.rlp_reading.proofs.ListLaws.{option_lawful, option_read_back};
-ghost use Rattle.rlp_reading.specs.{Form.option_reading, Laws.form_of};
+ghost use Rattle.std.specs.{Prelude.{false, true}, Box.box_value};
+ghost use Rattle.rlp_reading.proofs.ListLaws.{option_lawful, option_read_back, value_lawful, value_only, value_read_back};
+ghost use Rattle.rlp_reading.specs.{Form.{held_reading, option_reading}, Laws.form_of};
 
 use crate::rlpin::{Fields, Rlp};
-use crate::traits::{Decodable, RoundTrip, StrictRead};
+use crate::traits::{Decodable, RoundTrip, Scalar, StrictRead};
 use rlp_reading::error::DecoderError;
 use std::alloc::Global;
 
@@ -42,4 +44,26 @@ impl<T: RoundTrip> RoundTrip for Option<T> {
 
 impl<T: StrictRead> StrictRead for Option<T> {
     ghost strict = { option_lawful (form_of T.fits T.item T.reading) T.strict };
+}
+
+/// Reads a value of type `T`, and puts it into a box.
+impl<T: Decodable> Decodable for Box<T> {
+    ghost reading = { held_reading true box_value T.reading };
+
+    fn decode(alloc: Global, rlp: &Rlp<'_>) -> Result<Box<T>, DecoderError> {
+        let value = T::decode(alloc, rlp)?;
+        Ok(Box::new(alloc, value)?)
+    }
+}
+
+impl<T: RoundTrip> RoundTrip for Box<T> {
+    ghost round_trip = { value_read_back (form_of T.fits T.item T.reading) box_value true T.round_trip };
+}
+
+impl<T: Scalar> Scalar for Box<T> {
+    ghost exact = { value_only (form_of T.fits T.item T.reading) box_value true false T.exact };
+}
+
+impl<T: StrictRead> StrictRead for Box<T> {
+    ghost strict = { value_lawful (form_of T.fits T.item T.reading) box_value true T.strict };
 }

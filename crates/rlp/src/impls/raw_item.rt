@@ -57,7 +57,7 @@ impl RawItem {
     /// let item = rlp::RawItem::new(alloc, &[0xc1, 0x05])?;
     /// assert!(rt; rlp::RawItem::new(alloc, &[0x81, 0x05]).is_err());
     /// ```
-    #[tactic(auto, using(rlp_reading::proofs::RawLaws::raw_readings, rlp_reading::proofs::Lemmas::RawItems::raw_if))]
+    #[tactic(auto, using(rlp_reading::proofs::RawLaws::raw_readings, rlp_reading::proofs::RawLaws::raw_if))]
     pub fn new(alloc: Global, bytes: &[u8]) -> Result<RawItem, DecoderError>
         ensures value { IfOk result (λ r. (r ≡ bytes.now) × IsRawItem bytes.now) }
         ensures read { IfOk result (λ r. raw_of bytes.now ≡ Ok r) }
@@ -76,7 +76,7 @@ impl RawItem {
     }
 
     /// The bytes: the encoding of the item.
-    #[tactic(auto, using(rlp_reading::proofs::Lemmas::RawItems::raw_bytes))]
+    #[tactic(auto, using(rlp_reading::proofs::RawLaws::raw_bytes))]
     pub fn as_bytes(&self) -> &[u8]
         ensures bytes { result.now ≡ self.now }
         ensures canonical { IsRawItem self.now × IsCanonicalWithin deepest_raw_item self.now }
@@ -125,6 +125,7 @@ impl Encodable for RawItem {
 
     ghost fits = { raw_item.Fits };
 
+    #[tactic(auto, using(crate::proofs::RawWriting::raw_items))]
     fn rlp_append(&self, s: &mut RlpStream) -> Result<(), AllocError> {
         let bytes = self.as_bytes();
         let item = Rlp::new_strict(bytes);

@@ -9,6 +9,7 @@ ghost use Rattle.rlp.specs.Streams.Described.{Step, AreDescribed, AreDescribedWh
 /// items. If no list is left open, the buffer is the front and the joined encodings of the items
 /// described, and the calls describe no other items. The same holds if each item of raw bytes has
 /// to pass a test: without the test the calls describe the same items.
+#[tactic(auto, using(crate::proofs::Streams::Descriptions::describes))]
 pub fn stream_joins_what_is_described()
     ensures payloads { (front : List ℕ) (calls : List Call) (steps : List Step)
         → AreDescribed (initial_state front) calls steps

@@ -127,7 +127,7 @@ pub fn struct_is_read<F: DecodeFields>(rlp: &Rlp<'_>)
 {}
 
 /// Bytes that are the encoding of an item of depth at most 256 are a raw item of that item.
-#[tactic(auto, using(rlp_reading::proofs::Lemmas::RawItems::raw_bytes))]
+#[tactic(auto, using(rlp_reading::proofs::RawLaws::raw_bytes))]
 pub fn encodings_are_raw_items(bytes: &[u8])
     ensures { (x : Item) → bytes.now ≡ encoding x → item_depth x ≤ deepest_raw_item
         → raw_item_of bytes.now ≡ x }

@@ -16,7 +16,7 @@ use std::alloc::Global;
 
 /// Why bytes aren't exactly one framed item: they aren't framed, or bytes follow the framed item.
 /// Canonical bytes have no such fault.
-#[tactic(auto, using(rlp_format::proofs::Lemmas::Digits::bytes_held, rlp_reading::proofs::Views::ViewKinds::strict_canonical, rlp_reading::proofs::Views::ViewKinds::strict_followed, rlp_reading::proofs::Views::ViewKinds::strict_unframed, rlp_reading::proofs::Views::ViewKinds::strict_whole))]
+#[tactic(auto, using(rlp_format::proofs::Lemmas::Digits::bytes_held, rlp_reading::proofs::Lemmas::Fronts::strict_canonical, rlp_reading::proofs::Lemmas::Fronts::strict_followed, rlp_reading::proofs::Lemmas::Fronts::strict_unframed, rlp_reading::proofs::Lemmas::Fronts::strict_whole))]
 pub fn strict_fault_is_read(bytes: &[u8])
     ensures whole { (h n : ℕ) → HasHeader bytes.now h n → h + n ≡ length bytes.now
         → strict_fault bytes.now ≡ None }
@@ -28,7 +28,7 @@ pub fn strict_fault_is_read(bytes: &[u8])
 
 /// Each definition over a lenient view equals the definition over the bytes of the view, whatever
 /// follows the first item.
-#[tactic(auto, using(rlp_reading::proofs::Views::ViewKinds::lenient_count, rlp_reading::proofs::Views::ViewKinds::lenient_place))]
+#[tactic(auto, using(rlp_reading::proofs::Lemmas::Fronts::lenient_count, rlp_reading::proofs::Lemmas::Fronts::lenient_place))]
 pub fn lenient_views_ignore_what_follows(bytes: &[u8])
     ensures header { view_header (view_of bytes.now) ≡ framing bytes.now }
     ensures value { view_value (view_of bytes.now) ≡ value bytes.now }

@@ -29,6 +29,7 @@ pub fn items_by_number_are_in_order(rlp: &Rlp<'_>)
 /// A lenient view of bytes that begin with the encoding of a list, and a strict view of bytes that
 /// are the encoding of a list, have the same number of items. In order and by number, each is the
 /// encoding of the item in its place. A number past the last item has the fault `RlpIsTooShort`.
+#[tactic(auto, using(rlp_reading::proofs::Lemmas::WholeLists::held_at, rlp_reading::proofs::Lemmas::WholeLists::held_count, rlp_reading::proofs::Lemmas::WholeLists::held_past, rlp_reading::proofs::Lemmas::WholeLists::held_views))]
 pub fn view_of_list_has_its_items(rlp: &Rlp<'_>)
     ensures count { (xs : List Item) → HoldsItem rlp.now (list_of xs)
         → item_count rlp.now ≡ Ok (length xs) }

@@ -56,6 +56,7 @@ impl<'a> BasicDecoder<'a> {
     /// let len = decoder.decode_value(|string: &[u8]| -> Result<usize, rlp::DecoderError> { Ok(string.len()) })?;
     /// assert_eq!(rt; len, 3);
     /// ```
+    #[tactic(auto, using(rlp_reading::proofs::Lemmas::StringsHeld::missing_held))]
     pub fn decode_value<T, E, F>(&self, f: F) -> Result<T, E>
     where
         E: From<DecoderError>,
@@ -82,7 +83,7 @@ impl<'a> BasicDecoder<'a> {
     /// let decoder = rlp::BasicDecoder::new(&[0x83, b'c', b'a', b't']);
     /// assert_eq!(rt; decoder.string()?, b"cat".as_slice());
     /// ```
-    #[tactic(auto, using(rlp_reading::proofs::Lemmas::StringsHeld::held_too_big, rlp_reading::proofs::Lemmas::StringsHeld::held_whole, rlp_reading::proofs::Lemmas::StringsHeld::held_front, rlp_reading::proofs::Lemmas::StringsHeld::held_fault))]
+    #[tactic(auto, using(rlp_reading::proofs::Lemmas::StringsHeld::held_too_big, rlp_reading::proofs::Lemmas::StringsHeld::held_whole, rlp_reading::proofs::Lemmas::StringsHeld::held_front, rlp_reading::proofs::Lemmas::StringsHeld::held_fault, rlp_reading::proofs::Lemmas::StringsHeld::held_from))]
     pub fn string(&self) -> Result<&'a [u8], DecoderError>
         ensures exact { MatchResult result (λ d. view_string self.now ≡ Ok d.now)
             (λ e. view_string self.now ≡ Err e) }
@@ -124,6 +125,7 @@ impl<'a> BasicDecoder<'a> {
 /// The string whose encoding the bytes are. The caller knows that the bytes are exactly one item,
 /// with this content. Returns `None` for a list and for a byte that has a needless header.
 #[inline(always)]
+#[tactic(auto, using(rlp_format::proofs::Lemmas::Digits::bytes_held, rlp_reading::proofs::Trees::Needless::item_held))]
 pub(crate) fn item_string<'a>(bytes: &[u8], strict: bool, content: &'a [u8]) -> Option<&'a [u8]>
     requires whole { strict_fault bytes.now ≡ None }
     requires content { value bytes.now ≡ Ok content.now }
@@ -150,6 +152,7 @@ pub(crate) fn may_end_at(bytes: &[u8], strict: bool, len: usize) -> bool
 /// nothing is wrong with it. `None` says nothing about the bytes. The arguments are the parts of a
 /// view, so that they stay in registers.
 #[inline(always)]
+#[tactic(auto, using(rlp_reading::proofs::Lemmas::StringsHeld::first_held, rlp_reading::proofs::Lemmas::StringsHeld::after_held))]
 pub(crate) fn short_string(bytes: &[u8], strict: bool) -> Option<&[u8]>
     ensures held { IfSome result
         (λ d. HoldsString (record { bytes = bytes.now; is_strict = strict }) d.now) }

@@ -61,7 +61,7 @@ impl<'a> Rlp<'a> {
 
     /// The same as [`Rlp::fields`] for a list of `len` items. Fails with `RlpIncorrectListLen` if
     /// the list has a different number of items.
-    #[tactic(auto, using(rlp_reading::proofs::ListLaws::items_told, rlp_reading::proofs::Views::InOrder::counted_told))]
+    #[tactic(auto, using(rlp_reading::proofs::ListLaws::items_told, rlp_reading::proofs::Lemmas::Numbered::counted_told))]
     pub fn fields_of(&self, len: usize) -> Result<Fields<'a>, DecoderError>
         ensures items { IfOk result (λ f. items_of self.now ≡ Ok f.views) }
         ensures past { IfOk result (λ f. (i : ℕ) → length f.views ≤ i

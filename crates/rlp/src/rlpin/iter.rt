@@ -77,7 +77,7 @@ impl<'a, 'view> ExactSizeIterator for RlpIterator<'a, 'view> {
 
 impl<'a, 'view> RlpIterator<'a, 'view> {
     /// The iterator over the items of a view. It is empty if the view isn't a framed list.
-    #[tactic(auto, unfolding(rlp_reading::specs::Format::Framing::items), using(rlp_reading::proofs::Format::Splits::splits))]
+    #[tactic(auto, unfolding(rlp_reading::specs::Format::Framing::items), using(rlp_reading::proofs::Lemmas::Numbered::splits))]
     pub(crate) fn over(view: &'view Rlp<'a>) -> RlpIterator<'a, 'view>
         ensures items { result.left ≡ item_views view.now }
         ensures few { length result.left < 2 ^ 64 }

@@ -1,11 +1,11 @@
 //! A view of bytes, and its methods on their first item.
 
 ghost use Rattle.std.specs.Vec.{vec_items};
-ghost use Rattle.std.specs.Prelude.{◌≡◌, ◌≤◌, ◌<◌, ◌^◌, ◌↔◌, ◌⊎◌, ℕ, List, [], length, true, false, IsTrue, IsOk, None, Some, Ok, Err, IfOk, IfErr, IfSome, MatchResult};
+ghost use Rattle.std.specs.Prelude.{◌≡◌, ◌≤◌, ◌<◌, ◌^◌, ◌↔◌, ◌⊎◌, ◌++◌, ℕ, List, [], length, true, false, IsTrue, IsOk, None, Some, Ok, Err, IfOk, IfErr, IfSome, MatchResult};
 ghost use Rattle.rlp_reading.specs.{declared.error.DecoderError.TheVariants.OutOfMemory, Format.Flat.IsFlat};
 ghost use Rattle.rlp_reading.specs.Format.Framing.{begins_as_list, items, split, fault, framing, total_len, value, IsCanonicalWithin, after_items, strict_fault, strict_list_fault};
-ghost use Rattle.rlp_reading.specs.{Format.TreeFaults.IsFlatFault, Views.Depth.depth};
-ghost use Rattle.rlp_reading.specs.Views.View.{begins_as_data, begins_as_empty, begins_as_int, data_size, has_nonzero_at, item_at, item_count, item_views, item_with_place, items_fault, list_fault, prototype_of, strict_view_of, view_header, view_of, view_string, view_value, HoldsString, View};
+ghost use Rattle.rlp_reading.specs.{Format.TreeFaults.IsFlatFault, Values.RawItem.view_frame, Views.Depth.depth};
+ghost use Rattle.rlp_reading.specs.Views.View.{begins_as_data, begins_as_empty, begins_as_int, data_size, has_nonzero_at, item_at, item_count, item_views, item_with_place, items_fault, list_fault, prototype_of, strict_view_of, view_header, view_of, view_string, view_value, Holds, HoldsString, View};
 ghost use Rattle.rlp_reading.specs.Form.{Faults, Gives, list_reading, reading_at};
 ghost use Rattle.rlp.specs.Left.{HasValueAfter};
 
@@ -129,6 +129,7 @@ impl<'a> Rlp<'a> {
     /// list.
     ///
     /// Fails as [`Rlp::payload_info`] does.
+    #[tactic(auto, using(rlp_reading::proofs::Lemmas::Fronts::no_view_value, rlp_reading::proofs::Lemmas::Fronts::view_value_between))]
     pub fn data(&self) -> Result<&'a [u8], DecoderError>
         ensures { MatchResult result (λ d. view_value self.now ≡ Ok d.now)
             (λ e. view_value self.now ≡ Err e) }
@@ -157,6 +158,7 @@ impl<'a> Rlp<'a> {
     }
 
     /// The length of the string that the view begins with, or 0 if it begins with no framed string.
+    #[tactic(auto, using(rlp_reading::proofs::Lemmas::Fronts::size_of_header, rlp_reading::proofs::Lemmas::Fronts::no_size_of_header))]
     pub fn size(&self) -> usize
         ensures { result ≡ data_size self.now.bytes }
     {
@@ -363,6 +365,36 @@ impl<'a> Rlp<'a> {
         item.as_list(alloc)
     }
 
+    /// A view of the item that the view begins with, of the same kind, and the bytes that follow
+    /// it. To read joined items one by one, call it again on a view of the bytes that follow, until
+    /// no bytes are left.
+    ///
+    /// It doesn't allocate, and reads no header inside a list. Fails as [`Rlp::payload_info`] does:
+    /// with `RlpIsTooShort` if there are no bytes, and for a strict view with `RlpIsTooBig` if
+    /// bytes follow the item.
+    ///
+    /// ```rust
+    /// let (id, rest) = rlp::Rlp::new(&[0x05, 0xc1, 0x06]).split_first()?;
+    /// assert_eq!(rt; id.as_raw(), [0x05].as_slice());
+    /// let (list, rest) = rlp::Rlp::new(rest).split_first()?;
+    /// assert!(rt; list.item_count() == Ok(1) && rest.is_empty());
+    /// ```
+    #[tactic(auto, using(crate::proofs::Readers::faulty_view, rlp_reading::proofs::Lemmas::Fronts::long_front, rlp_reading::proofs::Lemmas::Fronts::whole_front))]
+    pub fn split_first(&self) -> Result<(Rlp<'a>, &'a [u8]), DecoderError>
+        ensures item { IfOk result (λ r. (view_frame self.now ≡ Ok r.0.bytes)
+            × (r.0.is_strict ≡ self.now.is_strict)) }
+        ensures rest { IfOk result (λ r. self.now.bytes ≡ r.0.bytes ++ r.1.now) }
+        ensures held { IfOk result (λ r. Holds self.now.is_strict self.now.bytes r.0.bytes) }
+        ensures fault { IfErr result (λ e. (view_frame self.now ≡ Err e)
+            × (view_header self.now ≡ Err e)) }
+    {
+        let (framed, rest) = first_framed(self.as_raw())?;
+        if self.is_strict() && !rest.is_empty() {
+            return Err(DecoderError::RlpIsTooBig);
+        }
+        Ok((Rlp::of_item(&framed, self.is_strict()), rest))
+    }
+
     /// A decoder of the view's bytes, of the same kind. A strict decoder fails with `RlpIsTooBig`
     /// if bytes follow the string.
     pub fn decoder(&self) -> BasicDecoder<'a>
@@ -381,6 +413,7 @@ impl<'a> Rlp<'a> {
     /// let list = rlp::Rlp::new(&[0xc2, 0xc1, 0x05]);
     /// assert!(rt; !list.is_nested_within(1) && list.is_nested_within(2));
     /// ```
+    #[tactic(auto, using(crate::proofs::Readers::nested))]
     pub fn is_nested_within(&self, limit: usize) -> bool
         ensures { IsTrue result ↔ (depth self.now.bytes ≤ limit) }
     {
@@ -506,7 +539,7 @@ impl<'a> Rlp<'a> {
     /// header alone. Fails as [`Rlp::item_count`] does, but doesn't find bytes that follow the items
     /// in the list of a strict view.
     #[inline(always)]
-    #[tactic(auto, using(crate::proofs::Readers::framed_views))]
+    #[tactic(auto, using(crate::proofs::Readers::framed_views, crate::proofs::Readers::items_of_framed))]
     pub(crate) fn framed_items(&self) -> Result<&'a [u8], DecoderError>
         ensures items { IfOk result (λ p. split p.now ≡ items self.now.bytes) }
         ensures whole { IfOk result (λ p. (IsTrue self.now.is_strict → after_items p.now ≡ [])
@@ -528,7 +561,7 @@ impl<'a> Rlp<'a> {
 
     /// The bytes that begin with the items of the list that the view begins with, and the number of
     /// the items, by one walk. Fails as [`Rlp::item_count`] does.
-    #[tactic(auto, using(crate::proofs::Readers::counted_views))]
+    #[tactic(auto, using(crate::proofs::Readers::counted_views, crate::proofs::Readers::counted_by))]
     pub(crate) fn counted_items(&self) -> Result<(&'a [u8], usize), DecoderError>
         ensures items { IfOk result (λ r. split r.0.now ≡ items self.now.bytes) }
         ensures count { MatchResult result (λ r. item_count self.now ≡ Ok r.1)
@@ -555,7 +588,7 @@ impl<'a> Rlp<'a> {
     }
 
     /// The items of a list that is all of the bytes, and their number, by one walk over it.
-    #[tactic(auto, unfolding(rlp_reading::specs::Format::Framing::items))]
+    #[tactic(auto, using(crate::proofs::Readers::strict_lists), unfolding(rlp_reading::specs::Format::Framing::items))]
     fn strict_items(&self) -> Result<(&'a [u8], usize), DecoderError>
         ensures fault { MatchResult result (λ _. strict_list_fault self.now.bytes ≡ None)
             (λ e. strict_list_fault self.now.bytes ≡ Some e) }

@@ -1,8 +1,9 @@
-//! Groups of fields at the end of a struct, one group after another in the same list.
+//! Fields that are a fixed number of items: groups of them at the end of a struct, one group after
+//! another in the same list, and such fields before other fields.
 
 ghost use Rattle.std.specs.{Prelude.{◌≡◌, ◌≤◌, ◌^◌, MatchOption}, Vec.vec_items};
-ghost use Rattle.rlp_reading.specs.{Form.{group_fields, one_field, part_fields}, Laws.TakeWidth};
-ghost use Rattle.rlp_reading.proofs.{GroupLaws.groups_possible, FieldLaws.{end_wide, group_wide, one_wide, part_wide}};
+ghost use Rattle.rlp_reading.specs.{Form.{group_before, group_fields, one_field, part_fields}, Laws.TakeWidth};
+ghost use Rattle.rlp_reading.proofs.{GroupLaws.groups_possible, FieldLaws.{end_wide, group_possible, group_wide, one_wide, part_possible, part_wide}};
 
 use crate::rlpin::Fields;
 use crate::structs::DecodeFields;
@@ -35,10 +36,7 @@ impl FixedFields for () {
 
 impl<T: Decodable, Q: FixedFields> FixedFields for (T, Q) {
     fn width() -> Option<usize> {
-        match Q::width() {
-            Some(others) => others.checked_add(1),
-            None => None,
-        }
+        Q::width()?.checked_add(1)
     }
 
     ghost takes = { group_wide (λ x. x.0) (one_field T.reading) (part_fields (λ x. x.1) Q.reading)
@@ -84,4 +82,33 @@ impl<G: FixedFields + Drop> DecodeFields for Groups<G> {
     }
 
     ghost possible = { groups_possible (λ x. vec_items x.0) G.reading G.takes };
+}
+
+/// Fields that are a fixed number of items, and the fields after them.
+#[derive(Drop)]
+pub struct Joined<P, Q>(pub P, pub Q);
+
+impl<P: FixedFields + Drop, Q: DecodeFields> DecodeFields for Joined<P, Q> {
+    ghost reading = { group_before (λ x. x.0) P.reading (part_fields (λ x. x.1) Q.reading) };
+
+    #[tactic(auto, using(rlp_reading::proofs::StructLaws::too_wide))]
+    fn accepts(len: usize) -> bool {
+        match P::width() {
+            Some(width) => width <= len && Q::accepts(len - width),
+            None => false,
+        }
+    }
+
+    fn decode_fields(alloc: Global, fields: &mut Fields<'_>) -> Result<Joined<P, Q>, DecoderError> {
+        match P::decode_fields(alloc, fields) {
+            Ok(first) => match Q::decode_fields(alloc, fields) {
+                Ok(others) => Ok(Joined(first, others)),
+                Err(fault) => Err(fault),
+            },
+            Err(fault) => Err(fault),
+        }
+    }
+
+    ghost possible = { group_possible (λ x. x.0) P.reading (part_fields (λ x. x.1) Q.reading)
+        P.takes (part_possible (λ x. x.1) Q.reading Q.possible) };
 }

@@ -34,8 +34,8 @@ pub big_endian_first : (n : ℕ) → 0 < n → 0 < get_or (big_endian n) 0 0
 big_endian_first n h = rw (big_endian_is) (first_digits_of 256 n (omega arith) h)
 
 -- each digit is a byte
-pub big_endian_bytes : (n : ℕ) → AllBelowBase 256 (big_endian n)
-big_endian_bytes n = rw (big_endian_is) (all_below_base_digits_of 256 n (omega arith))
+pub big_endian_bytes : (n : ℕ) → AreBytes (big_endian n)
+big_endian_bytes n = All-from_recursion (λ byte. byte < 2 ^ 8) (big_endian n) (rw (big_endian_is) (all_below_base_digits_of 256 n (omega arith)))
 
 -- a number below 2^64 has at most eight digits
 pub big_endian_length : (n : ℕ) → n < 2 ^ 64 → length (big_endian n) ≤ 8

@@ -4,8 +4,8 @@ ghost use Rattle.rlp.specs.{Codec.codec_of, Laws.form_of};
 ghost use Rattle.rlp_headers.specs.Changes.{account_changes, change, change_form, slot_changes};
 
 use rlp::{
-    Decodable, DecodePlaced, DecoderError, Encodable, ListField, ListOf, Rlp, RlpStream, RoundTrip,
-    StrictRead, Uint,
+    Decodable, DecodePlaced, DecoderError, Encodable, ListField, ListOf, Record, Rlp, RlpStream,
+    RoundTrip, StrictRead, Uint,
 };
 use rlp_records::Address;
 use std::alloc::{AllocError, Global};
@@ -78,7 +78,7 @@ impl Encodable for SlotChanges {
     }
 }
 
-impl Decodable for SlotChanges {
+impl Record for SlotChanges {
     ghost reading = { slot_changes.reading };
 
     fn decode(alloc: Global, rlp: &Rlp<'_>) -> Result<SlotChanges, DecoderError> {
@@ -91,20 +91,12 @@ impl Decodable for SlotChanges {
             }
         )
     }
-}
 
-impl DecodePlaced for SlotChanges {
     fn put_path(alloc: Global, rlp: &Rlp<'_>, path: &mut Vec<usize>) -> Result<(), AllocError> {
         rlp::put_struct_path!(alloc, rlp, path, Uint<32>, ListField<StateChange<Uint<32>>>)
     }
-}
 
-impl RoundTrip for SlotChanges {
-    ghost round_trip = { slot_changes.reads_back };
-}
-
-impl StrictRead for SlotChanges {
-    ghost strict = { slot_changes.reads_strictly };
+    ghost lawful = { slot_changes.reads_strictly };
 }
 
 /// What a block read and changed of an account: the list of these fields.
@@ -142,7 +134,7 @@ impl Encodable for AccountChanges {
     }
 }
 
-impl Decodable for AccountChanges {
+impl Record for AccountChanges {
     ghost reading = { account_changes.reading };
 
     fn decode(alloc: Global, rlp: &Rlp<'_>) -> Result<AccountChanges, DecoderError> {
@@ -159,21 +151,13 @@ impl Decodable for AccountChanges {
             }
         )
     }
-}
 
-impl DecodePlaced for AccountChanges {
     fn put_path(alloc: Global, rlp: &Rlp<'_>, path: &mut Vec<usize>) -> Result<(), AllocError> {
         rlp::put_struct_path!(
             alloc, rlp, path, Address, ListField<SlotChanges>, ListField<Uint<32>>,
             ListField<StateChange<Uint<32>>>, ListField<StateChange<u64>>, ListField<StateChange<Vec<u8>>>
         )
     }
-}
 
-impl RoundTrip for AccountChanges {
-    ghost round_trip = { account_changes.reads_back };
-}
-
-impl StrictRead for AccountChanges {
-    ghost strict = { account_changes.reads_strictly };
+    ghost lawful = { account_changes.reads_strictly };
 }

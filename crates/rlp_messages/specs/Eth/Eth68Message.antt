@@ -1,10 +1,10 @@
 -- The messages of eth/68.
-use Rattle.std.specs.Prelude.{◌⊎◌, refl}
 use Rattle.std.proofs.Common.{inl, inr}
-use Rattle.rlp_messages.specs.{declared.eth.receipts.Receipts.Receipts, declared.eth.status.Status68.Status68}
-use Rattle.rlp_messages.specs.{declared.eth.eth68_message.Eth68Message.Eth68Message, declared.eth.with_request_id.WithRequestId.WithRequestId}
-use Rattle.rlp_messages.specs.{Eth.EthMessage.{EthBody, eth_bodies}, Message.{Bodies, Table, and_message}, Eth.Receipts.receipts, Eth.Status.status68}
-use Rattle.rlp_messages.specs.Eth.WithRequestId.{with_request_id}
+use Rattle.std.specs.Prelude.{◌⊎◌, refl}
+use Rattle.rlp_messages.specs.{Eth.EthMessage.{EthBody, eth_bodies}, Eth.Receipts.receipts, Eth.Requests.with_request_id, Eth.Status.status68}
+use Rattle.rlp_messages.specs.{Message.{Bodies, Table, and_message}, declared.eth.eth68_message.Eth68Message.Eth68Message}
+use Rattle.rlp_messages.specs.{declared.eth.receipts.Receipts.Receipts, declared.eth.requests.WithRequestId.WithRequestId}
+use Rattle.rlp_messages.specs.declared.eth.status.Status68.{Status68}
 use Rattle.rlp_messages.specs.declared.eth.eth68_message.Eth68Message.TheVariants as message
 
 -- the types of the bodies

@@ -1,11 +1,11 @@
 -- The messages of eth/69.
-use Rattle.std.specs.Prelude.{◌⊎◌, refl}
 use Rattle.std.proofs.Common.{inl, inr}
-use Rattle.rlp_messages.specs.{declared.eth.announcements.BlockRangeUpdate.BlockRangeUpdate, declared.eth.receipts69.Receipts69.Receipts69}
-use Rattle.rlp_messages.specs.{declared.eth.status.Status69.Status69, declared.eth.eth69_message.Eth69Message.Eth69Message}
-use Rattle.rlp_messages.specs.{declared.eth.with_request_id.WithRequestId.WithRequestId, Eth.Announcements.block_range_update}
-use Rattle.rlp_messages.specs.{Eth.EthMessage.{EthBody, eth_bodies}, Message.{Bodies, Table, and_message}, Eth.Receipts69.receipts69}
-use Rattle.rlp_messages.specs.{Eth.Status.status69, Eth.WithRequestId.with_request_id}
+use Rattle.std.specs.Prelude.{◌⊎◌, refl}
+use Rattle.rlp_messages.specs.{Eth.Announcements.block_range_update, Eth.EthMessage.{EthBody, eth_bodies}, Eth.Receipts.receipts69}
+use Rattle.rlp_messages.specs.{Eth.Requests.with_request_id, Eth.Status.status69, Message.{Bodies, Table, and_message}}
+use Rattle.rlp_messages.specs.{declared.eth.announcements.BlockRangeUpdate.BlockRangeUpdate, declared.eth.eth69_message.Eth69Message.Eth69Message}
+use Rattle.rlp_messages.specs.{declared.eth.receipts.Receipts69.Receipts69, declared.eth.requests.WithRequestId.WithRequestId}
+use Rattle.rlp_messages.specs.declared.eth.status.Status69.{Status69}
 use Rattle.rlp_messages.specs.declared.eth.eth69_message.Eth69Message.TheVariants as message
 
 -- the types of the bodies

@@ -2,9 +2,10 @@
 use Rattle.std.specs.Prelude.{ℕ, ◌≡◌, ◌==◌, Bool, true, false, List, length, Ok}
 use Rattle.std.proofs.{Common.{◌^◌, ◌<◌, inl, inr, ap, arith, eq-eqb, ne_eqb, refl, subst, sym, ◌∙◌}, lemmas.Bool.{cond-true, cond-false, eqb-true}}
 use Rattle.rlp.specs.{Codec.{Codec, string_type}, Form.{map_value, number_of}, Format.Encoding.{AreBytes, big_endian}, Values.Value.FitsBytes}
-use Rattle.rlp_reading.proofs.{Lemmas.OneReading.few_digits, StringLaws.{ReadsStrings, number_strings}}
-use Rattle.rlp_messages.specs.declared.eth.hash_or_number.HashOrNumber.{HashOrNumber}
-use Rattle.rlp_messages.specs.declared.eth.hash_or_number.HashOrNumber.TheVariants.{Hash, Number}
+use Rattle.rlp_reading.proofs.StringLaws.{ReadsStrings, number_strings}
+use Rattle.rlp_reading.proofs.Lemmas.StringsHeld.{few_digits}
+use Rattle.rlp_messages.specs.declared.eth.requests.HashOrNumber.{HashOrNumber}
+use Rattle.rlp_messages.specs.declared.eth.requests.HashOrNumber.TheVariants.{Hash, Number}
 use Rattle.rlp_messages.specs.Eth.HashOrNumber.{IsHashOrNumber, hash_or_number_bytes, hash_or_number_of, seen_hash_or_number, written_hash_or_number}
 use Rattle.rlp_records.proofs.Alone.{not_right, right_only}
 
@@ -33,9 +34,8 @@ found_same (Number n) = refl
 
 found_fits : (x y : HashOrNumber) → seen_hash_or_number x ≡ seen_hash_or_number y → IsHashOrNumber x → IsHashOrNumber y
 found_fits (Hash h) (Hash k) same fit = subst (λ d. length d ≡ 32) (let bytes : h.0 ≡ k.0 = cc in bytes) fit
-found_fits (Hash h) (Number n) same fit = absurd (let no : ⊥ = cc in no)
-found_fits (Number n) (Hash h) same fit = absurd (let no : ⊥ = cc in no)
 found_fits (Number n) (Number m) same fit = subst (FitsBytes 8) (let numbers : n ≡ m = cc in numbers) fit
+found_fits x y same fit = absurd (let no : ⊥ = cc in no)
 
 pub hash_or_number_strings : ReadsStrings IsHashOrNumber hash_or_number_bytes seen_hash_or_number written_hash_or_number hash_or_number_of
 hash_or_number_strings = record {

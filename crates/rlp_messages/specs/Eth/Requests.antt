@@ -1,27 +1,24 @@
--- How requests and their answers are written and read.
+-- How requests and their answers are written and read, without the number of the request and with it.
 use Rattle.std.specs.Vec.{vec_items}
 use Rattle.rlp.specs.Codec.{Codec, Fields, end, field, list_type, number, struct_of, truth_value}
-use Rattle.rlp_messages.specs.{declared.eth.requests.GetBlockHeaders.GetBlockHeaders, declared.eth.requests.BlockHeaders.BlockHeaders}
-use Rattle.rlp_messages.specs.{declared.eth.requests.GetBlockBodies.GetBlockBodies, declared.eth.requests.BlockBodies.BlockBodies}
-use Rattle.rlp_messages.specs.declared.eth.requests.GetPooledTransactions.{GetPooledTransactions}
-use Rattle.rlp_messages.specs.{declared.eth.requests.PooledTransactions.PooledTransactions, declared.eth.requests.GetReceipts.GetReceipts}
-use Rattle.rlp_messages.specs.Eth.HashOrNumberLaws.{hash_or_number}
-use Rattle.rlp_blocks.specs.Body.{body}
+use Rattle.rlp.specs.Form.{Reading, group_before, no_fields, one_field, struct_reading}
 use Rattle.rlp_records.specs.Hash.{hash}
-use Rattle.rlp_headers.specs.Header.{header}
 use Rattle.rlp_transactions.specs.PooledTransaction.{pooled_transaction}
+use Rattle.rlp_headers.specs.Header.{header}
+use Rattle.rlp_blocks.specs.Block.{body}
+use Rattle.rlp_messages.specs.{Eth.HashOrNumberLaws.hash_or_number, declared.eth.requests.BlockBodies.BlockBodies}
+use Rattle.rlp_messages.specs.{declared.eth.requests.BlockHeaders.BlockHeaders, declared.eth.requests.GetBlockBodies.GetBlockBodies}
+use Rattle.rlp_messages.specs.{declared.eth.requests.GetBlockHeaders.GetBlockHeaders, declared.eth.requests.GetPooledTransactions.GetPooledTransactions}
+use Rattle.rlp_messages.specs.{declared.eth.requests.GetReceipts.GetReceipts, declared.eth.requests.PooledTransactions.PooledTransactions}
+use Rattle.rlp_messages.specs.declared.eth.requests.WithRequestId.{WithRequestId}
 
 -- [startblock: {P, B_32}, limit: P, skip: P, reverse: {0, 1}] of GetBlockHeaders
-abbrev pub get_block_headers_fields : Fields GetBlockHeaders
-get_block_headers_fields =
+abbrev pub get_block_headers : Codec GetBlockHeaders
+get_block_headers = struct_of (
     field (λ (g : GetBlockHeaders). g.start_block) hash_or_number (
     field (λ (g : GetBlockHeaders). g.limit) (number 8) (
     field (λ (g : GetBlockHeaders). g.skip) (number 8) (
-    field (λ (g : GetBlockHeaders). g.reverse) truth_value end)))
-
--- the list of the fields
-abbrev pub get_block_headers : Codec GetBlockHeaders
-get_block_headers = struct_of get_block_headers_fields
+    field (λ (g : GetBlockHeaders). g.reverse) truth_value end))))
 
 -- the list of the headers
 abbrev pub block_headers : Codec BlockHeaders
@@ -46,3 +43,18 @@ pooled_transactions = list_type (λ (p : PooledTransactions). vec_items p.0) poo
 -- the list of the hashes
 abbrev pub get_receipts : Codec GetReceipts
 get_receipts = list_type (λ (g : GetReceipts). vec_items g.0) hash
+
+-- EIP-2481: [request-id: P, content]
+abbrev pub with_request_id_fields : {A : Type 0} → Codec A → Fields (WithRequestId A)
+with_request_id_fields {A} c = field (λ (w : WithRequestId A). w.request_id) (number 8) (field (λ (w : WithRequestId A). w.content) c end)
+
+-- the list of the fields
+abbrev pub with_request_id : {A : Type 0} → Codec A → Codec (WithRequestId A)
+with_request_id c = struct_of (with_request_id_fields c)
+
+-- the reading of this codec, for a type without known laws
+abbrev pub with_request_id_reading : {A : Type 0} → Reading A → Reading (WithRequestId A)
+with_request_id_reading {A} r =
+    struct_reading (
+    group_before (λ (w : WithRequestId A). w.request_id) (one_field (number 8).reading) (
+    group_before (λ (w : WithRequestId A). w.content) (one_field r) no_fields))

@@ -25,20 +25,8 @@ reason_number (Other n) = n
 
 -- the reason has its name, unless its number has none
 abbrev pub NamedIfPossible : DisconnectReason → Type 0
-NamedIfPossible Requested = ⊤
-NamedIfPossible TcpError = ⊤
-NamedIfPossible ProtocolBreach = ⊤
-NamedIfPossible UselessPeer = ⊤
-NamedIfPossible TooManyPeers = ⊤
-NamedIfPossible AlreadyConnected = ⊤
-NamedIfPossible IncompatibleVersion = ⊤
-NamedIfPossible NullIdentity = ⊤
-NamedIfPossible ClientQuitting = ⊤
-NamedIfPossible UnexpectedIdentity = ⊤
-NamedIfPossible OwnIdentity = ⊤
-NamedIfPossible PingTimeout = ⊤
-NamedIfPossible SubprotocolError = ⊤
 NamedIfPossible (Other n) = (11 < n) × (n ≢ 16)
+NamedIfPossible reason = ⊤
 
 -- the string of its number
 abbrev pub reason : Codec DisconnectReason

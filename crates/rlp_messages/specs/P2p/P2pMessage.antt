@@ -1,11 +1,19 @@
--- The messages of `p2p`.
-use Rattle.std.specs.Prelude.{◌⊎◌, refl}
+-- The messages of `p2p`, and how those that keep a connection are written and read.
 use Rattle.std.proofs.Common.{inl, inr}
-use Rattle.rlp_messages.specs.{declared.p2p.disconnect.Disconnect.Disconnect, declared.p2p.hello.Hello.Hello}
-use Rattle.rlp_messages.specs.{declared.p2p.p2p_message.P2pMessage.P2pMessage, declared.p2p.session.Ping.Ping, declared.p2p.session.Pong.Pong}
+use Rattle.std.specs.Prelude.{◌⊎◌, refl}
+use Rattle.rlp.specs.Codec.{Codec, end, struct_of}
 use Rattle.rlp_messages.specs.{Message.{Bodies, Table, and_message, last_message}, P2p.Disconnect.disconnect, P2p.Hello.hello}
-use Rattle.rlp_messages.specs.P2p.Session.{ping, pong}
+use Rattle.rlp_messages.specs.{declared.p2p.disconnect.Disconnect.Disconnect, declared.p2p.hello.Hello.Hello, declared.p2p.p2p_message.P2pMessage.P2pMessage}
+use Rattle.rlp_messages.specs.{declared.p2p.p2p_message.Ping.Ping, declared.p2p.p2p_message.Pong.Pong}
 use Rattle.rlp_messages.specs.declared.p2p.p2p_message.P2pMessage.TheVariants as message
+
+-- [] of RLPx: the list of no items
+abbrev pub ping : Codec Ping
+ping = struct_of end
+
+-- [] of RLPx: the list of no items
+abbrev pub pong : Codec Pong
+pong = struct_of end
 
 -- the types of the bodies
 abbrev pub P2pBody : Type 0

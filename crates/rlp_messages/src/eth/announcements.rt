@@ -4,8 +4,7 @@
 ghost use Rattle.rlp_messages.specs.Eth.Announcements.{new_block_hash, new_block_hashes, new_pooled_transaction_hashes, block_range_update, new_block, transactions};
 
 use rlp::{
-    Decodable, DecodePlaced, DecoderError, Each, Encodable, ListField, ListOf, Rlp, RlpStream,
-    RoundTrip, StrictRead, Uint, put_list_path,
+    DecoderError, Each, Encodable, ListField, ListOf, Record, Rlp, RlpStream, Uint, put_list_path,
 };
 use rlp_blocks::Block;
 use rlp_records::Hash;
@@ -31,26 +30,18 @@ impl Encodable for NewBlockHash {
     }
 }
 
-impl Decodable for NewBlockHash {
+impl Record for NewBlockHash {
     ghost reading = { new_block_hash.reading };
 
     fn decode(alloc: Global, rlp: &Rlp<'_>) -> Result<NewBlockHash, DecoderError> {
         rlp::decode_fields!(alloc, rlp, NewBlockHash { hash, number })
     }
-}
 
-impl DecodePlaced for NewBlockHash {
     fn put_path(alloc: Global, rlp: &Rlp<'_>, path: &mut Vec<usize>) -> Result<(), AllocError> {
         rlp::put_struct_path!(alloc, rlp, path, Hash, u64)
     }
-}
 
-impl RoundTrip for NewBlockHash {
-    ghost round_trip = { new_block_hash.reads_back };
-}
-
-impl StrictRead for NewBlockHash {
-    ghost strict = { new_block_hash.reads_strictly };
+    ghost lawful = { new_block_hash.reads_strictly };
 }
 
 /// The blocks that a client announces, message 0x01 of `eth`: the list of the blocks.
@@ -67,27 +58,18 @@ impl Encodable for NewBlockHashes {
     }
 }
 
-impl Decodable for NewBlockHashes {
+impl Record for NewBlockHashes {
     ghost reading = { new_block_hashes.reading };
 
     fn decode(alloc: Global, rlp: &Rlp<'_>) -> Result<NewBlockHashes, DecoderError> {
-        let blocks = rlp.as_list(alloc)?;
-        Ok(NewBlockHashes(blocks))
+        Ok(NewBlockHashes(rlp.as_list(alloc)?))
     }
-}
 
-impl DecodePlaced for NewBlockHashes {
     fn put_path(alloc: Global, rlp: &Rlp<'_>, path: &mut Vec<usize>) -> Result<(), AllocError> {
         put_list_path::<NewBlockHash>(alloc, rlp, path)
     }
-}
 
-impl RoundTrip for NewBlockHashes {
-    ghost round_trip = { new_block_hashes.reads_back };
-}
-
-impl StrictRead for NewBlockHashes {
-    ghost strict = { new_block_hashes.reads_strictly };
+    ghost lawful = { new_block_hashes.reads_strictly };
 }
 
 /// The transactions that a client announces, message 0x08 since `eth/68`: the list of its three
@@ -113,7 +95,7 @@ impl Encodable for NewPooledTransactionHashes {
     }
 }
 
-impl Decodable for NewPooledTransactionHashes {
+impl Record for NewPooledTransactionHashes {
     ghost reading = { new_pooled_transaction_hashes.reading };
 
     fn decode(alloc: Global, rlp: &Rlp<'_>) -> Result<NewPooledTransactionHashes, DecoderError> {
@@ -127,20 +109,12 @@ impl Decodable for NewPooledTransactionHashes {
             }
         )
     }
-}
 
-impl DecodePlaced for NewPooledTransactionHashes {
     fn put_path(alloc: Global, rlp: &Rlp<'_>, path: &mut Vec<usize>) -> Result<(), AllocError> {
         rlp::put_struct_path!(alloc, rlp, path, Vec<u8>, ListField<u64>, ListField<Hash>)
     }
-}
 
-impl RoundTrip for NewPooledTransactionHashes {
-    ghost round_trip = { new_pooled_transaction_hashes.reads_back };
-}
-
-impl StrictRead for NewPooledTransactionHashes {
-    ghost strict = { new_pooled_transaction_hashes.reads_strictly };
+    ghost lawful = { new_pooled_transaction_hashes.reads_strictly };
 }
 
 /// The blocks that a client has, message 0x11 of `eth/69`: the list of its three fields, as in
@@ -170,7 +144,7 @@ impl Encodable for BlockRangeUpdate {
     }
 }
 
-impl Decodable for BlockRangeUpdate {
+impl Record for BlockRangeUpdate {
     ghost reading = { block_range_update.reading };
 
     fn decode(alloc: Global, rlp: &Rlp<'_>) -> Result<BlockRangeUpdate, DecoderError> {
@@ -184,20 +158,12 @@ impl Decodable for BlockRangeUpdate {
             }
         )
     }
-}
 
-impl DecodePlaced for BlockRangeUpdate {
     fn put_path(alloc: Global, rlp: &Rlp<'_>, path: &mut Vec<usize>) -> Result<(), AllocError> {
         rlp::put_struct_path!(alloc, rlp, path, u64, u64, Hash)
     }
-}
 
-impl RoundTrip for BlockRangeUpdate {
-    ghost round_trip = { block_range_update.reads_back };
-}
-
-impl StrictRead for BlockRangeUpdate {
-    ghost strict = { block_range_update.reads_strictly };
+    ghost lawful = { block_range_update.reads_strictly };
 }
 
 /// A whole block that a client announces, message 0x07 of `eth`: the list of the two fields.
@@ -219,7 +185,7 @@ impl Encodable for NewBlock {
     }
 }
 
-impl Decodable for NewBlock {
+impl Record for NewBlock {
     ghost reading = { new_block.reading };
 
     fn decode(alloc: Global, rlp: &Rlp<'_>) -> Result<NewBlock, DecoderError> {
@@ -232,20 +198,12 @@ impl Decodable for NewBlock {
             }
         )
     }
-}
 
-impl DecodePlaced for NewBlock {
     fn put_path(alloc: Global, rlp: &Rlp<'_>, path: &mut Vec<usize>) -> Result<(), AllocError> {
         rlp::put_struct_path!(alloc, rlp, path, Block, Uint<32>)
     }
-}
 
-impl RoundTrip for NewBlock {
-    ghost round_trip = { new_block.reads_back };
-}
-
-impl StrictRead for NewBlock {
-    ghost strict = { new_block.reads_strictly };
+    ghost lawful = { new_block.reads_strictly };
 }
 
 /// Transactions that a client sends to other clients, message 0x02 of `eth`: the list of the
@@ -264,25 +222,16 @@ impl Encodable for Transactions {
     }
 }
 
-impl Decodable for Transactions {
+impl Record for Transactions {
     ghost reading = { transactions.reading };
 
     fn decode(alloc: Global, rlp: &Rlp<'_>) -> Result<Transactions, DecoderError> {
-        let transactions = rlp.as_list(alloc)?;
-        Ok(Transactions(transactions))
+        Ok(Transactions(rlp.as_list(alloc)?))
     }
-}
 
-impl DecodePlaced for Transactions {
     fn put_path(alloc: Global, rlp: &Rlp<'_>, path: &mut Vec<usize>) -> Result<(), AllocError> {
         put_list_path::<AnyTransaction>(alloc, rlp, path)
     }
-}
 
-impl RoundTrip for Transactions {
-    ghost round_trip = { transactions.reads_back };
-}
-
-impl StrictRead for Transactions {
-    ghost strict = { transactions.reads_strictly };
+    ghost lawful = { transactions.reads_strictly };
 }

@@ -2,9 +2,7 @@
 
 ghost use Rattle.rlp_messages.specs.Eth.Status.{fork_hash, fork_id, status68, status69};
 
-use rlp::{
-    Decodable, DecodePlaced, DecoderError, Encodable, Rlp, RlpStream, RoundTrip, StrictRead, Uint,
-};
+use rlp::{DecoderError, Encodable, Record, Rlp, RlpStream, Uint};
 use rlp_records::Hash;
 use std::alloc::{AllocError, Global};
 
@@ -25,27 +23,18 @@ impl Encodable for ForkHash {
 
 /// Read as an array of 4 bytes. Fails with `RlpIsTooShort` if the string is shorter, and with
 /// `RlpIsTooBig` if it is longer. It doesn't allocate.
-impl Decodable for ForkHash {
+impl Record for ForkHash {
     ghost reading = { fork_hash.reading };
 
     fn decode(alloc: Global, rlp: &Rlp<'_>) -> Result<ForkHash, DecoderError> {
-        let bytes = rlp.as_val(alloc)?;
-        Ok(ForkHash(bytes))
+        Ok(ForkHash(rlp.as_val(alloc)?))
     }
-}
 
-impl DecodePlaced for ForkHash {
     fn put_path(_alloc: Global, _rlp: &Rlp<'_>, _path: &mut Vec<usize>) -> Result<(), AllocError> {
         Ok(())
     }
-}
 
-impl RoundTrip for ForkHash {
-    ghost round_trip = { fork_hash.reads_back };
-}
-
-impl StrictRead for ForkHash {
-    ghost strict = { fork_hash.reads_strictly };
+    ghost lawful = { fork_hash.reads_strictly };
 }
 
 /// The forks that a client knows: the list of the two fields, as in EIP-2124.
@@ -67,7 +56,7 @@ impl Encodable for ForkId {
     }
 }
 
-impl Decodable for ForkId {
+impl Record for ForkId {
     ghost reading = { fork_id.reading };
 
     fn decode(alloc: Global, rlp: &Rlp<'_>) -> Result<ForkId, DecoderError> {
@@ -80,20 +69,12 @@ impl Decodable for ForkId {
             }
         )
     }
-}
 
-impl DecodePlaced for ForkId {
     fn put_path(alloc: Global, rlp: &Rlp<'_>, path: &mut Vec<usize>) -> Result<(), AllocError> {
         rlp::put_struct_path!(alloc, rlp, path, ForkHash, u64)
     }
-}
 
-impl RoundTrip for ForkId {
-    ghost round_trip = { fork_id.reads_back };
-}
-
-impl StrictRead for ForkId {
-    ghost strict = { fork_id.reads_strictly };
+    ghost lawful = { fork_id.reads_strictly };
 }
 
 /// The first message of `eth/68`, 0x00: the list of its six fields.
@@ -131,7 +112,7 @@ impl Encodable for Status68 {
     }
 }
 
-impl Decodable for Status68 {
+impl Record for Status68 {
     ghost reading = { status68.reading };
 
     fn decode(alloc: Global, rlp: &Rlp<'_>) -> Result<Status68, DecoderError> {
@@ -148,20 +129,12 @@ impl Decodable for Status68 {
             }
         )
     }
-}
 
-impl DecodePlaced for Status68 {
     fn put_path(alloc: Global, rlp: &Rlp<'_>, path: &mut Vec<usize>) -> Result<(), AllocError> {
         rlp::put_struct_path!(alloc, rlp, path, u64, u64, Uint<32>, Hash, Hash, ForkId)
     }
-}
 
-impl RoundTrip for Status68 {
-    ghost round_trip = { status68.reads_back };
-}
-
-impl StrictRead for Status68 {
-    ghost strict = { status68.reads_strictly };
+    ghost lawful = { status68.reads_strictly };
 }
 
 /// The first message of `eth/69`, 0x00: the list of its seven fields, as in EIP-7642.
@@ -202,7 +175,7 @@ impl Encodable for Status69 {
     }
 }
 
-impl Decodable for Status69 {
+impl Record for Status69 {
     ghost reading = { status69.reading };
 
     fn decode(alloc: Global, rlp: &Rlp<'_>) -> Result<Status69, DecoderError> {
@@ -220,18 +193,10 @@ impl Decodable for Status69 {
             }
         )
     }
-}
 
-impl DecodePlaced for Status69 {
     fn put_path(alloc: Global, rlp: &Rlp<'_>, path: &mut Vec<usize>) -> Result<(), AllocError> {
         rlp::put_struct_path!(alloc, rlp, path, u64, u64, Hash, ForkId, u64, u64, Hash)
     }
-}
 
-impl RoundTrip for Status69 {
-    ghost round_trip = { status69.reads_back };
-}
-
-impl StrictRead for Status69 {
-    ghost strict = { status69.reads_strictly };
+    ghost lawful = { status69.reads_strictly };
 }

@@ -3,9 +3,7 @@
 ghost use Rattle.std.specs.Prelude.{◌≡◌};
 ghost use Rattle.rlp_messages.specs.P2p.Disconnect.{NamedIfPossible, disconnect, reason, reason_number, told_reason};
 
-use rlp::{
-    Decodable, DecodePlaced, DecoderError, Encodable, Rlp, RlpStream, RoundTrip, StrictRead,
-};
+use rlp::{DecoderError, Encodable, Record, Rlp, RlpStream};
 use std::alloc::{AllocError, Global};
 
 /// Why a client ends a connection: a number of one byte. The variants are the names of the numbers
@@ -101,27 +99,18 @@ impl Encodable for DisconnectReason {
 }
 
 /// Read as a number of one byte. It doesn't allocate.
-impl Decodable for DisconnectReason {
+impl Record for DisconnectReason {
     ghost reading = { reason.reading };
 
     fn decode(alloc: Global, rlp: &Rlp<'_>) -> Result<DisconnectReason, DecoderError> {
-        let number = rlp.as_val(alloc)?;
-        Ok(DisconnectReason::of(number))
+        Ok(DisconnectReason::of(rlp.as_val(alloc)?))
     }
-}
 
-impl DecodePlaced for DisconnectReason {
     fn put_path(_alloc: Global, _rlp: &Rlp<'_>, _path: &mut Vec<usize>) -> Result<(), AllocError> {
         Ok(())
     }
-}
 
-impl RoundTrip for DisconnectReason {
-    ghost round_trip = { reason.reads_back };
-}
-
-impl StrictRead for DisconnectReason {
-    ghost strict = { reason.reads_strictly };
+    ghost lawful = { reason.reads_strictly };
 }
 
 /// The last message of a connection, 0x01 of `p2p`, in one of two forms.
@@ -165,7 +154,7 @@ impl Encodable for Disconnect {
 }
 
 /// Reading a list fails as reading a struct of one field does, and else as reading a number does.
-impl Decodable for Disconnect {
+impl Record for Disconnect {
     ghost reading = { disconnect.reading };
 
     fn decode(alloc: Global, rlp: &Rlp<'_>) -> Result<Disconnect, DecoderError> {
@@ -179,24 +168,15 @@ impl Decodable for Disconnect {
                 Err(fault) => Err(fault.fault),
             };
         }
-        let reason = rlp.as_val(alloc)?;
-        Ok(Disconnect::Bare(reason))
+        Ok(Disconnect::Bare(rlp.as_val(alloc)?))
     }
-}
 
-impl DecodePlaced for Disconnect {
     fn put_path(alloc: Global, rlp: &Rlp<'_>, path: &mut Vec<usize>) -> Result<(), AllocError> {
         if rlp.is_list() {
             return rlp::put_struct_path!(alloc, rlp, path, DisconnectReason);
         }
         DisconnectReason::put_path(alloc, rlp, path)
     }
-}
 
-impl RoundTrip for Disconnect {
-    ghost round_trip = { disconnect.reads_back };
-}
-
-impl StrictRead for Disconnect {
-    ghost strict = { disconnect.reads_strictly };
+    ghost lawful = { disconnect.reads_strictly };
 }

@@ -4,9 +4,8 @@ ghost use Rattle.std.specs.Prelude.{refl};
 ghost use Rattle.rlp_messages.specs.P2p.Hello.{node_id, capability, further_fields, hello};
 
 use rlp::{
-    AppendFields, CountedFields, Decodable, DecodeFields, DecodeFieldsPlaced, DecodePlaced,
-    DecoderError, Encodable, Fields, FixedFields, Flattened, Groups, ListField, ListOf, RawItem,
-    Rlp, RlpStream, RoundTrip, StrictRead,
+    AppendFields, CountedFields, DecodeFields, DecodeFieldsPlaced, DecoderError, Encodable, Fields,
+    FixedFields, Flattened, Groups, ListField, ListOf, RawItem, Record, Rlp, RlpStream,
 };
 use std::alloc::{AllocError, Global};
 
@@ -27,27 +26,18 @@ impl Encodable for NodeId {
 
 /// Read as an array of 64 bytes. Fails with `RlpIsTooShort` if the string is shorter, and with
 /// `RlpIsTooBig` if it is longer. It doesn't allocate.
-impl Decodable for NodeId {
+impl Record for NodeId {
     ghost reading = { node_id.reading };
 
     fn decode(alloc: Global, rlp: &Rlp<'_>) -> Result<NodeId, DecoderError> {
-        let bytes = rlp.as_val(alloc)?;
-        Ok(NodeId(bytes))
+        Ok(NodeId(rlp.as_val(alloc)?))
     }
-}
 
-impl DecodePlaced for NodeId {
     fn put_path(_alloc: Global, _rlp: &Rlp<'_>, _path: &mut Vec<usize>) -> Result<(), AllocError> {
         Ok(())
     }
-}
 
-impl RoundTrip for NodeId {
-    ghost round_trip = { node_id.reads_back };
-}
-
-impl StrictRead for NodeId {
-    ghost strict = { node_id.reads_strictly };
+    ghost lawful = { node_id.reads_strictly };
 }
 
 /// A protocol that a client speaks, and its version: the list of the two fields.
@@ -70,26 +60,18 @@ impl Encodable for Capability {
     }
 }
 
-impl Decodable for Capability {
+impl Record for Capability {
     ghost reading = { capability.reading };
 
     fn decode(alloc: Global, rlp: &Rlp<'_>) -> Result<Capability, DecoderError> {
         rlp::decode_fields!(alloc, rlp, Capability { name, version })
     }
-}
 
-impl DecodePlaced for Capability {
     fn put_path(alloc: Global, rlp: &Rlp<'_>, path: &mut Vec<usize>) -> Result<(), AllocError> {
         rlp::put_struct_path!(alloc, rlp, path, Vec<u8>, u64)
     }
-}
 
-impl RoundTrip for Capability {
-    ghost round_trip = { capability.reads_back };
-}
-
-impl StrictRead for Capability {
-    ghost strict = { capability.reads_strictly };
+    ghost lawful = { capability.reads_strictly };
 }
 
 /// An item of a greeting after its five fields.
@@ -186,7 +168,7 @@ impl Encodable for Hello {
     }
 }
 
-impl Decodable for Hello {
+impl Record for Hello {
     ghost reading = { hello.reading };
 
     fn decode(alloc: Global, rlp: &Rlp<'_>) -> Result<Hello, DecoderError> {
@@ -203,20 +185,12 @@ impl Decodable for Hello {
             }
         )
     }
-}
 
-impl DecodePlaced for Hello {
     fn put_path(alloc: Global, rlp: &Rlp<'_>, path: &mut Vec<usize>) -> Result<(), AllocError> {
         rlp::put_struct_path!(
             alloc, rlp, path, u64, Vec<u8>, ListField<Capability>, u64, NodeId; Groups<FurtherItem>
         )
     }
-}
 
-impl RoundTrip for Hello {
-    ghost round_trip = { hello.reads_back };
-}
-
-impl StrictRead for Hello {
-    ghost strict = { hello.reads_strictly };
+    ghost lawful = { hello.reads_strictly };
 }

@@ -1,9 +1,9 @@
-//! Messages of the capability `p2p` of RLPx, with their ids.
+//! Messages of the capability `p2p` of RLPx, with their ids, and the messages that keep a connection.
 
-ghost use Rattle.rlp_messages.specs.P2p.P2pMessage.{p2p};
+ghost use Rattle.rlp_messages.specs.P2p.P2pMessage.{p2p, ping, pong};
 
-use crate::{Disconnect, Hello, Message, Numbered, Ping, Pong};
-use rlp::{DecoderError, Encodable, RlpStream};
+use crate::{Disconnect, Hello, Message, Numbered};
+use rlp::{DecoderError, Encodable, Record, Rlp, RlpStream};
 use std::alloc::{AllocError, Global};
 
 /// A message of `p2p`. RLPx gives this capability the offset 0.
@@ -55,4 +55,70 @@ impl Message for P2pMessage {
             0x03 => P2pMessage::Pong,
         )
     }
+}
+
+/// Asks for a [`Pong`], message 0x02 of `p2p`: the list of no items.
+#[derive(Debug, Clone, Copy, PartialEq, Eq)]
+pub struct Ping;
+
+impl Encodable for Ping {
+    ghost item = { ping.item };
+
+    ghost fits = { ping.Fits };
+
+    #[tactic(auto, using(rlp::proofs::Writing::writing))]
+    fn rlp_append(&self, s: &mut RlpStream) -> Result<(), AllocError> {
+        s.begin_list(0)?;
+        Ok(())
+    }
+}
+
+impl Record for Ping {
+    ghost reading = { ping.reading };
+
+    fn decode(alloc: Global, rlp: &Rlp<'_>) -> Result<Ping, DecoderError> {
+        match rlp::decode_struct(alloc, rlp) {
+            Ok(()) => Ok(Ping),
+            Err(fault) => Err(fault.fault),
+        }
+    }
+
+    fn put_path(alloc: Global, rlp: &Rlp<'_>, path: &mut Vec<usize>) -> Result<(), AllocError> {
+        rlp::put_path_of::<()>(alloc, rlp, path)
+    }
+
+    ghost lawful = { ping.reads_strictly };
+}
+
+/// The answer to a [`Ping`], message 0x03 of `p2p`: the list of no items.
+#[derive(Debug, Clone, Copy, PartialEq, Eq)]
+pub struct Pong;
+
+impl Encodable for Pong {
+    ghost item = { pong.item };
+
+    ghost fits = { pong.Fits };
+
+    #[tactic(auto, using(rlp::proofs::Writing::writing))]
+    fn rlp_append(&self, s: &mut RlpStream) -> Result<(), AllocError> {
+        s.begin_list(0)?;
+        Ok(())
+    }
+}
+
+impl Record for Pong {
+    ghost reading = { pong.reading };
+
+    fn decode(alloc: Global, rlp: &Rlp<'_>) -> Result<Pong, DecoderError> {
+        match rlp::decode_struct(alloc, rlp) {
+            Ok(()) => Ok(Pong),
+            Err(fault) => Err(fault.fault),
+        }
+    }
+
+    fn put_path(alloc: Global, rlp: &Rlp<'_>, path: &mut Vec<usize>) -> Result<(), AllocError> {
+        rlp::put_path_of::<()>(alloc, rlp, path)
+    }
+
+    ghost lawful = { pong.reads_strictly };
 }

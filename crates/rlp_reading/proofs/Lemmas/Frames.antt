@@ -197,10 +197,6 @@ stopped_split fs x a stop = record {
       (cuts_agree fs gs x b.begins.0 a each b.begins.1);
 }
 
--- no bytes are not framed
-pub nil_unframed : ¬ IsFramed []
-nil_unframed is = omega (arith, header_some is.has_header, is.within)
-
 -- ---- what `frame` gives
 
 shorter : {b : List ℕ} {h n : ℕ} → HasHeader b h n → h + n ≤ length b → HasHeader (take (h + n) b) h n
@@ -272,7 +268,7 @@ walk_by turns p (Ok f) l (item, whole) again =
 
 -- a split of as many turns as bytes finds all
 pub walk : (turns : ℕ) (p : List ℕ) → AreBytes p → length p ≤ turns → Walk p (split_within turns p)
-walk zero p bytes l = record { left = p; is = refl; each = tt; stopped = subst (λ s. ¬ IsFramed s) (sym (nil_from_length p (omega arith))) nil_unframed }
+walk zero p bytes l = record { left = p; is = refl; each = tt; stopped = subst (λ s. ¬ IsFramed s) (sym (nil_from_length p (omega arith))) (λ is. omega (arith, header_some is.has_header, is.within)) }
 walk (suc turns) p bytes l =
     walk_by turns p (frame p) l (frame_reads p bytes)
     (λ q short f e. walk turns q (All-same (λ byte. byte < 2 ^ 8) q (drop (length f) p) (sym (ap (drop (length f)) e ∙ drop_at f q (length f) refl))
@@ -377,13 +373,9 @@ fault_by b (Ok p) has un =
     (λ e. absurd (un (record { header_len = p.header_len; value_len = p.value_len; has_header = has; within = leb-true _ _ e })))
     (λ e. (cut_short p.header_len p.value_len has (leb-false _ _ e), refl))
 
-fault_framing : (b : List ℕ) → AreBytes b → ¬ IsFramed b → Faulty b (framing b)
-unfolding framing
-fault_framing b bytes un = fault_by b (header b) (header_reads b bytes) un
-
 -- `fault` is the fault of bytes that aren't framed
 pub fault_reads : (b : List ℕ) → AreBytes b → ¬ IsFramed b → IsFault b (fault b) × (frame b ≡ Err (fault b)) × (value b ≡ Err (fault b))
-unfolding fault frame value
+unfolding fault frame value framing
 fault_reads b bytes un =
-    let f = fault_framing b bytes un in
+    let f = fault_by b (header b) (header_reads b bytes) un in
     (f.0, ap (map_ok (λ p. take (total_len p) b)) f.1, ap (map_ok (λ p. take p.value_len (drop p.header_len b))) f.1)

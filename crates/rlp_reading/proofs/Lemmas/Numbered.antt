@@ -1,49 +1,103 @@
--- The items of a view by number.
-use Rattle.std.proofs.Common.{ℕ, ◌<◌, ◌≤◌, ◌≡◌, ◌⊎◌, inl, inr, ⊎_elim, Bool, true, false, List, [], ◌∷◌, ◌++◌, length, map, take, drop, get_or, Option}
-use Rattle.std.proofs.Common.{Some, None, option_map, Result, Ok, Err, ◌↔◌, refl, sym, ◌∙◌, ap, arith, ltb, lt-ltb, le-ltb}
-use Rattle.std.proofs.{lemmas.Bool.{cases_Bool, cases_lt, cond-true, cond-false}, lemmas.List.length-map}
-use Rattle.std.proofs.{lemmas.Option.{slice_get-map, slice_get_past, slice_get-get_or}, lemmas.Simd.map-map}
-use Rattle.std.specs.List.{slice_get}
-use Rattle.rlp_reading.specs.{declared.error.DecoderError.DecoderError, declared.error.DecoderError.TheVariants.RlpExpectedToBeList}
-use Rattle.rlp_reading.specs.declared.header.PayloadInfo.{PayloadInfo}
-use Rattle.rlp_reading.specs.Format.Framing.{fault, framing, map_ok, value, begins_as_list, items, payload, payload_in, rest, split}
-use Rattle.rlp_reading.specs.Views.View.{View, view_of, item_views, item_count, item_with_place, item_by, item_at, list_fault, items_fault}
-use Rattle.rlp_reading.specs.Format.Framing.{fault_of_some, first_fault, strict_fault, strict_list_fault, unless}
-use Rattle.rlp_format.specs.Format.Encoding.{Item, list_of, BeginsWith, encoding, IsSized}
-use Rattle.rlp_reading.proofs.Lemmas.Views.{items_of_list, list_shape}
+-- The items of a view, one after another and by number.
+use Rattle.std.proofs.Common.{if◌then◌else◌, ℕ, zero, suc, ◌+◌, ◌-◌, ◌<◌, ◌≤◌, ◌≡◌, List, [], ◌∷◌, length, drop, map, Result, Ok, Err, refl, sym, ◌∙◌, ap, arith}
+use Rattle.std.proofs.Common.{length-drop, add-one, ◌⊎◌, inl, inr, ⊎_elim, Bool, true, false, ◌++◌, take, get_or, Option, Some, None, option_map, ◌↔◌, ltb}
+use Rattle.std.proofs.Common.{lt-ltb, le-ltb, length-append, ◌==◌, IfOk, MatchResult, append_assoc, append-nil, drop_at}
+use Rattle.std.proofs.{lemmas.List.{drop_all, drop-map, length-map}, lemmas.Bool.{cases_Bool, cases_lt, cond-true, cond-false}}
+use Rattle.std.proofs.{lemmas.Option.{slice_get-map, slice_get_past, slice_get-get_or}, lemmas.Bool.Decides.nat_tests}
+use Rattle.std.specs.List.{slice_get, concat}
+use Rattle.rlp_reading.specs.declared.error.DecoderError.{DecoderError}
+use Rattle.rlp_reading.specs.Format.Framing.{frame, split, split_within, frame_and_more, items, payload, fault, framing, map_ok, value, begins_as_list}
+use Rattle.rlp_reading.specs.Format.Framing.{payload_in, rest, fault_of_some, first_fault, strict_fault, strict_list_fault, unless, after_items, fault_in}
+use Rattle.rlp_reading.specs.Views.View.{View, item_views, view_of, item_count, item_with_place, item_by, item_at, list_fault, items_fault, strict_view_of}
+use Rattle.rlp_reading.specs.{declared.error.DecoderError.TheVariants.RlpExpectedToBeList, declared.header.PayloadInfo.PayloadInfo, Values.FieldPlace.IsAtPlace}
+use Rattle.rlp_reading.proofs.Lemmas.Views.{passed}
+use Rattle.std.proofs.{Common.take_all, Math.Seq.{drop-append-add, drop-nil, take-suc}, lemmas.List.{Folds.concat-append, drop-drop}}
 
--- ---- a view whose items are asked for by number is a framed list
+frame_and_more-shorter : (turns : ℕ) (p : List ℕ) (r : Result (List ℕ) DecoderError) → ((q : List ℕ) → length (split_within turns q) ≤ turns)
+    → length (frame_and_more (split_within turns) p r) ≤ suc turns
+frame_and_more-shorter turns p (Err e) below = omega arith
+frame_and_more-shorter turns p (Ok f) below = omega (arith, below (drop (length f) p))
 
-split_nothing : split [] ≡ []
+split_within-shorter : (turns : ℕ) (p : List ℕ) → length (split_within turns p) ≤ turns
+split_within-shorter zero p = omega arith
+split_within-shorter (suc turns) p = frame_and_more-shorter turns p (frame p) (split_within-shorter turns)
+
+-- no more items than bytes
+pub length-split : (p : List ℕ) → length (split p) ≤ length p
 unfolding split
-split_nothing = refl
+length-split p = split_within-shorter (length p) p
+
+-- an empty slice has no items
+pub split-nil : split [] ≡ []
+unfolding split
+split-nil = refl
+
+module _ {A : Type 0} where
+  -- the elements after place i + 1, by those after place i
+  pub drop-next : (i : ℕ) (xs ys : List A) (x : A) → drop i xs ≡ x ∷ ys → drop (i + 1) xs ≡ ys
+  drop-next i xs ys x e = sym (drop-drop 1 i xs) ∙ ap (drop 1) e
+
+  -- after the end there are no elements
+  pub drop-past : (i j : ℕ) (xs : List A) → drop i xs ≡ [] → i ≤ j → drop j xs ≡ []
+  drop-past i j xs e h = drop_all j xs (let n : length xs - i ≡ 0 = sym (length-drop i xs) ∙ ap length e in omega arith)
+
+  -- a place that an element follows is within the list
+  pub drop-inside : (i : ℕ) (xs ys : List A) (x : A) → drop i xs ≡ x ∷ ys → i < length xs
+  drop-inside i xs ys x e = let n : length xs - i ≡ length (x ∷ ys) = sym (length-drop i xs) ∙ ap length e in omega arith
+
+-- the view of these bytes, of the kind of v
+viewed : View → List ℕ → View
+viewed v b = record v { bytes = b }
+
+-- the views of the items from place i on, by the items
+pub drop-item_views : (v : View) (x : List ℕ) (i : ℕ) (ys : List (List ℕ)) → drop i (items v.bytes) ≡ x ∷ ys
+    → drop i (item_views v) ≡ (record v { bytes = x }) ∷ drop (i + 1) (item_views v)
+unfolding viewed
+drop-item_views v x i ys e =
+    let here : drop i (item_views v) ≡ (viewed v x) ∷ map (viewed v) ys = drop-map (viewed v) i (items v.bytes) ∙ ap (map (viewed v)) e in
+    here ∙ ap (λ vs. (viewed v x) ∷ vs) (sym (drop-next i (item_views v) (map (viewed v) ys) (viewed v x) here))
+
+-- after the last item there is no view
+pub drop-item_views-past : (v : View) (i j : ℕ) → drop i (items v.bytes) ≡ [] → i ≤ j → drop j (item_views v) ≡ []
+unfolding viewed
+drop-item_views-past v i j e h = drop-past i j (item_views v) (drop-map (viewed v) i (items v.bytes) ∙ ap (map (viewed v)) e) h
+
+-- the number of views is the number of items
+pub length-item_views : (v : View) → length (item_views v) ≡ length (split (payload v.bytes))
+unfolding viewed items
+length-item_views v = length-map (items v.bytes) (viewed v)
+
+pub ruleset splits = (
+  split-nil,
+  drop-next,
+  drop-past,
+  drop-inside,
+  length-split,
+  drop-item_views,
+  drop-item_views-past,
+  length-item_views,
+  length-map,
+  length-drop,
+)
 
 -- ---- answers, by the fault of numbers
 
-unless-none : {A : Type 0} (o : Option DecoderError) (r : Result A DecoderError) → o ≡ None → unless o r ≡ r
-unless-none None r is = refl
-unless-none (Some e) r is = absurd (let no : ⊥ = cc in no)
-
-unless-some : {A : Type 0} (o : Option DecoderError) (r : Result A DecoderError) (e : DecoderError) → o ≡ Some e → unless o r ≡ Err e
-unless-some None r e is = absurd (let no : ⊥ = cc in no)
-unless-some (Some f) r e is = cc
-
 pub item_count-fault : (v : View) (e : DecoderError) → items_fault v ≡ Some e → item_count v ≡ Err e
 unfolding item_count
-item_count-fault v e is = unless-some (items_fault v) (Ok (length (items v.bytes))) e is
+item_count-fault v e is = ap (λ o. unless o (Ok (length (items v.bytes)))) is
 
 pub item_count-told : (v : View) → items_fault v ≡ None → item_count v ≡ Ok (length (items v.bytes))
 unfolding item_count
-item_count-told v is = unless-none (items_fault v) (Ok (length (items v.bytes))) is
+item_count-told v is = ap (λ o. unless o (Ok (length (items v.bytes)))) is
 
 pub item_with_place-fault : (v : View) (i : ℕ) (e : DecoderError) → items_fault v ≡ Some e → item_with_place v i ≡ Err e
 unfolding item_with_place
-item_with_place-fault v i e is = unless-some (items_fault v) (item_by v i (framing v.bytes)) e is
+item_with_place-fault v i e is = ap (λ o. unless o (item_by v i (framing v.bytes))) is
 
 pub item_with_place-told : (v : View) (i : ℕ) (r : Result PayloadInfo DecoderError) → items_fault v ≡ None → framing v.bytes ≡ r
     → item_with_place v i ≡ item_by v i r
 unfolding item_with_place
-item_with_place-told v i r is same = unless-none (items_fault v) (item_by v i (framing v.bytes)) is ∙ ap (item_by v i) same
+item_with_place-told v i r is same = ap (λ o. unless o (item_by v i (framing v.bytes))) is ∙ ap (item_by v i) same
 
 pub fault_cases : (o r : Option DecoderError) → o ≡ r → (o ≡ None) ⊎ ((e : DecoderError) × (o ≡ Some e))
 fault_cases o None is = inl is
@@ -51,10 +105,7 @@ fault_cases o (Some e) is = inr (e, is)
 
 -- items are told by number only of bytes that begin as a list
 pub told_begins : (v : View) → items_fault v ≡ None → begins_as_list v.bytes ≡ true
-told_begins v is = ⊎_elim (λ kind. kind)
-    (λ kind. let no : Some RlpExpectedToBeList ≡ None = sym (cond-false (begins_as_list v.bytes) (list_fault v) (Some RlpExpectedToBeList) kind)
-    ∙ is in absurd (let none : ⊥ = cc in none))
-    (cases_Bool (begins_as_list v.bytes))
+told_begins v is = (passed (begins_as_list v.bytes) (list_fault v) RlpExpectedToBeList is).0
 
 -- they are told of lenient views that begin as a list
 pub lenient_told : (b : List ℕ) → begins_as_list b ≡ true → items_fault (view_of b) ≡ None
@@ -67,16 +118,11 @@ payload-fault b e kind is = ap (λ k. payload_in k (value b)) kind ∙ ap (λ r.
 
 items-payload : (b : List ℕ) → payload b ≡ [] → items b ≡ []
 unfolding items
-items-payload b e = ap split e ∙ split_nothing
+items-payload b e = ap split e ∙ split-nil
 
 payload-string : (b : List ℕ) → begins_as_list b ≡ false → payload b ≡ []
 unfolding payload
 payload-string b kind = ap (λ k. payload_in k (value b)) kind
-
-framing_cases : (b : List ℕ) (r : Result PayloadInfo DecoderError) → framing b ≡ r → ((p : PayloadInfo) × (framing b ≡ Ok p))
-    ⊎ ((e : DecoderError) × (framing b ≡ Err e))
-framing_cases b (Ok p) is = inl (p, is)
-framing_cases b (Err e) is = inr (e, is)
 
 item_at-inside : (v : View) (i : ℕ) (p : PayloadInfo) → items_fault v ≡ None → framing v.bytes ≡ Ok p → i < length (items v.bytes)
     → item_at v i ≡ Ok (record v { bytes = get_or (items v.bytes) i [] })
@@ -93,36 +139,8 @@ item_at-past v i p told is past =
 pub item_at-unframed : (v : View) (i : ℕ) (e : DecoderError) → items_fault v ≡ None → framing v.bytes ≡ Err e → item_at v i ≡ Err e
 item_at-unframed v i e told is = ap (map_ok (λ q. q.0)) (item_with_place-told v i (Err e) told is)
 
--- What `item_at i` returns: item i, or for an i past the last item the fault of what follows the items, or for every i the fault of the list.
-pub data Numbered (v : View) (i : ℕ) : Type 0 where
-  item_there : items_fault v ≡ None → i < length (items v.bytes) → item_at v i ≡ Ok (record v { bytes = get_or (items v.bytes) i [] }) → Numbered v i
-  no_item : (e : DecoderError) → items_fault v ≡ None → length (items v.bytes) ≤ i → item_at v i ≡ Err e
-      → ((j : ℕ) → length (items v.bytes) ≤ j → item_at v j ≡ Err e) → Numbered v i
-  not_told : (e : DecoderError) → items_fault v ≡ Some e → ((j : ℕ) → item_at v j ≡ Err e) → Numbered v i
-
-none_left : (v : View) (i : ℕ) → items v.bytes ≡ [] → length (items v.bytes) ≤ i
-none_left v i e = omega (arith, ap length e)
-
-told_numbered : (v : View) (i : ℕ) → items_fault v ≡ None → Numbered v i
-told_numbered v i told =
-    ⊎_elim
-    (λ (p, is). ⊎_elim
-    (λ inside. item_there told inside (item_at-inside v i p told is inside))
-    (λ past. no_item (fault (rest v.bytes)) told past (item_at-past v i p told is past) (λ j l. item_at-past v j p told is l))
-    (cases_lt i (length (items v.bytes))))
-    (λ (e, is). no_item e told (none_left v i (items-payload v.bytes (payload-fault v.bytes e (told_begins v told) is)))
-    (item_at-unframed v i e told is) (λ j l. item_at-unframed v j e told is))
-    (framing_cases v.bytes (framing v.bytes) refl)
-
-pub numbered : (v : View) (i : ℕ) → Numbered v i
-numbered v i =
-    ⊎_elim
-    (λ told. told_numbered v i told)
-    (λ (e, is). not_told e is (λ j. ap (map_ok (λ q. q.0)) (item_with_place-fault v j e is)))
-    (fault_cases (items_fault v) (items_fault v) refl)
-
-viewed : (v : View) → List ℕ → View
-viewed v b = record v { bytes = b }
+pub item_at-fault : (v : View) (i : ℕ) (e : DecoderError) → items_fault v ≡ Some e → item_at v i ≡ Err e
+item_at-fault v i e is = ap (map_ok (λ q. q.0)) (item_with_place-fault v i e is)
 
 slice_get-views : (v : View) (i : ℕ) → i < length (items v.bytes) → slice_get (item_views v) i ≡ Some (record v { bytes = get_or (items v.bytes) i [] })
 unfolding viewed
@@ -133,50 +151,71 @@ pub length-views : (v : View) → length (item_views v) ≡ length (items v.byte
 unfolding viewed
 length-views v = length-map (items v.bytes) (viewed v)
 
-there_by : (v item : View) (i : ℕ) → Numbered v i → item_at v i ≡ Ok item → slice_get (item_views v) i ≡ Some item
-there_by v item i (item_there told inside is) e =
-    let got = slice_get-views v i inside in let same : record v { bytes = get_or (items v.bytes) i [] } ≡ item = cc in got ∙ ap Some same
-there_by v item i (no_item fault told past is others) e = absurd (let no : ⊥ = cc in no)
-there_by v item i (not_told fault none all) e = let is : item_at v i ≡ Err fault = all i in absurd (let no : ⊥ = cc in no)
+-- the fault of each number past the last item: that of what follows the items, or of a list that isn't framed
+abbrev past_fault : List ℕ → Result PayloadInfo DecoderError → DecoderError
+past_fault b (Ok p) = fault (rest b)
+past_fault b (Err e) = e
+
+abbrev item_or : DecoderError → Option View → Result View DecoderError
+item_or e None = Err e
+item_or e (Some item) = Ok item
+
+told_by : (v : View) (i : ℕ) (r : Result PayloadInfo DecoderError) → items_fault v ≡ None → framing v.bytes ≡ r
+    → item_at v i ≡ item_or (past_fault v.bytes r) (slice_get (item_views v) i)
+told_by v i (Ok p) told is =
+    ⊎_elim
+    (λ inside. item_at-inside v i p told is inside ∙ ap (item_or (fault (rest v.bytes))) (sym (slice_get-views v i inside)))
+    (λ past. item_at-past v i p told is past
+    ∙ ap (item_or (fault (rest v.bytes))) (sym (slice_get_past (item_views v) i (omega (arith, length-views v)))))
+    (cases_lt i (length (items v.bytes)))
+told_by v i (Err e) told is =
+    let none = items-payload v.bytes (payload-fault v.bytes e (told_begins v told) is) in
+    item_at-unframed v i e told is ∙ ap (item_or e) (sym (slice_get_past (item_views v) i (omega (arith, length-views v, ap length none))))
+
+-- the item by number is the one in that place, or the fault of the numbers past the last item
+told_numbered : (v : View) (i : ℕ) → items_fault v ≡ None → item_at v i ≡ item_or (past_fault v.bytes (framing v.bytes)) (slice_get (item_views v) i)
+told_numbered v i told = told_by v i (framing v.bytes) told refl
+
+item_or_some : (e : DecoderError) (o : Option View) (item : View) → item_or e o ≡ Ok item → o ≡ Some item
+item_or_some e None item is = absurd (let no : ⊥ = cc in no)
+item_or_some e (Some x) item is = let same : x ≡ item = cc in ap Some same
 
 -- the item by number is the one in that place
 pub item_at-slice_get : (v item : View) (i : ℕ) → item_at v i ≡ Ok item → slice_get (item_views v) i ≡ Some item
-item_at-slice_get v item i e = there_by v item i (numbered v i) e
-
-slice_by : (v item : View) (i : ℕ) → items_fault v ≡ None → Numbered v i → slice_get (item_views v) i ≡ Some item → item_at v i ≡ Ok item
-slice_by v item i told (item_there told' inside is) e =
-    let got = slice_get-views v i inside in let same : record v { bytes = get_or (items v.bytes) i [] } ≡ item = cc in is ∙ ap Ok same
-slice_by v item i told (no_item fault told' past is others) e =
-    let none : slice_get (item_views v) i ≡ None = slice_get_past (item_views v) i (omega (arith, length-views v)) in absurd (let no : ⊥ = cc in no)
-slice_by v item i told (not_told fault none all) e = absurd (let no : ⊥ = cc in no)
+item_at-slice_get v item i e =
+    ⊎_elim
+    (λ told. item_or_some (past_fault v.bytes (framing v.bytes)) (slice_get (item_views v) i) item (sym (told_numbered v i told) ∙ e))
+    (λ (f, is). let no : item_at v i ≡ Err f = item_at-fault v i f is in absurd (let never : ⊥ = cc in never))
+    (fault_cases (items_fault v) (items_fault v) refl)
 
 -- the one in a place is the item by that number, where items are told by number
 pub slice_get-item_at : (v item : View) (i : ℕ) → items_fault v ≡ None → slice_get (item_views v) i ≡ Some item → item_at v i ≡ Ok item
-slice_get-item_at v item i told e = slice_by v item i told (numbered v i) e
-
-some_left : (b : List ℕ) (f : List ℕ) (fs : List (List ℕ)) → items b ≡ f ∷ fs → begins_as_list b ≡ true
-some_left b f fs is = ⊎_elim (λ kind. kind)
-    (λ kind. let none : items b ≡ [] = items-payload b (payload-string b kind) in absurd (let no : ⊥ = cc in no)) (cases_Bool (begins_as_list b))
+slice_get-item_at v item i told e = told_numbered v i told ∙ ap (item_or (past_fault v.bytes (framing v.bytes))) e
 
 begins_some : (v : View) (fs : List (List ℕ)) (i : ℕ) (item : View) → items v.bytes ≡ fs → slice_get (map (viewed v) fs) i ≡ Some item
     → begins_as_list v.bytes ≡ true
 begins_some v [] i item is e = absurd (let no : ⊥ = cc in no)
-begins_some v (f ∷ fs) i item is e = some_left v.bytes f fs is
+begins_some v (f ∷ fs) i item is e = ⊎_elim (λ kind. kind)
+    (λ kind. let none : items v.bytes ≡ [] = items-payload v.bytes (payload-string v.bytes kind) in absurd (let no : ⊥ = cc in no))
+    (cases_Bool (begins_as_list v.bytes))
+
+twice : {A : Type 0} (k : Bool) (x y : A) → (if k then (if k then x else y) else y) ≡ (if k then x else y)
+twice true x y = refl
+twice false x y = refl
+
+-- a strict view has the fault of its bytes
+items_fault-strict : (b : List ℕ) → items_fault (strict_view_of b) ≡ strict_list_fault b
+unfolding strict_list_fault
+items_fault-strict b = twice (begins_as_list b) (first_fault (strict_fault b) (fault_of_some (rest b))) (Some RlpExpectedToBeList)
 
 fault_by : (strict : Bool) (b : List ℕ) (e : DecoderError) → list_fault (record { bytes = b; is_strict = strict }) ≡ Some e
     → items_fault (record { bytes = b; is_strict = strict }) ≡ Some e
-unfolding strict_list_fault
 fault_by false b e is = absurd (let no : ⊥ = cc in no)
-fault_by true b e is =
-    ⊎_elim
-    (λ kind. cond-true (begins_as_list b) (strict_list_fault b) (Some RlpExpectedToBeList) kind ∙ is)
-    (λ kind. cond-false (begins_as_list b) (strict_list_fault b) (Some RlpExpectedToBeList) kind
-    ∙ sym (cond-false (begins_as_list b) (first_fault (strict_fault b) (fault_of_some (rest b))) (Some RlpExpectedToBeList) kind) ∙ is)
-    (cases_Bool (begins_as_list b))
+fault_by true b e is = items_fault-strict b ∙ is
 
 -- a view that can't be read as a list has that fault for every number
 pub item_at-no_list : (v : View) (i : ℕ) (e : DecoderError) → list_fault v ≡ Some e → item_at v i ≡ Err e
-item_at-no_list v i e is = ap (map_ok (λ q. q.0)) (item_with_place-fault v i e (fault_by v.is_strict v.bytes e is))
+item_at-no_list v i e is = item_at-fault v i e (fault_by v.is_strict v.bytes e is)
 
 read_as_list : (v item : View) (i : ℕ) → item_at v i ≡ Ok item → list_fault v ≡ None
 read_as_list v item i e =
@@ -192,40 +231,221 @@ item_at-in_order v item i = (
       (begins_some v (items v.bytes) i item refl e) ∙ none) e,
 )
 
-past_by : (v : View) (i j : ℕ) → length (items v.bytes) ≤ i → length (items v.bytes) ≤ j → Numbered v i → item_at v i ≡ item_at v j
-past_by v i j l k (item_there told inside is) = absurd (omega arith)
-past_by v i j l k (no_item fault told past is others) = is ∙ sym (others j k)
-past_by v i j l k (not_told fault none all) = all i ∙ sym (all j)
-
 -- past the last item every number has the same answer
 pub item_at-past_same : (v : View) (i j : ℕ) → length (item_views v) ≤ i → length (item_views v) ≤ j → item_at v i ≡ item_at v j
-item_at-past_same v i j l k = past_by v i j (omega (arith, length-views v)) (omega (arith, length-views v)) (numbered v i)
-
--- ---- views over the encoding of a list
-
--- the views of an encoded list's items are of their encodings
-pub item_views-list : (xs : List Item) (b : List ℕ) → IsSized (list_of xs) → BeginsWith b (encoding (list_of xs))
-    → item_views (view_of b) ≡ map (λ x. view_of (encoding x)) xs
-item_views-list xs b sized begins = ap (map view_of) (items_of_list xs b sized begins).0 ∙ map-map view_of encoding xs
-
--- an encoded list has as many items
-pub item_count-list : (xs : List Item) (b : List ℕ) → IsSized (list_of xs) → BeginsWith b (encoding (list_of xs)) → item_count (view_of b) ≡ Ok (length xs)
-item_count-list xs b sized begins =
-    item_count-told (view_of b) (lenient_told b (list_shape xs b sized begins).0)
-    ∙ ap (λ fs. Ok (length fs)) (items_of_list xs b sized begins).0
-    ∙ ap Ok (length-map xs encoding)
+item_at-past_same v i j l k =
+    ⊎_elim
+    (λ told. told_numbered v i told
+    ∙ ap (item_or (past_fault v.bytes (framing v.bytes))) (slice_get_past (item_views v) i l ∙ sym (slice_get_past (item_views v) j k))
+    ∙ sym (told_numbered v j told))
+    (λ (f, is). item_at-fault v i f is ∙ sym (item_at-fault v j f is))
+    (fault_cases (items_fault v) (items_fault v) refl)
 
 pub slice_get-middle : {A B : Type 0} (f : A → B) (before after : List A) (x : A) → slice_get (map f (before ++ x ∷ after)) (length before) ≡ Some (f x)
 slice_get-middle f [] after x = refl
 slice_get-middle f (y ∷ before) after x = slice_get-middle f before after x
 
--- an item of an encoded list, by its number
-pub item_at-list_item : (before after : List Item) (x : Item) (b : List ℕ) → IsSized (list_of (before ++ x ∷ after))
-    → BeginsWith b (encoding (list_of (before ++ x ∷ after)))
-    → item_at (view_of b) (length before) ≡ Ok (view_of (encoding x))
-item_at-list_item before after x b sized begins =
-    (item_at-in_order (view_of b) (view_of (encoding x)) (length before)).1 (
-      refl,
-      ap (λ vs. slice_get vs (length before)) (item_views-list (before ++ x ∷ after) b sized begins)
-          ∙ slice_get-middle (λ (y : Item). view_of (encoding y)) before after x,
-    )
+-- a view that has a number of items has no fault of its items
+pub counted_told : (v : View) (n : ℕ) → item_count v ≡ Ok n → items_fault v ≡ None
+counted_told v n is = ⊎_elim (λ told. told)
+    (λ (e, none). let count : item_count v ≡ Err e = item_count-fault v e none in absurd (let no : ⊥ = cc in no))
+    (fault_cases (items_fault v) (items_fault v) refl)
+
+-- the number of items of a list is the number that is counted
+pub counted_items : (v : View) (n : ℕ) → item_count v ≡ Ok n → length (items v.bytes) ≡ n
+counted_items v n is = let count : item_count v ≡ Ok (length (items v.bytes)) = item_count-told v (counted_told v n is) in cc
+
+pub told_whole : (b : List ℕ) → items_fault (strict_view_of b) ≡ None → strict_list_fault b ≡ None
+told_whole b told = (passed (begins_as_list b) (strict_list_fault b) RlpExpectedToBeList told).1
+
+-- ---- the bytes after the items of a payload
+
+pub after_items-next : (p item others : List ℕ) → split p ≡ item ∷ split others → p ≡ item ++ others → after_items p ≡ after_items others
+after_items-next p item others parts whole =
+    ap (λ fs. drop (length (concat fs)) p) parts
+    ∙ ap (λ n. drop n p) (length-append item (concat (split others)))
+    ∙ ap (drop (length item + length (concat (split others)))) whole
+    ∙ drop-append-add item others (length (concat (split others)))
+
+pub after_items-none : (p : List ℕ) → split p ≡ [] → after_items p ≡ p
+after_items-none p none = ap (λ fs. drop (length (concat fs)) p) none
+
+pub after_items-nil : after_items [] ≡ []
+after_items-nil = drop-nil (length (concat (split [])))
+
+pub fault_of_some-some : (p : List ℕ) → 0 < length p → fault_of_some p ≡ Some (fault p)
+fault_of_some-some [] some = absurd (omega arith)
+fault_of_some-some (byte ∷ more) some = refl
+
+-- the bytes after the items of a list
+pub rest-after : (b : List ℕ) → rest b ≡ after_items (payload b)
+unfolding rest items
+rest-after b = refl
+
+pub no_bytes : (b : List ℕ) → true ≡ (length b == 0) → b ≡ []
+no_bytes [] is = refl
+no_bytes (c ∷ b) is = let no : ⊥ = grind (arith, nat_tests) in absurd no
+
+pub some_bytes : (b : List ℕ) → false ≡ (length b == 0) → 0 < length b
+some_bytes [] is = absurd (let no : ⊥ = cc in no)
+some_bytes (c ∷ b) is = omega arith
+
+-- ---- the fault of a list
+
+-- bytes that don't begin as a list
+pub strict_not_begun : (b : List ℕ) → false ≡ begins_as_list b → strict_list_fault b ≡ Some RlpExpectedToBeList
+unfolding strict_list_fault
+strict_not_begun b kind = cond-false (begins_as_list b) _ _ (sym kind)
+
+begun : (b : List ℕ) (o : Option DecoderError) → true ≡ begins_as_list b → strict_fault b ≡ o
+    → strict_list_fault b ≡ first_fault o (fault_of_some (after_items (payload b)))
+unfolding strict_list_fault
+begun b o kind is = cond-true (begins_as_list b) _ _ (sym kind) ∙ ap (λ o. first_fault o (fault_of_some (rest b))) is
+    ∙ ap (λ r. first_fault o (fault_of_some r)) (rest-after b)
+
+-- a list that isn't framed, or is followed by bytes
+pub strict_not_whole : (b : List ℕ) (e : DecoderError) → true ≡ begins_as_list b → strict_fault b ≡ Some e → strict_list_fault b ≡ Some e
+strict_not_whole b e kind is = begun b (Some e) kind is
+
+-- the value of a framed list is its payload
+pub value-payload : (b q : List ℕ) → true ≡ begins_as_list b → value b ≡ Ok q → q ≡ payload b
+unfolding payload
+value-payload b q kind is = sym (ap (λ k. payload_in k (value b)) (sym kind) ∙ ap (payload_in true) is)
+
+-- bytes that are exactly one list have the fault of the bytes that follow the items in it
+pub strict_whole : (b q : List ℕ) → true ≡ begins_as_list b → strict_fault b ≡ None → value b ≡ Ok q → fault_of_some (after_items q) ≡ strict_list_fault b
+strict_whole b q kind none is = ap (λ p. fault_of_some (after_items p)) (value-payload b q kind is) ∙ sym (begun b None kind none)
+
+-- its items are those of its value
+pub value-items : (b q : List ℕ) → true ≡ begins_as_list b → value b ≡ Ok q → split q ≡ items b
+unfolding items
+value-items b q kind is = ap split (value-payload b q kind is)
+
+-- ---- the fault of items by number
+
+-- a strict view has the fault of its bytes
+items_strict : (v : View) → v.is_strict ≡ true → items_fault v ≡ strict_list_fault v.bytes
+items_strict v strict = ap (λ s. items_fault (record { bytes = v.bytes; is_strict = s })) strict ∙ items_fault-strict v.bytes
+
+-- the number of items of a strict view, as its bytes are read
+pub strict_counted : (v : View) (r : Result ℕ DecoderError) → v.is_strict ≡ true
+    → MatchResult r (λ _. strict_list_fault v.bytes ≡ None) (λ e. strict_list_fault v.bytes ≡ Some e) → IfOk r (λ n. n ≡ length (items v.bytes))
+    → r ≡ item_count v
+strict_counted v (Ok n) strict none same = sym (item_count-told v (items_strict v strict ∙ none) ∙ ap Ok (sym same))
+strict_counted v (Err e) strict fault same = sym (item_count-fault v e (items_strict v strict ∙ fault))
+
+-- ---- the places of the items of a list, found by going over them
+
+-- the fault of bytes without any of the headers
+pub fault-err : (b : List ℕ) (e : DecoderError) → framing b ≡ Err e → e ≡ fault b
+unfolding fault
+fault-err b e is = sym (ap fault_in is)
+
+pub get_or-drop : {A : Type 0} (i : ℕ) (xs ys : List A) (x d : A) → drop i xs ≡ x ∷ ys → get_or xs i d ≡ x
+get_or-drop (suc i) (y ∷ xs) ys x d e = get_or-drop i xs ys x d e
+get_or-drop i xs ys x d e = cc
+
+take-next : {A : Type 0} (i : ℕ) (xs ys : List A) (x : A) → drop i xs ≡ x ∷ ys → take (suc i) xs ≡ take i xs ++ x ∷ []
+take-next i xs ys x e = take-suc xs i x (drop-inside i xs ys x e) ∙ ap (λ y. take i xs ++ y ∷ []) (get_or-drop i xs ys x x e)
+
+concat-more : (xs : List (List ℕ)) (x : List ℕ) → concat (xs ++ x ∷ []) ≡ concat xs ++ x
+concat-more xs x = concat-append xs (x ∷ []) ∙ ap (λ y. concat xs ++ y) (append-nil x)
+
+-- the bytes of the payload of b after its first k items
+pub record IsWalked (b : List ℕ) (k : ℕ) (left : List ℕ) : Type 0 where
+  pub others : split left ≡ drop k (items b)
+  pub whole : payload b ≡ concat (take k (items b)) ++ left
+
+-- the walk begins with no item taken and the whole payload left
+pub walked-none : (b p : List ℕ) → p ≡ payload b → IsWalked b 0 p
+unfolding items
+walked-none b p e = record { others = ap split e; whole = sym e }
+
+-- the walk goes on after one item
+pub walked-one : (b item others left : List ℕ) (k : ℕ) → IsWalked b k left → split left ≡ item ∷ split others → left ≡ item ++ others
+    → IsWalked b (k + 1) others
+walked-one b item others left k is parts whole =
+    let here : drop k (items b) ≡ item ∷ split others = sym is.others ∙ parts in
+    record {
+      others = sym (drop-next k (items b) (split others) item here);
+      whole =
+          is.whole ∙ ap (λ s. concat (take k (items b)) ++ s) whole
+          ∙ sym (append_assoc (concat (take k (items b))) item others)
+          ∙ ap (λ s. s ++ others) (sym (concat-more (take k (items b)) item) ∙ ap concat (sym (take-next k (items b) (split others) item here))
+          ∙ ap (λ n. concat (take n (items b))) (sym (add-one k)));
+    }
+
+-- the item after i items of a walk, and its place
+pub walked-item : (v : View) (item : List ℕ) (i n : ℕ) (p : PayloadInfo) (others left : List ℕ) → items_fault v ≡ None → framing v.bytes ≡ Ok p
+    → n ≡ length (payload v.bytes)
+    → IsWalked v.bytes i left → split left ≡ item ∷ split others → left ≡ item ++ others
+    → Ok (record v { bytes = item }, p.header_len + (n - length others - length item)) ≡ item_with_place v i
+walked-item v item i n p others left kind is long walked parts whole =
+    let here : drop i (items v.bytes) ≡ item ∷ split others = sym walked.others ∙ parts in
+    let inside : i < length (items v.bytes) = drop-inside i (items v.bytes) (split others) item here in
+    let lengths : length (payload v.bytes) ≡ length (concat (take i (items v.bytes))) + length left = ap length walked.whole
+    ∙ length-append (concat (take i (items v.bytes))) left in
+    let place : p.header_len + (n - length others - length item) ≡ p.header_len + length (concat (take i (items v.bytes))) =
+    omega (arith, ap length whole, length-append item others) in
+    let found : item ≡ get_or (items v.bytes) i [] = sym (get_or-drop i (items v.bytes) (split others) item [] here) in
+    ap (λ (n : ℕ). Ok (record v { bytes = item }, n)) place
+    ∙ ap (λ (b : List ℕ). Ok (record v { bytes = b }, p.header_len + length (concat (take i (items v.bytes))))) found
+    ∙ sym (cond-true (ltb i (length (items v.bytes))) _ _ (lt-ltb i (length (items v.bytes)) inside))
+    ∙ sym (item_with_place-told v i (Ok p) kind is)
+
+-- after the last item, the fault is that of the bytes that follow the items
+pub walked-past : (v : View) (i k : ℕ) (p : PayloadInfo) (left : List ℕ) (e : DecoderError) → items_fault v ≡ None → framing v.bytes ≡ Ok p
+    → IsWalked v.bytes k left → split left ≡ [] → e ≡ fault left → k ≤ i
+    → Err e ≡ item_with_place v i
+unfolding rest
+walked-past v i k p left e kind is walked none same below =
+    let gone : drop k (items v.bytes) ≡ [] = sym walked.others ∙ none in
+    let few : length (items v.bytes) ≤ k = let zero_left : length (items v.bytes) - k ≡ 0 = sym (length-drop k (items v.bytes))
+    ∙ ap length gone in omega arith in
+    let past : ltb i (length (items v.bytes)) ≡ false = le-ltb i (length (items v.bytes)) (omega arith) in
+    let whole : payload v.bytes ≡ concat (items v.bytes) ++ left = walked.whole ∙ ap (λ fs. concat fs ++ left) (take_all k (items v.bytes) few) in
+    let after : rest v.bytes ≡ left = ap (drop (length (concat (items v.bytes)))) whole
+    ∙ drop_at (concat (items v.bytes)) left (length (concat (items v.bytes))) refl in
+    ap Err (same ∙ ap fault (sym after))
+    ∙ sym (cond-false (ltb i (length (items v.bytes))) _ _ past)
+    ∙ sym (item_with_place-told v i (Ok p) kind is)
+
+-- a view that isn't framed has its fault for each number
+pub not_framed_item : (v : View) (i : ℕ) (e : DecoderError) → items_fault v ≡ None → framing v.bytes ≡ Err e → Err e ≡ item_with_place v i
+not_framed_item v i e told is = sym (item_with_place-told v i (Err e) told is)
+
+pub not_told_item : (v : View) (i : ℕ) (e : DecoderError) → items_fault v ≡ Some e → Err e ≡ item_with_place v i
+not_told_item v i e is = sym (item_with_place-fault v i e is)
+
+-- the bytes that are left for a walk
+pub walked-length : (b item others left : List ℕ) (k n : ℕ) → IsWalked b k left → left ≡ item ++ others → n ≡ length (payload b)
+    → length item + length others ≤ n
+walked-length b item others left k n is whole long =
+    omega (arith, ap length is.whole, length-append (concat (take k (items b))) left, ap length whole, length-append item others)
+
+-- ---- the items of a view, taken one after another
+
+-- at the beginning of a framed list
+pub framed_place : (v : View) (p : PayloadInfo) (q left : List ℕ) → items_fault v ≡ None → framing v.bytes ≡ Ok p → value v.bytes ≡ Ok q → left ≡ q
+    → IsAtPlace v 0 left
+framed_place v p q left told framed is same =
+    let kind : true ≡ _ = sym (told_begins v told) in
+    let whole : rest v.bytes ≡ after_items left = rest-after v.bytes ∙ ap after_items (sym (same ∙ value-payload v.bytes q kind is)) in
+    record {
+      told = told;
+      others = ap split same ∙ value-items v.bytes q kind is;
+      few = omega arith;
+      past = λ i l. item_at-past v i p told framed l ∙ ap (λ b. Err (fault b)) whole;
+    }
+
+-- at the beginning of a list that isn't framed, which has no items
+pub unframed_place : (v : View) (e : DecoderError) (left : List ℕ) → items_fault v ≡ None → framing v.bytes ≡ Err e → split v.bytes ≡ []
+    → left ≡ v.bytes → IsAtPlace v 0 left
+unframed_place v e left told framed none same =
+    let fault_is : e ≡ fault (after_items left) = fault-err v.bytes e framed ∙ ap fault (sym (ap after_items same ∙ after_items-none v.bytes none)) in
+    record {
+      told = told;
+      others = ap split same ∙ none ∙ sym (items-payload v.bytes (payload-fault v.bytes e (told_begins v told) framed));
+      few = omega arith;
+      past = λ i l. item_at-unframed v i e told framed ∙ ap Err fault_is;
+    }

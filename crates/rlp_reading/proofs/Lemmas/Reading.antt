@@ -1,5 +1,5 @@
 -- `header` gives the one header that stands at the front, and the fault where none does.
-use Rattle.std.proofs.Common.{◌≡◌, ℕ, zero, suc, ◌+◌, ◌-◌, ◌^◌, ◌<◌, ◌≤◌, inl, inr, ⊎_elim, List, [], ◌∷◌, ◌++◌, length, take, get_or, refl, sym, ap}
+use Rattle.std.proofs.Common.{◌≡◌, ℕ, suc, ◌+◌, ◌-◌, ◌^◌, ◌<◌, ◌≤◌, inl, inr, ⊎_elim, List, [], ◌∷◌, ◌++◌, length, take, get_or, refl, sym, ap}
 use Rattle.std.proofs.Common.{◌∙◌, subst, arith, Ok, Err, Result, false, ◌==◌, leb, ltb, ne_eqb, le-ltb, take_at, length-append}
 use Rattle.std.proofs.Common.{MatchResult, ◌≢◌, length-take-le, lt_of_lt_of_le, take-append-drop, drop, ltb-true, ltb-false, eqb-true, leb-false}
 use Rattle.std.proofs.{lemmas.Bool.Decides.nat_tests, lemmas.Bool.{cases_lt, cond_both, eqb-false, cond-false, lt-leb}, Math.Nat.pow-le-pow_right}
@@ -8,7 +8,7 @@ use Rattle.std.specs.{List.AllByRecursion, Int.Digits.number_from_digits}
 -- what a slice of `u8` holds, passed on
 pub use Rattle.rlp_format.proofs.Lemmas.Digits.{bytes_held}
 use Rattle.rlp_reading.specs.{declared.error.DecoderError.DecoderError, declared.header.PayloadInfo.PayloadInfo}
-use Rattle.rlp_reading.specs.declared.error.DecoderError.TheVariants.{RlpIsTooShort, RlpDataLenWithZeroPrefix, RlpListLenWithZeroPrefix, RlpInvalidIndirection}
+use Rattle.rlp_reading.specs.declared.error.DecoderError.TheVariants.{RlpDataLenWithZeroPrefix, RlpListLenWithZeroPrefix}
 use Rattle.rlp_reading.specs.Format.Framing.{HasHeader, lone, written, header, long_header, header_fault, HasNoHeader, announced, ReadsHeader, payload_info}
 use Rattle.rlp_format.specs.Format.Encoding.{big_endian, written_header, IsBase, AreBytes}
 use Rattle.rlp_format.proofs.Lemmas.Digits.{big_endian_value, big_endian_first, big_endian_again}
@@ -41,10 +41,6 @@ unfolding header
 header_long_list first rest l = grind (arith, nat_tests)
 
 -- ---- where a header stands, it is read
-
--- a low byte is read as its own value
-pub read_lone : (byte : ℕ) (rest : List ℕ) → byte < 0x80 → header (byte ∷ rest) ≡ Ok (payload_info 0 1)
-read_lone byte rest low = header_low byte rest low
 
 -- a long header that stands in front is read
 pub long_header_is : (zero_fault : DecoderError) (k : ℕ) (digits rest : List ℕ) → length digits ≡ k → 0 < get_or digits 0 0 → 55 < number_from_digits 256 digits
@@ -88,15 +84,12 @@ pub read_written : (base n : ℕ) (rest : List ℕ) → IsBase base → n < 2 ^ 
     → header (written_header base n ++ rest) ≡ Ok (payload_info (length (written_header base n)) n)
 read_written base n rest b small =
     let s = shape base n small in
-    let one : length (first_and s.first s.more) ≡ 1 + length s.more = omega arith in
+    let one : length (s.first ∷ s.more) ≡ 1 + length s.more = omega arith in
     ap (λ h. header (h ++ rest)) s.is ∙ read_parts base n s.first s.more rest b s.parts ∙ ap (λ l. Ok (payload_info l n)) (sym one ∙ ap length (sym s.is))
-  where
-    first_and : ℕ → List ℕ → List ℕ
-    first_and c s = c ∷ s
 
 -- the header that stands at the front is read
 pub read : {b : List ℕ} {h n : ℕ} → HasHeader b h n → header b ≡ Ok (payload_info h n)
-read (lone byte rest low) = read_lone byte rest low
+read (lone byte rest low) = header_low byte rest low
 read (written base n rest b small) = read_written base n rest b small
 
 -- so there is only one
@@ -116,22 +109,6 @@ no_header b e is h n has = let same = sym (read has) ∙ is in cc
 abbrev pub Row : List ℕ → Result PayloadInfo DecoderError → Type 0
 Row b r = MatchResult r (λ p. HasHeader b p.header_len p.value_len) (λ e. e ≡ header_fault b)
 
-fault_zero_string : (first second : ℕ) (more : List ℕ) → second ≡ 0 → 0xb8 ≤ first → first < 0xc0
-    → RlpDataLenWithZeroPrefix ≡ header_fault (first ∷ second ∷ more)
-fault_zero_string first second more z l h = grind (arith, nat_tests)
-
-fault_zero_list : (first second : ℕ) (more : List ℕ) → second ≡ 0 → 0xf8 ≤ first → first < 0x100
-    → RlpListLenWithZeroPrefix ≡ header_fault (first ∷ second ∷ more)
-fault_zero_list first second more z l h = grind (arith, nat_tests)
-
-fault_short : (first second k : ℕ) (more : List ℕ) → second ≢ 0 → announced first ≡ k → length (second ∷ more) < k
-    → RlpIsTooShort ≡ header_fault (first ∷ second ∷ more)
-fault_short first second k more z a h = grind (arith, nat_tests)
-
-fault_indirect : (first second k : ℕ) (more : List ℕ) → second ≢ 0 → announced first ≡ k → k ≤ length (second ∷ more)
-    → RlpInvalidIndirection ≡ header_fault (first ∷ second ∷ more)
-fault_indirect first second k more z a h = grind (arith, nat_tests)
-
 announced_string : (first : ℕ) → first < 0xc0 → announced first ≡ first - 0xb7
 announced_string first h = grind (arith, nat_tests)
 
@@ -143,9 +120,8 @@ abbrev pub Bytes : List ℕ → Type 0
 Bytes b = AllByRecursion (λ byte. byte < 2 ^ 8) b
 
 take_bytes : (k : ℕ) (s : List ℕ) → Bytes s → Bytes (take k s)
-take_bytes zero s h = tt
-take_bytes (suc k) [] h = tt
 take_bytes (suc k) (c ∷ s) (low, h) = (low, take_bytes k s h)
+take_bytes k s h = tt
 
 long_hdr : (base n first k : ℕ) (digits : List ℕ) → big_endian n ≡ digits → 55 < n → length digits ≡ k → first ≡ base + 55 + k
     → written_header base n ≡ first ∷ digits
@@ -193,10 +169,10 @@ long_row base first k second zero_fault more b is few says bytes zero_case =
     (λ e. zero_case (eqb-true second 0 e))
     (λ e. let nonzero : second ≢ 0 = eqb-false second 0 e in
     cond_both (ltb (length (second ∷ more)) (suc k)) _ _ (Row (first ∷ second ∷ more))
-    (λ e. fault_short first second (suc k) more nonzero says (ltb-true _ _ e))
+    (λ e. let short : length (second ∷ more) < suc k = ltb-true _ _ e in grind (arith, nat_tests))
     (λ e. let enough : suc k ≤ length (second ∷ more) = ltb-false _ _ e in
     cond_both (leb (number_from_digits 256 (second ∷ take k more)) 55) _ _ (Row (first ∷ second ∷ more))
-    (λ e. fault_indirect first second (suc k) more nonzero says enough)
+    (λ e. grind (arith, nat_tests))
     (λ e. long_has base first k (number_from_digits 256 (second ∷ take k more)) second more b is few (omega arith) bytes enough refl (leb-false _ _ e))))
 
 long_rows : (base first k : ℕ) (zero_fault : DecoderError) (rest : List ℕ) → IsBase base → first ≡ base + 55 + suc k → suc k ≤ 8 → announced first ≡ suc k
@@ -211,13 +187,13 @@ string_row : (first : ℕ) (rest : List ℕ) → 0xb8 ≤ first → first < 0xc0
 string_row first rest l h bytes =
     let k : first - 0xb7 ≡ suc (first - 0xb8) = omega arith in
     rw k (long_rows 0x80 first (first - 0xb8) RlpDataLenWithZeroPrefix rest (inl refl) (omega arith) (omega arith)
-    (announced_string first h ∙ k) bytes (λ second more z. fault_zero_string first second more z l h))
+    (announced_string first h ∙ k) bytes (λ second more z. grind (arith, nat_tests)))
 
 list_row : (first : ℕ) (rest : List ℕ) → 0xf8 ≤ first → first < 256 → Bytes rest → Row (first ∷ rest) (long_header RlpListLenWithZeroPrefix (first - 0xf7) rest)
 list_row first rest l h bytes =
     let k : first - 0xf7 ≡ suc (first - 0xf8) = omega arith in
     rw k (long_rows 0xc0 first (first - 0xf8) RlpListLenWithZeroPrefix rest (inr refl) (omega arith) (omega arith)
-    (announced_list first (omega arith) ∙ k) bytes (λ second more z. fault_zero_list first second more z l h))
+    (announced_list first (omega arith) ∙ k) bytes (λ second more z. grind (arith, nat_tests)))
 
 first_row : (first : ℕ) (rest : List ℕ) → first < 256 → Bytes rest → Row (first ∷ rest) (header (first ∷ rest))
 first_row first rest low bytes =
@@ -241,3 +217,15 @@ reads_from b (Err fault) e is = (no_header b fault e, is)
 -- `header` gives the header that stands at the front of bytes, or why none does
 pub header_reads : (b : List ℕ) → AreBytes b → ReadsHeader b (header b)
 header_reads b bytes = reads_from b (header b) refl (row b (recursion_from_All (λ byte. byte < 2 ^ 8) b bytes))
+
+-- ---- the elements of a string are bytes
+
+-- the first elements of a list of bytes are bytes
+pub front_bytes : (s t : List ℕ) → Bytes (s ++ t) → Bytes s
+front_bytes [] t h = tt
+front_bytes (c ∷ s) t (low, h) = (low, front_bytes s t h)
+
+-- so are the elements after them
+pub back_bytes : (s t : List ℕ) → Bytes (s ++ t) → Bytes t
+back_bytes [] t h = h
+back_bytes (c ∷ s) t (low, h) = back_bytes s t h

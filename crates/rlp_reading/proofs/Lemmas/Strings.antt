@@ -1,19 +1,20 @@
--- `read_string` gives the one string that stands at the front of bytes.
-use Rattle.std.proofs.Common.{◌≡◌, ℕ, suc, ◌+◌, ◌-◌, ◌^◌, ◌<◌, ◌≤◌, inl, inr, ⊎_elim, Bool, true, false, if◌then◌else◌, slice_index, ◌==◌, ltb, leb}
-use Rattle.std.proofs.Common.{List, [], ◌∷◌, ◌++◌, length, take, drop, get_or, refl, sym, ap, ◌∙◌, subst, arith, Ok, Err, Result, MatchResult, ne_eqb}
-use Rattle.std.proofs.Common.{le-ltb, lt-ltb, ltb-false, leb-false, take_at, drop_at, length-append, length-take-le, append_assoc, take-append-drop}
-use Rattle.std.proofs.{Common.pos_of_ne-zero, lemmas.Bool.{cases_Bool, cases_lt, cond_both, cond-true, cond-false, lt-leb, eqb-false}}
-use Rattle.std.proofs.{lemmas.Bool.Decides.nat_tests, lemmas.List.Elements.recursion_from_All}
+-- The one string that bytes begin with.
+use Rattle.std.proofs.Common.{◌≡◌, ℕ, suc, ◌+◌, ◌-◌, ◌^◌, ◌<◌, ◌≤◌, inl, inr, ⊎_elim, Bool, true, false, if◌then◌else◌, slice_index, ◌==◌, ltb, leb, List}
+use Rattle.std.proofs.Common.{[], ◌∷◌, ◌++◌, length, take, drop, get_or, refl, sym, ap, ◌∙◌, subst, arith, Ok, Err, Result, MatchResult, ne_eqb, le-ltb}
+use Rattle.std.proofs.Common.{lt-ltb, ltb-false, leb-false, take_at, drop_at, length-append, length-take-le, append_assoc, take-append-drop, pos_of_ne-zero}
+use Rattle.std.proofs.{Common.take_all, lemmas.Bool.{cases_Bool, cases_lt, cond_both, cond-true, cond-false, lt-leb, eqb-false}, lemmas.Bool.Decides.nat_tests}
+use Rattle.std.proofs.lemmas.List.Elements.{recursion_from_All}
 use Rattle.std.specs.{Bool.⊤, Int.Digits.number_from_digits}
-use Rattle.rlp_reading.specs.declared.error.DecoderError.{DecoderError}
-use Rattle.rlp_reading.specs.declared.error.DecoderError.TheVariants.{RlpIsTooShort, RlpExpectedToBeData, RlpInvalidIndirection}
-use Rattle.rlp_reading.specs.declared.error.DecoderError.TheVariants.{RlpInconsistentLengthAndData, RlpInvalidLength}
-use Rattle.rlp_reading.specs.Format.Framing.{IsString, ReadsString, short_string, long_value, long_string, read_string, short_string_fault}
-use Rattle.rlp_reading.specs.Format.Framing.{long_value_fault, long_string_fault, string_fault}
 use Rattle.rlp_format.specs.Format.Encoding.{string, written_header, AreBytes, encoding, string_encoding, is_low_byte}
 use Rattle.rlp_format.proofs.{Lemmas.Digits.{big_endian_first, big_endian_value}, Lemmas.Headers.{Parts, shape, written_header_short}}
 use Rattle.rlp_format.proofs.Lemmas.Encodings.{low_byte, small_payload, front_sized}
-use Rattle.rlp_reading.proofs.Lemmas.Reading.{Bytes, long_whole}
+use Rattle.rlp_reading.specs.declared.error.DecoderError.{DecoderError}
+use Rattle.rlp_reading.specs.declared.error.DecoderError.TheVariants.{RlpIsTooShort, RlpExpectedToBeData, RlpInvalidIndirection}
+use Rattle.rlp_reading.specs.declared.error.DecoderError.TheVariants.{RlpInconsistentLengthAndData, RlpInvalidLength, RlpDataLenWithZeroPrefix}
+use Rattle.rlp_reading.specs.declared.error.DecoderError.TheVariants.{RlpListLenWithZeroPrefix}
+use Rattle.rlp_reading.specs.Format.Framing.{IsString, ReadsString, short_string, long_value, long_string, read_string, short_string_fault, long_value_fault}
+use Rattle.rlp_reading.specs.Format.Framing.{long_string_fault, string_fault, header, long_header, payload_info}
+use Rattle.rlp_reading.proofs.Lemmas.Reading.{Bytes, long_whole, header_low, header_string, header_long_string, header_list, header_long_list}
 
 -- the string of a low byte
 pub string_low : (first : ℕ) (rest : List ℕ) → first < 0x80 → read_string (first ∷ rest) ≡ Ok (first ∷ [])
@@ -23,22 +24,17 @@ string_low first rest h = grind (arith, nat_tests)
 -- a short string, by its row
 pub string_short : (first : ℕ) (rest : List ℕ) → 0x80 ≤ first → first < 0xb8 → read_string (first ∷ rest) ≡ short_string (first - 0x80) rest
 unfolding read_string
-string_short first rest l h = cond-false (ltb first 0x80) _ _ (le-ltb _ _ l) ∙ cond-true (ltb first 0xb8) _ _ (lt-ltb _ _ h)
+string_short first rest l h = grind (arith, nat_tests)
 
 -- a long string, by its row
 pub string_long : (first : ℕ) (rest : List ℕ) → 0xb8 ≤ first → first < 0xc0 → read_string (first ∷ rest) ≡ long_string (first - 0xb7) rest
 unfolding read_string
-string_long first rest l h =
-    let from80 : 0x80 ≤ first = omega arith in
-    cond-false (ltb first 0x80) _ _ (le-ltb _ _ from80) ∙ cond-false (ltb first 0xb8) _ _ (le-ltb _ _ l) ∙ cond-true (ltb first 0xc0) _ _ (lt-ltb _ _ h)
+string_long first rest l h = grind (arith, nat_tests)
 
 -- a list isn't a string
 pub string_list : (first : ℕ) (rest : List ℕ) → 0xc0 ≤ first → read_string (first ∷ rest) ≡ Err RlpExpectedToBeData
 unfolding read_string
-string_list first rest l =
-    let from80 : 0x80 ≤ first = omega arith in
-    let fromb8 : 0xb8 ≤ first = omega arith in
-    cond-false (ltb first 0x80) _ _ (le-ltb _ _ from80) ∙ cond-false (ltb first 0xb8) _ _ (le-ltb _ _ fromb8) ∙ cond-false (ltb first 0xc0) _ _ (le-ltb _ _ l)
+string_list first rest l = grind (arith, nat_tests)
 
 -- ---- the string that stands there is read
 
@@ -141,9 +137,8 @@ short_stands first n rest is short =
     (ap (λ s. first ∷ s) (sym (take-append-drop n rest)) ∙ ap (λ h. h ++ (take n rest ++ drop n rest)) (sym head)))))
 
 not_low : (s : List ℕ) → 1 < length s → is_low_byte s ≡ false
-not_low [] h = refl
 not_low (c ∷ []) h = absurd (omega arith)
-not_low (c ∷ d ∷ s) h = refl
+not_low s h = refl
 
 value_stands : (first k n second : ℕ) (more : List ℕ) → first ≡ 0x80 + 55 + suc k → suc k ≤ 8 → 0 < second → Bytes (second ∷ more)
     → suc k ≤ length (second ∷ more) → n ≡ number_from_digits 256 (second ∷ take k more) → Stands (first ∷ second ∷ more) (long_value (suc k) n (drop k more))
@@ -205,22 +200,18 @@ cond_ok : (b : Bool) (d : List ℕ) (s : Result (List ℕ) DecoderError) (e : De
 cond_ok true d s e is = cc
 cond_ok false d s e is = is
 
-indirection : (b : Bool) (d : List ℕ) (e : DecoderError) → (if b then Err RlpInvalidIndirection else Ok d) ≡ Err e → e ≡ RlpInvalidIndirection
-indirection true d e is = cc
-indirection false d e is = cc
+last_fault : (b : Bool) (d : List ℕ) (e f : DecoderError) → (if b then Err f else Ok d) ≡ Err e → e ≡ f
+last_fault true d e f is = cc
+last_fault false d e f is = cc
 
 short_fault : (n : ℕ) (rest : List ℕ) (e : DecoderError) → short_string n rest ≡ Err e → e ≡ short_string_fault n rest
 short_fault n rest e =
-    cond_fault (ltb (length rest) n) _ _ e _ _ (fault_same e RlpInconsistentLengthAndData) (indirection (is_low_byte (take n rest)) (take n rest) e)
-
-inconsistent : (b : Bool) (d : List ℕ) (e : DecoderError) → (if b then Err RlpInconsistentLengthAndData else Ok d) ≡ Err e → e ≡ RlpInconsistentLengthAndData
-inconsistent true d e is = cc
-inconsistent false d e is = cc
+    cond_fault (ltb (length rest) n) _ _ e _ _ (fault_same e RlpInconsistentLengthAndData) (last_fault (is_low_byte (take n rest)) (take n rest) e RlpInvalidIndirection)
 
 value_fault : (k n : ℕ) (rest : List ℕ) (e : DecoderError) → long_value k n rest ≡ Err e → e ≡ long_value_fault k n
 value_fault k n rest e =
     cond_fault (leb n 55) _ _ e _ _ (fault_same e RlpInvalidIndirection)
-    (cond_fault (ltb (2 ^ 64 - 1) (1 + k + n)) _ _ e _ _ (fault_same e RlpInvalidLength) (inconsistent (ltb (length rest) n) (take n rest) e))
+    (cond_fault (ltb (2 ^ 64 - 1) (1 + k + n)) _ _ e _ _ (fault_same e RlpInvalidLength) (last_fault (ltb (length rest) n) (take n rest) e RlpInconsistentLengthAndData))
 
 long_fault : (k : ℕ) (rest : List ℕ) (e : DecoderError) → long_string k rest ≡ Err e → e ≡ long_string_fault k rest
 long_fault k rest e =
@@ -243,3 +234,51 @@ answer_from b (Err e) fits is there = ((λ d has. let same = sym (string_only b 
 -- `read_string` gives the string in front, or the fault where none is
 pub string_reads : (b : List ℕ) → AreBytes b → length b < 2 ^ 64 → ReadsString b (read_string b)
 string_reads b bytes fits = answer_from b (read_string b) fits refl (stands b (recursion_from_All (λ byte. byte < 2 ^ 8) b bytes))
+
+-- ---- headers and strings, by the first of some bytes
+
+pub first_low : (b : List ℕ) → 1 ≤ length b → get_or b 0 0 ≤ 0x7f → Ok (payload_info 0 1) ≡ header b
+first_low [] some low = absurd (omega arith)
+first_low (first ∷ rest) some low = sym (header_low first rest (omega arith))
+
+pub first_string : (b : List ℕ) → 1 ≤ length b → 0x80 ≤ get_or b 0 0 → get_or b 0 0 ≤ 0xb7 → Ok (payload_info 1 (get_or b 0 0 - 0x80)) ≡ header b
+first_string [] some from to = absurd (omega arith)
+first_string (first ∷ rest) some from to = sym (header_string first rest from (omega arith))
+
+pub first_long_string : (b : List ℕ) → 1 ≤ length b → 0xb8 ≤ get_or b 0 0 → get_or b 0 0 ≤ 0xbf
+    → long_header RlpDataLenWithZeroPrefix (get_or b 0 0 - 0xb7) (take (length b - 1) (drop 1 b)) ≡ header b
+first_long_string [] some from to = absurd (omega arith)
+first_long_string (first ∷ rest) some from to =
+    ap (long_header RlpDataLenWithZeroPrefix (first - 0xb7)) (take_all (length (first ∷ rest) - 1) rest (omega arith))
+    ∙ sym (header_long_string first rest from (omega arith))
+
+pub first_list : (b : List ℕ) → 1 ≤ length b → 0xc0 ≤ get_or b 0 0 → get_or b 0 0 ≤ 0xf7 → Ok (payload_info 1 (get_or b 0 0 - 0xc0)) ≡ header b
+first_list [] some from to = absurd (omega arith)
+first_list (first ∷ rest) some from to = sym (header_list first rest from (omega arith))
+
+pub first_long_list : (b : List ℕ) → 1 ≤ length b → 0xf8 ≤ get_or b 0 0
+    → long_header RlpListLenWithZeroPrefix (get_or b 0 0 - 0xf7) (take (length b - 1) (drop 1 b)) ≡ header b
+first_long_list [] some from = absurd (omega arith)
+first_long_list (first ∷ rest) some from =
+    ap (long_header RlpListLenWithZeroPrefix (first - 0xf7)) (take_all (length (first ∷ rest) - 1) rest (omega arith))
+    ∙ sym (header_long_list first rest from)
+
+pub alone : (b : List ℕ) → 1 ≤ length b → get_or b 0 0 ≤ 0x7f → read_string b ≡ Ok (take 1 b)
+alone [] some low = absurd (omega arith)
+alone (first ∷ rest) some low = string_low first rest (omega arith)
+
+pub no_string : (b : List ℕ) → 1 ≤ length b → 0xc0 ≤ get_or b 0 0 → read_string b ≡ Err RlpExpectedToBeData
+no_string [] some from = absurd (omega arith)
+no_string (first ∷ rest) some from = string_list first rest from
+
+pub short_after : (b : List ℕ) → 1 ≤ length b → 0x80 ≤ get_or b 0 0 → get_or b 0 0 ≤ 0xb7
+    → read_string b ≡ short_string (get_or b 0 0 - 0x80) (take (length b - 1) (drop 1 b))
+short_after [] some from to = absurd (omega arith)
+short_after (first ∷ rest) some from to =
+    string_short first rest from (omega arith) ∙ ap (short_string (first - 0x80)) (sym (take_all (length (first ∷ rest) - 1) rest (omega arith)))
+
+pub long_after : (b : List ℕ) → 1 ≤ length b → 0xb8 ≤ get_or b 0 0 → get_or b 0 0 ≤ 0xbf
+    → read_string b ≡ long_string (get_or b 0 0 - 0xb7) (take (length b - 1) (drop 1 b))
+long_after [] some from to = absurd (omega arith)
+long_after (first ∷ rest) some from to =
+    string_long first rest from (omega arith) ∙ ap (long_string (first - 0xb7)) (sym (take_all (length (first ∷ rest) - 1) rest (omega arith)))

@@ -1,12 +1,17 @@
--- What a lenient or a strict view holds, and the string that is read from it.
-use Rattle.std.proofs.Common.{◌≡◌, ℕ, zero, suc, ◌^◌, ◌<◌, ◌≤◌, ◌+◌, ◌-◌, ⊎_elim, Bool, true, false, IsTrue, if◌then◌else◌, ltb, List, [], ◌∷◌, ◌++◌, length, take, drop, get_or, refl, sym, ap, ◌∙◌, subst}
-use Rattle.std.proofs.Common.{arith, append-nil, length-append, length-take-le, take_all, take-append-drop, le-ltb, lt-ltb, Result, Ok, Err, MatchResult, IfErr}
-use Rattle.std.proofs.lemmas.Bool.{cases_lt, cond-true, cond-false}
-use Rattle.rlp_reading.specs.{declared.error.DecoderError.DecoderError, declared.error.DecoderError.TheVariants.RlpIsTooBig}
+-- What a lenient or a strict view holds, and the string or the number that is read from it.
+use Rattle.std.proofs.Common.{◌≡◌, ℕ, zero, suc, ◌^◌, ◌<◌, ◌≤◌, ◌+◌, ◌-◌, ⊎_elim, Bool, true, false, IsTrue, if◌then◌else◌, ltb, List, [], ◌∷◌, ◌++◌, length}
+use Rattle.std.proofs.Common.{take, drop, get_or, refl, sym, ap, ◌∙◌, subst, arith, append-nil, length-append, length-take-le, take_all, take-append-drop}
+use Rattle.std.proofs.Common.{le-ltb, lt-ltb, Result, Ok, Err, MatchResult, IfErr, ◌≢◌, pos_of_ne-zero, replicate, Fits, w8}
+use Rattle.std.proofs.{lemmas.Bool.{cases_lt, cond-true, cond-false}, lemmas.List.Elements.All-from_recursion, lemmas.Int.Digits.length-digits_of-le}
+use Rattle.std.specs.Int.Digits.{number_from_digits}
+use Rattle.rlp_format.specs.Format.Encoding.{Item, string, AreBytes, written_header, encoding, is_low_byte, BeginsWith, IsSized, big_endian}
+use Rattle.rlp_format.specs.Values.Value.{FitsBytes}
+use Rattle.rlp_format.proofs.{Lemmas.Encodings.{front_sized, string_cases}, Lemmas.Headers.written_header_short}
+use Rattle.rlp_format.proofs.Lemmas.Digits.{bytes_held, digits_fit, digits_again, big_endian_is, pow-bytes}
+use Rattle.rlp_reading.specs.{declared.error.DecoderError.DecoderError, declared.error.DecoderError.TheVariants.{RlpIsTooBig, RlpInvalidIndirection}}
 use Rattle.rlp_reading.specs.Format.Framing.{HasHeader, IsString, ReadsString, read_string, is_followed, is_longer, whole_string}
 use Rattle.rlp_reading.specs.Views.View.{View, Holds, HoldsItem, HoldsNoString, HoldsString, view_string}
-use Rattle.rlp_format.specs.Format.Encoding.{Item, string, AreBytes, written_header, encoding, is_low_byte, BeginsWith, IsSized}
-use Rattle.rlp_format.proofs.{Lemmas.Encodings.front_sized, Lemmas.Headers.written_header_short}
+use Rattle.rlp_reading.specs.Values.ValueReading.{IsDigitsFault, too_long, leading_zero, GivesNumber}
 use Rattle.rlp_reading.proofs.{Lemmas.Frames.{encoding_item, framing_is, longer}, Lemmas.Strings.{string_only, string_reads}}
 
 begins_by : (strict : Bool) (b s : List ℕ) → Holds strict b s → BeginsWith b s
@@ -17,13 +22,11 @@ begins_by true b s holds = ([], holds ∙ sym (append-nil s))
 pub held_begins : (v : View) (x : Item) → HoldsItem v x → BeginsWith v.bytes (encoding x)
 held_begins v x holds = begins_by v.is_strict v.bytes (encoding x) holds
 
-whole_is : (b d : List ℕ) → b ≡ encoding (string d) → whole_string b (Ok d) ≡ Ok d
-whole_is b d is = cond-false (ltb (length (encoding (string d))) (length b)) _ _ (le-ltb _ _ (omega (arith, ap length is)))
-
 read_by : (strict : Bool) (b d : List ℕ) → length b < 2 ^ 64 → Holds strict b (encoding (string d))
     → (if strict then whole_string b (read_string b) else read_string b) ≡ Ok d
 read_by false b d fits holds = string_only b d fits holds
-read_by true b d fits holds = ap (whole_string b) (string_only b d fits (begins_by true b (encoding (string d)) holds)) ∙ whole_is b d holds
+read_by true b d fits holds = ap (whole_string b) (string_only b d fits (begins_by true b (encoding (string d)) holds))
+    ∙ cond-false (ltb (length (encoding (string d))) (length b)) _ _ (le-ltb _ _ (omega (arith, ap length holds)))
 
 -- the string that a view holds is read
 pub held_only : (v : View) (d : List ℕ) → length v.bytes < 2 ^ 64 → HoldsString v d → view_string v ≡ Ok d
@@ -155,11 +158,9 @@ first_held v (n ∷ b) is held low ends = low_held v n b (sym is) (omega arith) 
 -- the first n bytes are no low byte, if there isn't just one of them below 0x80
 taken_high : (n : ℕ) (b : List ℕ) → n ≤ length b → (n ≡ 1 → 128 ≤ get_or b 0 0) → is_low_byte (take n b) ≡ false
 taken_high zero b enough high = refl
-taken_high (suc zero) [] enough high = absurd (omega (arith, enough))
 taken_high (suc zero) (byte ∷ b) enough high = le-ltb _ _ (high refl)
-taken_high (suc (suc n)) [] enough high = absurd (omega (arith, enough))
-taken_high (suc (suc n)) (byte ∷ []) enough high = absurd (omega (arith, enough))
 taken_high (suc (suc n)) (byte ∷ next ∷ b) enough high = refl
+taken_high n b enough high = absurd (omega (arith, enough))
 
 -- the bytes after a header of one byte are held
 pub after_held : (v : View) (b : List ℕ) → b ≡ v.bytes → 1 ≤ length b → 128 ≤ get_or b 0 0 → get_or b 0 0 ≤ 183
@@ -174,3 +175,53 @@ after_held v (h ∷ b) is held from to enough ends high =
     (short_held v h (take (h - 128) b) (drop (h - 128) b)
     (sym is ∙ ap (λ d. h ∷ d) (sym (take-append-drop (h - 128) b))) (omega (arith, many)) (omega (arith, many))
     (taken_high (h - 128) b (omega arith) high) (λ strict. omega (arith, ends strict, many)))
+
+-- a string is no longer than its encoding may be
+pub string_sized : (d : List ℕ) → IsSized (string d) → length d < 2 ^ 64
+unfolding encoding
+string_sized d sized = ⊎_elim (λ h. omega (arith, ap length h.0.is)) (λ w. w.small) (string_cases d sized)
+
+-- ---- a view that begins with the digits of a number gives the number
+
+-- at most n bytes that don't begin with a zero are the digits of a number that fits
+pub leading_is_value : (width : ℕ) (digits : List ℕ) → ((i : ℕ) → Fits w8 (get_or digits i 0)) → length digits ≤ width → get_or digits 0 0 ≢ 0
+    → FitsBytes width (number_from_digits 256 digits) × (big_endian (number_from_digits 256 digits) ≡ digits)
+leading_is_value width [] bytes few leading = absurd (leading refl)
+leading_is_value width (d ∷ ds) bytes few leading =
+    let held = bytes_held (d ∷ ds) bytes in
+    (digits_fit width (d ∷ ds) held few, digits_again d ds held (pos_of_ne-zero leading))
+
+-- digits that begin with a zero have a fault
+pub zero_is_fault : (width : ℕ) (digits : List ℕ) → length digits ≤ width → 1 ≤ length digits → get_or digits 0 0 ≡ 0
+    → IsDigitsFault width digits RlpInvalidIndirection
+zero_is_fault width [] few some leads = absurd (omega arith)
+zero_is_fault width (d ∷ ds) few some leads = leading_zero ds few (ap (λ c. c ∷ ds) leads)
+
+pub ruleset digit_faults = (too_long, zero_is_fault)
+
+-- ---- a view that begins with a number of one digit
+
+-- if a view begins with a digit from 1 to 0x7f, and a strict one ends there, the digit is the number that it gives
+pub lone_digit : (width : ℕ) (v : View) (b : List ℕ) → b ≡ v.bytes → 1 ≤ width → 1 ≤ length b → 1 ≤ get_or b 0 0 → get_or b 0 0 ≤ 127
+    → (IsTrue v.is_strict → length v.bytes ≡ 1) → GivesNumber width v (get_or b 0 0)
+lone_digit width v [] is some held leading low ends = absurd (omega arith)
+lone_digit width v (c ∷ b) is some held leading low ends =
+    let value : number_from_digits 256 (c ∷ []) ≡ c = (let plain : 0 + c ≡ c = omega arith in plain) in
+    let bytes : AreBytes (c ∷ []) = All-from_recursion (λ byte. byte < 2 ^ 8) (c ∷ []) (omega arith, tt) in
+    let again = digits_again c [] bytes leading in
+    subst (GivesNumber width v) value
+    (record { fits = digits_fit width (c ∷ []) bytes some; begins = subst (HoldsString v) (sym again) (low_held v c b (sym is) (omega arith) ends) })
+
+-- ---- the number of digits
+
+-- leading zeros don't change the number
+pub zeros_in_front : (k n : ℕ) (digits : List ℕ) → number_from_digits 256 (take k (replicate n 0) ++ digits) ≡ number_from_digits 256 digits
+zeros_in_front zero n digits = refl
+zeros_in_front (suc k) zero digits = refl
+zeros_in_front (suc k) (suc n) digits = zeros_in_front k n digits
+
+-- a number that fits has few digits
+pub few_digits : (width n : ℕ) → FitsBytes width n → length (big_endian n) ≤ width
+few_digits width n fit =
+    let small : n < 256 ^ width = rw (pow-bytes width) fit in
+    rw (big_endian_is) (length-digits_of-le 256 width n (omega arith) small)

@@ -1,17 +1,21 @@
--- Bytes that are exactly one list.
-use Rattle.std.proofs.Common.{◌≡◌, ℕ, ◌^◌, ◌<◌, ◌≤◌, ⊎_elim, true, List, [], ◌∷◌, ◌++◌, length, map, drop, refl, sym, ap}
-use Rattle.std.proofs.{Common.{◌∙◌, subst, arith, ltb, lt-ltb, le_refl, append-nil, drop_at, Option, Some}, Common.{None, Result, Ok, Err}}
-use Rattle.std.proofs.{lemmas.Bool.{cases_Bool, cases_lt, cond-true, cond-false}, lemmas.List.length-map}
-use Rattle.std.specs.List.{concat, slice_get}
-use Rattle.rlp_reading.specs.{declared.error.DecoderError.DecoderError, declared.error.DecoderError.TheVariants.{RlpExpectedToBeList, RlpIsTooBig}}
-use Rattle.rlp_reading.specs.declared.header.PayloadInfo.{PayloadInfo}
-use Rattle.rlp_reading.specs.Format.Framing.{framing, total_len, begins_as_list, items, payload, rest, split, split_within}
-use Rattle.rlp_reading.specs.Format.Framing.{fault_of_some, first_fault, strict_fault, strict_fault_in, strict_list_fault}
-use Rattle.rlp_reading.specs.Views.View.{item_at, item_count, items_fault, strict_view_of}
-use Rattle.rlp_format.specs.Format.Encoding.{Item, list_of, AreBytes, encoding, join, IsSized}
+-- Bytes that are exactly one list, and the items of a view that holds a list.
+use Rattle.std.proofs.Common.{ltb-false, ◌≡◌, ℕ, ◌^◌, ◌<◌, ◌≤◌, true, List, [], ◌∷◌, ◌++◌, length, map, drop, refl, sym, ap, ◌∙◌, subst, arith, ltb}
+use Rattle.std.proofs.Common.{le_refl, append-nil, drop_at, Option, Some, None, Result, Ok, Err, append_assoc, length-append, Bool, false, IsTrue}
+use Rattle.std.proofs.{lemmas.Bool.{cond-true}, lemmas.List.{length-map}}
+use Rattle.std.proofs.{lemmas.List.Elements.{All-from_recursion, recursion_from_All}, lemmas.Simd.map-map}
+use Rattle.std.specs.List.{concat, slice_get, AllByRecursion}
+use Rattle.rlp_format.specs.Format.Encoding.{Item, list_of, AreBytes, encoding, join, IsSized, BeginsWith}
 use Rattle.rlp_format.proofs.Lemmas.Encodings.{front_sized}
-use Rattle.rlp_reading.proofs.{Lemmas.Frames.{Frames, framing_reads, join_is, walk}, Lemmas.Views.{items_of_list, list_shape, payload_bytes}}
-use Rattle.rlp_reading.proofs.{Lemmas.WholeItems.{strict_fault-encoding, whole_by}, Lemmas.Numbered.{item_count-told, slice_get-item_at}}
+use Rattle.rlp_reading.specs.declared.error.DecoderError.{DecoderError}
+use Rattle.rlp_reading.specs.declared.error.DecoderError.TheVariants.{RlpExpectedToBeList, RlpIsTooBig, RlpIsTooShort}
+use Rattle.rlp_reading.specs.declared.header.PayloadInfo.{PayloadInfo}
+use Rattle.rlp_reading.specs.Format.Framing.{framing, total_len, begins_as_list, items, payload, rest, split, split_within, fault_of_some, first_fault}
+use Rattle.rlp_reading.specs.Format.Framing.{strict_fault, strict_fault_in, strict_list_fault, HasHeader, header, payload_info, fault}
+use Rattle.rlp_reading.specs.Views.View.{item_at, item_count, items_fault, strict_view_of, Holds, HoldsItem, View, item_views, list_fault}
+use Rattle.rlp_reading.proofs.Lemmas.Frames.{Frames, framing_reads, join_is, walk, encoding_item, framing_is, longer}
+use Rattle.rlp_reading.proofs.Lemmas.Views.{passed, not_failed, items_of_list, list_shape, payload_bytes, strict_fault-encoding, whole_by, payload_short}
+use Rattle.rlp_reading.proofs.Lemmas.Numbered.{item_count-told, item_at-in_order, item_at-past, length-views, slice_get-middle}
+use Rattle.rlp_reading.proofs.{Lemmas.Reading.{front_bytes, back_bytes, Bytes}, Lemmas.StringsHeld.held_begins}
 
 -- ---- a list without a strict fault is read whole
 
@@ -25,11 +29,7 @@ framed_whole b (Err e) is none = absurd (let no : ⊥ = cc in no)
 framed_whole b (Ok p) is none = record {
   info = p;
   framed = is;
-  all = ⊎_elim
-      (λ long. let some : strict_fault_in b (Ok p) ≡ Some RlpIsTooBig = cond-true (ltb (total_len p) (length b)) _ _ (lt-ltb _ _ long) in
-      absurd (let no : ⊥ = cc in no))
-      (λ few. few)
-      (cases_lt (total_len p) (length b));
+  all = ltb-false _ _ (not_failed (ltb (total_len p) (length b)) RlpIsTooBig none);
 }
 
 -- the conditions under which a list is whole
@@ -49,14 +49,9 @@ no_bytes_by (byte ∷ more) is = absurd (let no : ⊥ = cc in no)
 pub whole_parts : (b : List ℕ) → strict_list_fault b ≡ None → IsWholeList b
 unfolding strict_list_fault
 whole_parts b is =
-    ⊎_elim
-    (λ kind. let both = first_none (strict_fault b) (fault_of_some (rest b))
-    (sym (cond-true (begins_as_list b) (first_fault (strict_fault b) (fault_of_some (rest b))) (Some RlpExpectedToBeList) kind) ∙ is) in
-    record { kind = kind; framed = both.0; none_left = no_bytes_by (rest b) both.1 })
-    (λ kind. let no : Some RlpExpectedToBeList ≡ None =
-    sym (cond-false (begins_as_list b) (first_fault (strict_fault b) (fault_of_some (rest b))) (Some RlpExpectedToBeList) kind)
-    ∙ is in absurd (let none : ⊥ = cc in none))
-    (cases_Bool (begins_as_list b))
+    let parts = passed (begins_as_list b) (first_fault (strict_fault b) (fault_of_some (rest b))) RlpExpectedToBeList is in
+    let both = first_none (strict_fault b) (fault_of_some (rest b)) parts.1 in
+    record { kind = parts.0; framed = both.0; none_left = no_bytes_by (rest b) both.1 }
 
 -- the payload is the items and the bytes that follow them
 pub payload_parts : (b : List ℕ) → AreBytes b → payload b ≡ concat (items b) ++ rest b
@@ -68,10 +63,6 @@ payload_parts b bytes =
     (sym (ap (drop (length (concat (split_within (length (payload b)) (payload b))))) w.is
     ∙ drop_at (concat (split_within (length (payload b)) (payload b))) w.left (length (concat (split_within (length (payload b)) (payload b)))) refl))
 
-items_joined : (b : List ℕ) (xs : List Item) → AreBytes b → rest b ≡ [] → items b ≡ map encoding xs → payload b ≡ join xs
-items_joined b xs bytes none same = payload_parts b bytes ∙ ap (λ r. concat (items b) ++ r) none ∙ append-nil (concat (items b)) ∙ ap concat same
-    ∙ sym (join_is xs)
-
 -- a whole list whose items are encodings is the encoding of the list of these items
 pub whole_list : (b : List ℕ) (xs : List Item) → AreBytes b → strict_list_fault b ≡ None → items b ≡ map encoding xs → b ≡ encoding (list_of xs)
 unfolding strict_fault
@@ -79,7 +70,9 @@ whole_list b xs bytes is same =
     let parts = whole_parts b is in
     let w = framed_whole b (framing b) refl parts.framed in
     let (has, within) = subst (Frames b) w.framed (framing_reads b bytes) in
-    whole_by b w.info.header_len w.info.value_len xs parts.kind (items_joined b xs bytes parts.none_left same) has (let all = w.all in omega arith)
+    let joined : payload b ≡ join xs = payload_parts b bytes ∙ ap (λ r. concat (items b) ++ r) parts.none_left ∙ append-nil (concat (items b)) ∙ ap concat same
+    ∙ sym (join_is xs) in
+    whole_by b w.info.header_len w.info.value_len xs parts.kind joined has (let all = w.all in omega arith)
 
 -- ---- the encoding of a list is a whole list
 
@@ -98,23 +91,103 @@ strict_list_fault-encoding xs b sized is =
 pub strict_told : (b : List ℕ) → begins_as_list b ≡ true → strict_list_fault b ≡ None → items_fault (strict_view_of b) ≡ None
 strict_told b kind is = cond-true (begins_as_list b) _ _ kind ∙ is
 
-pub strict_list_told : (xs : List Item) (b : List ℕ) → IsSized (list_of xs) → b ≡ encoding (list_of xs) → items_fault (strict_view_of b) ≡ None
-strict_list_told xs b sized is = strict_told b (list_shape xs b sized ([], is ∙ sym (append-nil (encoding (list_of xs))))).0
-    (strict_list_fault-encoding xs b sized is)
-
 pub strict_items : (xs : List Item) (b : List ℕ) → IsSized (list_of xs) → b ≡ encoding (list_of xs) → items b ≡ map encoding xs
 strict_items xs b sized is = (items_of_list xs b sized ([], is ∙ sym (append-nil (encoding (list_of xs))))).0
 
-pub strict_item_count : (xs : List Item) (b : List ℕ) → IsSized (list_of xs) → b ≡ encoding (list_of xs) → item_count (strict_view_of b) ≡ Ok (length xs)
-strict_item_count xs b sized is =
-    item_count-told (strict_view_of b) (strict_list_told xs b sized is)
-    ∙ ap (λ fs. Ok (length fs)) (strict_items xs b sized is)
-    ∙ ap Ok (length-map xs encoding)
+-- ---- the items of a slice
 
-first_view : (f : List ℕ) (fs gs : List (List ℕ)) → gs ≡ f ∷ fs → slice_get (map strict_view_of gs) 0 ≡ Some (strict_view_of f)
-first_view f fs gs is = ap (λ gs. slice_get (map strict_view_of gs) 0) is
+-- bytes that a slice can hold
+pub record IsPart (f : List ℕ) : Type 0 where
+  pub held : AreBytes f
+  pub short : length f < 2 ^ 64
 
--- the first item of a strict view
-pub strict_first : (b f : List ℕ) (fs : List (List ℕ)) → items_fault (strict_view_of b) ≡ None → items b ≡ f ∷ fs
-    → item_at (strict_view_of b) 0 ≡ Ok (strict_view_of f)
-strict_first b f fs told is = slice_get-item_at (strict_view_of b) (strict_view_of f) 0 told (first_view f fs (items b) is)
+all_parts : (fs : List (List ℕ)) (left : List ℕ) → Bytes (concat fs ++ left) → length (concat fs ++ left) < 2 ^ 64 → AllByRecursion IsPart fs
+all_parts [] left bytes small = tt
+all_parts (f ∷ fs) left bytes small =
+    let whole : (f ++ concat fs) ++ left ≡ f ++ (concat fs ++ left) = append_assoc f (concat fs) left in
+    let both = subst Bytes whole bytes in
+    let lengths = length-append f (concat fs ++ left) in (
+      record { held = All-from_recursion (λ byte. byte < 2 ^ 8) f (front_bytes f (concat fs ++ left) both); short = omega (arith, ap length whole, lengths) },
+      all_parts fs left (back_bytes f (concat fs ++ left) both) (omega (arith, ap length whole, lengths)),
+    )
+
+-- each item of a slice can be held by a slice
+pub item_parts : (b : List ℕ) → AreBytes b → length b < 2 ^ 64 → AllByRecursion IsPart (items b)
+item_parts b bytes fits =
+    let whole : payload b ≡ concat (items b) ++ rest b = payload_parts b bytes in
+    let held : Bytes (payload b) = recursion_from_All (λ byte. byte < 2 ^ 8) (payload b) (payload_bytes b bytes) in
+    all_parts (items b) (rest b) (subst Bytes whole held) (omega (arith, ap length whole, payload_short b))
+
+-- ---- the items by number of a view, lenient or strict, and of one that holds the encoding of a list
+
+no_bytes_short : fault [] ≡ RlpIsTooShort
+unfolding fault framing header
+no_bytes_short = refl
+
+-- ---- past the last item of a strict view
+
+past_by : (strict : Bool) (b : List ℕ) (i : ℕ) → IsTrue strict → list_fault (record { bytes = b; is_strict = strict }) ≡ None
+    → length (item_views (record { bytes = b; is_strict = strict })) ≤ i → item_at (record { bytes = b; is_strict = strict }) i ≡ Err RlpIsTooShort
+unfolding strict_fault
+past_by false b i strict none past = absurd (let no : ⊥ = cc in no)
+past_by true b i strict none past =
+    let parts = whole_parts b none in
+    let w = framed_whole b (framing b) refl parts.framed in
+    item_at-past (record { bytes = b; is_strict = true }) i w.info (strict_told b parts.kind none) w.framed
+    (omega (arith, past, length-views (record { bytes = b; is_strict = true })))
+    ∙ ap (λ r. Err (fault r)) parts.none_left ∙ ap Err no_bytes_short
+
+-- no bytes follow the items of a strict view that can be read as a list
+pub strict_past : (v : View) (i : ℕ) → IsTrue v.is_strict → list_fault v ≡ None → length (item_views v) ≤ i → item_at v i ≡ Err RlpIsTooShort
+strict_past v i strict none past = past_by v.is_strict v.bytes i strict none past
+
+-- ---- a view that holds the encoding of a list
+
+no_fault_by : (strict : Bool) (b : List ℕ) (xs : List Item) → IsSized (list_of xs) → Holds strict b (encoding (list_of xs))
+    → list_fault (record { bytes = b; is_strict = strict }) ≡ None
+no_fault_by false b xs sized holds = refl
+no_fault_by true b xs sized holds = strict_list_fault-encoding xs b sized holds
+
+module _ (v : View) (xs : List Item) (fits : length v.bytes < 2 ^ 64) (holds : HoldsItem v (list_of xs)) where
+  begins : BeginsWith v.bytes (encoding (list_of xs))
+  begins = held_begins v (list_of xs) holds
+
+  sized : IsSized (list_of xs)
+  sized = front_sized (list_of xs) v.bytes begins.0 fits begins.1
+
+  no_fault : list_fault v ≡ None
+  no_fault = no_fault_by v.is_strict v.bytes xs sized holds
+
+  told : items_fault v ≡ None
+  told = cond-true (begins_as_list v.bytes) (list_fault v) (Some RlpExpectedToBeList) (list_shape xs v.bytes sized begins).0 ∙ no_fault
+
+  framed : (p : PayloadInfo) × (framing v.bytes ≡ Ok p)
+  framed =
+      let item = encoding_item (list_of xs) sized in
+      let header : HasHeader v.bytes item.header_len item.value_len = subst (λ b. HasHeader b item.header_len item.value_len) (sym begins.1) (longer begins.0 item.has_header) in (
+        payload_info item.header_len item.value_len,
+        framing_is v.bytes item.header_len item.value_len header
+            (omega (arith, item.whole, ap length begins.1, length-append (encoding (list_of xs)) begins.0)),
+      )
+
+  pub held_count : item_count v ≡ Ok (length xs)
+  held_count = item_count-told v told ∙ ap (λ fs. Ok (length fs)) (items_of_list xs v.bytes sized begins).0 ∙ ap Ok (length-map xs encoding)
+
+  pub held_views : item_views v ≡ map (λ x. record v { bytes = encoding x }) xs
+  held_views = ap (map (λ b. record v { bytes = b })) (items_of_list xs v.bytes sized begins).0 ∙ map-map (λ b. record v { bytes = b }) encoding xs
+
+  pub held_past : (i : ℕ) → length xs ≤ i → item_at v i ≡ Err RlpIsTooShort
+  held_past i past =
+      let left = items_of_list xs v.bytes sized begins in
+      let (p, is) = framed in
+      item_at-past v i p told is (omega (arith, past, ap length left.0, length-map xs encoding))
+      ∙ ap (λ r. Err (fault r)) left.1 ∙ ap Err no_bytes_short
+
+pub held_at : (v : View) (before after : List Item) (x : Item) → length v.bytes < 2 ^ 64 → HoldsItem v (list_of (before ++ x ∷ after))
+    → item_at v (length before) ≡ Ok (record v { bytes = encoding x })
+held_at v before after x fits holds =
+    (item_at-in_order v (record v { bytes = encoding x }) (length before)).1 (
+      no_fault v (before ++ x ∷ after) fits holds,
+      ap (λ vs. slice_get vs (length before)) (held_views v (before ++ x ∷ after) fits holds)
+          ∙ slice_get-middle (λ (y : Item). record v { bytes = encoding y }) before after x,
+    )

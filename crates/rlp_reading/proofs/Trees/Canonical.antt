@@ -1,115 +1,152 @@
--- Bytes that are and aren't the encoding of an item within a depth.
-use Rattle.std.proofs.Common.{◌≡◌, ℕ, suc, max, ◌-◌, ◌^◌, ◌<◌, ◌≤◌, ◌↔◌, Bool, true, false, List, [], ◌∷◌, ◌++◌, length, map, refl, sym, ap, ◌∙◌}
-use Rattle.std.proofs.Common.{subst, arith, append-nil, length-append, IsTrue, Some, None}
-use Rattle.std.specs.List.{concat}
+-- Bytes that are and aren't the encoding of an item within a depth, and their first fault.
+use Rattle.std.proofs.Common.{◌≡◌, ℕ, suc, ◌-◌, ◌^◌, ◌<◌, ◌≤◌, ◌↔◌, Bool, true, false, List, [], ◌∷◌, ◌++◌, length, map, refl, sym, ap, ◌∙◌, subst}
+use Rattle.std.proofs.{Common.{arith, append-nil, IsTrue, Some, None, ◌≢◌, zero, Option}, lemmas.Bool.{cond-true, cond-false}}
+use Rattle.rlp_format.specs.Format.Encoding.{Item, Items, string, list, listed, list_of, item_depth, items_depth, encoding, join, IsSized}
+use Rattle.rlp_format.proofs.Lemmas.Encodings.{items_from-listed}
 use Rattle.rlp_reading.specs.declared.error.DecoderError.{DecoderError}
-use Rattle.rlp_reading.specs.Format.Framing.{begins_as_list, items, payload, split, IsCanonicalWithin, strict_fault}
-use Rattle.rlp_format.specs.Format.Encoding.{Item, Items, string, list, items_from, listed, list_of, item_depth, items_depth, encoding, join, IsSized}
-use Rattle.rlp_format.proofs.Lemmas.Encodings.{front_sized, items_from-listed}
-use Rattle.rlp_reading.proofs.{Lemmas.Frames.join_is, Lemmas.Views.{items_of_list, list_shape, payload_of_list}}
-use Rattle.rlp_reading.proofs.{Lemmas.WholeItems.strict_fault-encoding, Lemmas.Depths.not_list}
-
-sized_whole : (x : Item) (b : List ℕ) → length b < 2 ^ 64 → b ≡ encoding x → IsSized x
-sized_whole x b fits is = front_sized x b [] fits (is ∙ sym (append-nil (encoding x)))
-
-list_again : (ys : Items) → list_of (listed ys) ≡ list ys
-list_again ys = ap list (items_from-listed ys)
-
--- bytes that don't begin as a list can only be canonical as a string
-string_alone : (b : List ℕ) (x : Item) → length b < 2 ^ 64 → false ≡ begins_as_list b → b ≡ encoding x → (d : List ℕ) × (b ≡ encoding (string d))
-string_alone b (string s) fits kind is = (s, is)
-string_alone b (list ys) fits kind is =
-    let is' : b ≡ encoding (list_of (listed ys)) = is ∙ ap encoding (sym (list_again ys)) in
-    let begins : begins_as_list b ≡ true =
-    (list_shape (listed ys) b (sized_whole (list_of (listed ys)) b fits is') ([], is' ∙ sym (append-nil (encoding (list_of (listed ys)))))).0 in
-    absurd (let no : ⊥ = cc in no)
-
-pub string_canonical : (b : List ℕ) (most : ℕ) (r : Bool) → length b < 2 ^ 64 → false ≡ begins_as_list b
-    → (IsTrue r ↔ ((d : List ℕ) × (b ≡ encoding (string d)))) → IsTrue r ↔ IsCanonicalWithin most b
-string_canonical b most r fits kind found = (
-  λ t. let (d, is) = found.0 t in (string d, is, let low : 0 ≤ most = omega arith in low),
-  λ (x, is, deep). found.1 (string_alone b x fits kind is),
-)
-
--- a list within a depth
-record IsListWithin (b : List ℕ) (most : ℕ) : Type 0 where
-  xs : List Item
-  is : b ≡ encoding (list_of xs)
-  deep : suc (items_depth (items_from xs)) ≤ most
-
-list_alone : (b : List ℕ) (most : ℕ) (x : Item) → length b < 2 ^ 64 → true ≡ begins_as_list b → b ≡ encoding x → item_depth x ≤ most → IsListWithin b most
-list_alone b most (string s) fits kind is deep =
-    let other : begins_as_list b ≡ false = not_list s b (sized_whole (string s) b fits is) ([], is ∙ sym (append-nil (encoding (string s)))) in
-    absurd (let no : ⊥ = cc in no)
-list_alone b most (list ys) fits kind is deep = record {
-  xs = listed ys;
-  is = is ∙ ap encoding (sym (list_again ys));
-  deep = subst (λ zs. suc (items_depth zs) ≤ most) (sym (items_from-listed ys)) deep;
-}
-
-pub too_deep : (b : List ℕ) (most : ℕ) → length b < 2 ^ 64 → true ≡ begins_as_list b → most ≡ 0 → ¬ IsCanonicalWithin most b
-too_deep b most fits kind none (x, is, deep) = let l = list_alone b most x fits kind is deep in omega (arith, l.deep)
+use Rattle.rlp_reading.specs.Format.Framing.{begins_as_list, payload, split, IsCanonicalWithin, strict_fault, fault, after_items, fault_of_some}
+use Rattle.rlp_reading.specs.{declared.error.DecoderError.TheVariants.RlpInvalidIndirection, declared.flat.TreeFault.TreeFault}
+use Rattle.rlp_reading.specs.declared.flat.TreeFault.TheVariants.{Decoding, TooDeep}
+use Rattle.rlp_reading.specs.Format.TreeFaults.{first_in, first_of, is_needless, payload_fault, needless_fault, tree_fault, walk_fault}
+use Rattle.rlp_reading.proofs.{Lemmas.Views.{payload_of_list, strict_fault-encoding}}
+use Rattle.rlp_reading.proofs.Lemmas.Numbered.{split-nil, after_items-next, after_items-nil, after_items-none, fault_of_some-some}
+use Rattle.rlp_reading.proofs.Lemmas.{Views.front_kind, WholeLists.whole_sized}
+use Rattle.std.proofs.{Common.{◌==◌, ltb, lt-ltb, ltb-true, Ok, Err}, lemmas.Bool.{and_parts, eqb-true}, lemmas.List.Elements.All-from_recursion}
+use Rattle.std.specs.List.{AllByRecursion}
+use Rattle.rlp_format.specs.Format.Encoding.{item_and, no_items}
+use Rattle.rlp_format.proofs.Lemmas.Encodings.{AllSized, list_written, parts_sized}
+use Rattle.rlp_reading.specs.Format.Framing.{read_string}
+use Rattle.rlp_reading.proofs.Lemmas.{Frames.split_join, Strings.string_only}
 
 pub not_whole : (b : List ℕ) (most : ℕ) (e : DecoderError) → length b < 2 ^ 64 → strict_fault b ≡ Some e → ¬ IsCanonicalWithin most b
 not_whole b most e fits some (x, whole, deep) =
-    let none : strict_fault b ≡ None = strict_fault-encoding x b (sized_whole x b fits whole) whole in cc
-
--- ---- the walk
-
-pub split_items : (b q : List ℕ) → q ≡ payload b → split q ≡ items b
-unfolding items
-split_items b q same = ap split same
-
--- the payload of a list is its items, one after another
-payload_joined : (b : List ℕ) (xs : List Item) → length b < 2 ^ 64 → b ≡ encoding (list_of xs) → payload b ≡ join xs
-payload_joined b xs fits is = payload_of_list xs b (sized_whole (list_of xs) b fits is) ([], is ∙ sym (append-nil (encoding (list_of xs))))
-
-listed_items : (b : List ℕ) (xs : List Item) → length b < 2 ^ 64 → b ≡ encoding (list_of xs) → items b ≡ map encoding xs
-listed_items b xs fits is = (items_of_list xs b (sized_whole (list_of xs) b fits is) ([], is ∙ sym (append-nil (encoding (list_of xs))))).0
-
--- bytes of a payload that aren't an item
-pub stray_bytes : (b rest : List ℕ) (most : ℕ) (done : List Item) → length b < 2 ^ 64 → true ≡ begins_as_list b
-    → map encoding done ++ split rest ≡ items b → payload b ≡ join done ++ rest → split rest ≡ [] → 0 < length rest
-    → ¬ IsCanonicalWithin most b
-stray_bytes b rest most done fits kind all whole none some (x, is, deep) =
-    let l = list_alone b most x fits kind is deep in
-    let same : map encoding done ≡ map encoding l.xs = sym (append-nil (map encoding done)) ∙ ap (λ s. map encoding done ++ s) (sym none) ∙ all
-    ∙ listed_items b l.xs fits l.is in
-    let joined : join done ≡ join l.xs = join_is done ∙ ap concat same ∙ sym (join_is l.xs) in
-    let bytes : join done ++ rest ≡ join done = sym whole ∙ payload_joined b l.xs fits l.is ∙ sym joined in
-    omega (arith, ap length bytes, length-append (join done) rest)
-
--- each of the encodings is that of an item, no deeper than the deepest
-one_of : (before after : List (List ℕ)) (f : List ℕ) (xs : List Item) → before ++ f ∷ after ≡ map encoding xs → (y : Item) × (f ≡ encoding y)
-    × (item_depth y ≤ items_depth (items_from xs))
-one_of [] after f [] is = absurd (let no : ⊥ = cc in no)
-one_of (g ∷ before) after f [] is = absurd (let no : ⊥ = cc in no)
-one_of [] after f (x ∷ xs) is = let same : f ≡ encoding x = cc in
-    (x, same, let low : item_depth x ≤ max (item_depth x) (items_depth (items_from xs)) = omega arith in low)
-one_of (g ∷ before) after f (x ∷ xs) is =
-    let more : before ++ f ∷ after ≡ map encoding xs = cc in
-    let (y, same, low) = one_of before after f xs more in
-    (y, same, let below : item_depth y ≤ max (item_depth x) (items_depth (items_from xs)) = omega (arith, low) in below)
-
--- an item that isn't canonical within the depth that is left
-pub stray_item : (b rest item others : List ℕ) (most : ℕ) (done : List Item) → length b < 2 ^ 64 → true ≡ begins_as_list b
-    → map encoding done ++ split rest ≡ items b → split rest ≡ item ∷ split others → ¬ IsCanonicalWithin (most - 1) item
-    → ¬ IsCanonicalWithin most b
-stray_item b rest item others most done fits kind all parts other (x, is, deep) =
-    let l = list_alone b most x fits kind is deep in
-    let same : map encoding done ++ item ∷ split others ≡ map encoding l.xs = ap (λ s. map encoding done ++ s) (sym parts) ∙ all
-    ∙ listed_items b l.xs fits l.is in
-    let (y, found, low) = one_of (map encoding done) (split others) item l.xs same in
-    other (y, found, omega (arith, low, l.deep))
-
-never : false ≡ true → ⊥
-never e = cc
+    let none : strict_fault b ≡ None = strict_fault-encoding x b (whole_sized x b fits whole) whole in cc
 
 pub refuted : {P : Type 0} → (P → ⊥) → IsTrue false ↔ P
-refuted none = (λ t. absurd (never t), λ p. absurd (none p))
-
-pub not_true : {P : Type 0} → (P → IsTrue false) → P → ⊥
-not_true from p = never (from p)
+refuted none = (λ t. absurd (let no : ⊥ = cc in no), λ p. absurd (none p))
 
 pub confirmed : {P : Type 0} → P → IsTrue true ↔ P
 confirmed p = (λ t. p, λ q. refl)
+
+-- ---- one item
+
+pub walk_fault-string : (left : ℕ) (f : List ℕ) → begins_as_list f ≡ false → walk_fault left f ≡ needless_fault f
+unfolding walk_fault
+walk_fault-string zero f kind = cond-false (begins_as_list f) _ _ kind
+walk_fault-string (suc left) f kind = cond-false (begins_as_list f) _ _ kind
+
+pub walk_fault-deep : (left : ℕ) (f : List ℕ) → begins_as_list f ≡ true → left ≡ 0 → walk_fault left f ≡ Some TooDeep
+unfolding walk_fault
+walk_fault-deep zero f kind none = cond-true (begins_as_list f) _ _ kind
+walk_fault-deep (suc left) f kind none = absurd (omega (arith, none))
+
+pub walk_fault-list : (left : ℕ) (f : List ℕ) → begins_as_list f ≡ true → left ≢ 0 → walk_fault left f ≡ payload_fault (walk_fault (left - 1)) (payload f)
+unfolding walk_fault
+walk_fault-list zero f kind some = absurd (some refl)
+walk_fault-list (suc left) f kind some =
+    cond-true (begins_as_list f) _ _ kind
+    ∙ ap (λ n. payload_fault (walk_fault n) (payload f)) (let same : left ≡ suc left - 1 = omega arith in same)
+
+pub needless_fault-none : (f : List ℕ) → is_needless f ≡ false → needless_fault f ≡ None
+needless_fault-none f is = cond-false (is_needless f) _ _ is
+
+pub needless_fault-some : (f : List ℕ) → is_needless f ≡ true → needless_fault f ≡ Some (Decoding RlpInvalidIndirection)
+needless_fault-some f is = cond-true (is_needless f) _ _ is
+
+-- ---- the items of a payload
+
+module _ (item_fault : List ℕ → Option TreeFault) (rest item others : List ℕ) (parts : split rest ≡ item ∷ split others) where
+  first_is : payload_fault item_fault rest ≡ first_of (item_fault item ∷ map item_fault (split others)) (fault_of_some (after_items rest))
+  first_is = ap (λ fs. first_of (map item_fault fs) (fault_of_some (after_items rest))) parts
+
+  -- an item without a fault
+  pub payload_fault-next : rest ≡ item ++ others → item_fault item ≡ None → payload_fault item_fault rest ≡ payload_fault item_fault others
+  payload_fault-next whole none =
+      first_is ∙ ap (λ o. first_of (o ∷ map item_fault (split others)) (fault_of_some (after_items rest))) none
+      ∙ ap (λ p. first_of (map item_fault (split others)) (fault_of_some p)) (after_items-next rest item others parts whole)
+
+  -- an item with a fault
+  pub payload_fault-item : (e : TreeFault) → item_fault item ≡ Some e → payload_fault item_fault rest ≡ Some e
+  payload_fault-item e some = first_is ∙ ap (λ o. first_of (o ∷ map item_fault (split others)) (fault_of_some (after_items rest))) some
+
+-- bytes that aren't an item
+pub payload_fault-stray : (item_fault : List ℕ → Option TreeFault) (rest : List ℕ) → split rest ≡ [] → 0 < length rest
+    → payload_fault item_fault rest ≡ Some (Decoding (fault rest))
+payload_fault-stray item_fault rest none some =
+    ap (λ fs. first_of (map item_fault fs) (fault_of_some (after_items rest))) none
+    ∙ ap (λ p. first_of [] (fault_of_some p)) (after_items-none rest none)
+    ∙ ap (first_of []) (fault_of_some-some rest some)
+
+-- no bytes
+pub payload_fault-none : (item_fault : List ℕ → Option TreeFault) (rest : List ℕ) → rest ≡ [] → payload_fault item_fault rest ≡ None
+payload_fault-none item_fault rest none =
+    ap (payload_fault item_fault) none
+    ∙ ap (λ fs. first_of (map item_fault fs) (fault_of_some (after_items []))) split-nil
+    ∙ ap (λ p. first_of [] (fault_of_some p)) after_items-nil
+
+-- ---- the whole
+
+pub tree_fault-frame : (most : ℕ) (b : List ℕ) (e : DecoderError) → strict_fault b ≡ Some e → tree_fault most b ≡ Some (Decoding e)
+unfolding tree_fault
+tree_fault-frame most b e is = ap (λ o. first_in o (walk_fault most b)) is
+
+pub tree_fault-inside : (most : ℕ) (b : List ℕ) (e : TreeFault) → strict_fault b ≡ None → walk_fault most b ≡ Some e → tree_fault most b ≡ Some e
+unfolding tree_fault
+tree_fault-inside most b e whole is = ap (λ o. first_in o (walk_fault most b)) whole ∙ is
+
+-- ---- the encoding of an item within the depth
+
+-- a needless header stands in front of one byte
+needless_bytes : (b : List ℕ) → is_needless b ≡ true → (byte : ℕ) × (b ≡ 0x81 ∷ byte ∷ []) × (byte < 0x80)
+needless_bytes (first ∷ byte ∷ []) is =
+    let both = and_parts (first == 0x81) (ltb byte 0x80) is in
+    (byte, ap (λ k. k ∷ byte ∷ []) (eqb-true first 0x81 both.0), ltb-true byte 0x80 both.1)
+needless_bytes b is = absurd (let none : ⊥ = cc in none)
+
+needless_unread : (byte : ℕ) → byte < 0x80 → read_string (0x81 ∷ byte ∷ []) ≡ Err RlpInvalidIndirection
+unfolding read_string
+needless_unread byte low = cond-true (ltb byte 0x80) _ _ (lt-ltb byte 0x80 low)
+
+-- such bytes are no string's encoding
+not_needless : (s : List ℕ) → IsSized (string s) → is_needless (encoding (string s)) ≡ false
+not_needless s sized = by (is_needless (encoding (string s))) refl
+  where
+    by : (needless : Bool) → is_needless (encoding (string s)) ≡ needless → needless ≡ false
+    by false is = refl
+    by true is =
+        let (byte, same, low) = needless_bytes (encoding (string s)) is in
+        let read = string_only (encoding (string s)) s sized ([], sym (append-nil (encoding (string s)))) in
+        let no : Ok s ≡ Err RlpInvalidIndirection = sym read ∙ ap read_string same ∙ needless_unread byte low in
+        absurd (let none : ⊥ = cc in none)
+
+sized_listed : (ys : Items) → AllSized ys → AllByRecursion IsSized (listed ys)
+sized_listed no_items sized = tt
+sized_listed (item_and y ys) (one, sized) = (one, sized_listed ys sized)
+
+mutual
+  -- the encoding has no fault
+  walk_fault-encoding : (most : ℕ) (x : Item) → IsSized x → item_depth x ≤ most → walk_fault most (encoding x) ≡ None
+  walk_fault-encoding most (string s) sized deep =
+      walk_fault-string most (encoding (string s)) (front_kind (string s) (encoding (string s)) sized ([], sym (append-nil (encoding (string s)))))
+      ∙ needless_fault-none (encoding (string s)) (not_needless s sized)
+  walk_fault-encoding most (list ys) sized deep =
+      let same : list ys ≡ list_of (listed ys) = sym (ap list (items_from-listed ys)) in
+      let whole : encoding (list ys) ≡ encoding (list_of (listed ys)) ++ [] = ap encoding same ∙ sym (append-nil (encoding (list_of (listed ys)))) in
+      walk_fault-list most (encoding (list ys)) (front_kind (list ys) (encoding (list ys)) sized ([], sym (append-nil (encoding (list ys))))) (λ none. omega (arith, none, deep))
+      ∙ ap (payload_fault (walk_fault (most - 1))) (payload_of_list (listed ys) (encoding (list ys)) (subst IsSized same sized) ([], whole))
+      ∙ payload_fault-encodings (most - 1) ys (parts_sized ys (list_written ys sized).small) (omega (arith, deep))
+
+  payload_fault-encodings : (most : ℕ) (ys : Items) → AllSized ys → items_depth ys ≤ most → payload_fault (walk_fault most) (join (listed ys)) ≡ None
+  payload_fault-encodings most no_items sized deep = payload_fault-none (walk_fault most) [] refl
+  payload_fault-encodings most (item_and y ys) (one, sized) deep =
+      let parts : split (encoding y ++ join (listed ys)) ≡ encoding y ∷ split (join (listed ys)) =
+      split_join (y ∷ listed ys) (All-from_recursion IsSized (y ∷ listed ys) (one, sized_listed ys sized))
+      ∙ ap (λ fs. encoding y ∷ fs) (sym (split_join (listed ys) (All-from_recursion IsSized (listed ys) (sized_listed ys sized)))) in
+      payload_fault-next (walk_fault most) (encoding y ++ join (listed ys)) (encoding y) (join (listed ys)) parts refl
+      (walk_fault-encoding most y one (omega arith))
+      ∙ payload_fault-encodings most ys sized (omega arith)
+
+-- bytes with a fault are no such encoding
+pub fault_refutes : (most : ℕ) (b : List ℕ) (e : TreeFault) → length b < 2 ^ 64 → walk_fault most b ≡ Some e → ¬ IsCanonicalWithin most b
+fault_refutes most b e fits fault (x, is, deep) =
+    let none : walk_fault most b ≡ None = ap (walk_fault most) is ∙ walk_fault-encoding most x (whole_sized x b fits is) deep in cc

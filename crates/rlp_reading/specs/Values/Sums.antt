@@ -17,5 +17,3 @@ sum_item item other (inr y) = other y
 abbrev pub sum_tag : {A B : Type 0} → ℕ → (B → ℕ) → A ⊎ B → ℕ
 sum_tag tag more (inl x) = tag
 sum_tag tag more (inr y) = more y
-
--- ---- a list of a tag and a payload

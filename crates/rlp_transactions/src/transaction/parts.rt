@@ -7,61 +7,33 @@ use crate::{AccessList, Recipient, Transaction};
 use rlp::Uint;
 use rlp_records::Address;
 
-/// The value of an expression about the payload of a transaction of any type.
-macro_rules! of_payload {
-    ($transaction:expr, $payload:ident => $value:expr) => {
-        match $transaction {
-            Transaction::Legacy(tx) => {
-                let $payload = &tx.payload;
-                $value
-            }
-            Transaction::AccessList(tx) => {
-                let $payload = &tx.payload;
-                $value
-            }
-            Transaction::FeeMarket(tx) => {
-                let $payload = &tx.payload;
-                $value
-            }
-            Transaction::Blob(tx) => {
-                let $payload = &tx.payload;
-                $value
-            }
-            Transaction::SetCode(tx) => {
-                let $payload = &tx.payload;
-                $value
-            }
-        }
-    };
-}
-
 impl Transaction {
     /// Returns the number of transactions that the sender has sent before.
     pub fn nonce(&self) -> u64
         ensures { result ≡ nonce_of self.now }
     {
-        of_payload!(self, payload => payload.nonce)
+        of_each!(self, tx => tx.payload.nonce)
     }
 
     /// Returns the gas that the transaction may use at most.
     pub fn gas_limit(&self) -> u64
         ensures { result ≡ gas_limit_of self.now }
     {
-        of_payload!(self, payload => payload.gas_limit)
+        of_each!(self, tx => tx.payload.gas_limit)
     }
 
     /// Returns the value that is sent, in Wei.
     pub fn value(&self) -> &Uint<32>
         ensures { result.now ≡ value_of self.now }
     {
-        of_payload!(self, payload => &payload.value)
+        of_each!(self, tx => &tx.payload.value)
     }
 
     /// Returns the input of the call, or the code that creates the contract.
     pub fn input(&self) -> &[u8]
         ensures { result.now ≡ input_of self.now }
     {
-        of_payload!(self, payload => payload.data.as_slice())
+        of_each!(self, tx => tx.payload.data.as_slice())
     }
 
     /// Returns the price of a unit of gas, in Wei, for a transaction without a type or of type 1, and

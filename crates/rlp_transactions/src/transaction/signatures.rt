@@ -1,12 +1,11 @@
 //! Signatures of transactions of every type.
 
-ghost use Rattle.std.specs.Prelude.{◌≡◌, ◌↔◌, Bool, IfNone, IfOk, IfSome, IsTrue};
-ghost use Rattle.rlp_transactions.specs.{declared.unsigned_transaction.UnsignedTransaction.UnsignedTransaction, Secp256k1.IsLow};
-ghost use Rattle.rlp_transactions.specs.{Signatures.{HasNoV, IsChainOf, Signs, r_of, s_of}, UnsignedTransaction.unsigned_transaction};
+ghost use Rattle.std.specs.Prelude.{◌↔◌, ◌≡◌, Bool, IfNone, IfOk, IfSome, IsTrue};
 ghost use Rattle.rlp_records.specs.Alone.{bytes_alone};
+ghost use Rattle.rlp_transactions.specs.{Secp256k1.IsLow, TransactionParts.{HasNoV, IsChainOf, Signs, r_of, s_of}, UnsignedTransaction.unsigned_transaction, declared.unsigned_transaction.UnsignedTransaction.UnsignedTransaction};
 
+use crate::legacy_transaction::unsigned_bytes;
 use crate::signed::Tagged;
-use crate::unsigned_legacy_transaction::unsigned_bytes;
 use crate::{NonZeroScalar, Transaction, UnsignedLegacyTransaction, UnsignedTransaction};
 use bytes::BytesMut;
 use std::alloc::{AllocError, Global};
@@ -30,26 +29,14 @@ impl Transaction {
     pub fn r(&self) -> &NonZeroScalar
         ensures { result.now ≡ r_of self.now }
     {
-        match self {
-            Transaction::Legacy(tx) => &tx.r,
-            Transaction::AccessList(tx) => &tx.r,
-            Transaction::FeeMarket(tx) => &tx.r,
-            Transaction::Blob(tx) => &tx.r,
-            Transaction::SetCode(tx) => &tx.r,
-        }
+        of_each!(self, tx => &tx.r)
     }
 
     /// Returns the second number of the signature.
     pub fn s(&self) -> &NonZeroScalar
         ensures { result.now ≡ s_of self.now }
     {
-        match self {
-            Transaction::Legacy(tx) => &tx.s,
-            Transaction::AccessList(tx) => &tx.s,
-            Transaction::FeeMarket(tx) => &tx.s,
-            Transaction::Blob(tx) => &tx.s,
-            Transaction::SetCode(tx) => &tx.s,
-        }
+        of_each!(self, tx => &tx.s)
     }
 
     /// Whether the second number of the signature is low, as EIP-2 demands.

@@ -18,54 +18,44 @@ const HASHES_TEXT: &str =
 #[test]
 fn test_rlp_display(rt: HostRuntime) -> Result<(), Fail> {
     let mut wrong = Line::new();
-    check_row(
-        rt.alloc(),
-        "lenient view text",
-        HASHES,
-        HASHES_TEXT,
-        &mut wrong,
-    );
+    check_row(rt.alloc(), "view text", HASHES, HASHES_TEXT, &mut wrong);
     wrong.none_noted()
 }
 
-// The first item is asked for again.
+/// A list of two texts, by the calls that give items, and the texts.
+const TEXTS: &str = "items:
+    c88363617483646f67 | Ok(2) Ok(83636174) 1 Ok(83646f67) 5 Err(RlpIsTooShort)
+    payload:
+    83636174 | 1 3 636174 of Ok(83636174)
+    83646f67 | 1 3 646f67 of Ok(83646f67)";
+
 #[test]
 fn rlp_at(rt: HostRuntime) -> Result<(), Fail> {
-    let table = "lenient at:
-        c88363617483646f67 0 1 0 \
-        | Ok(83636174) Ok(\"cat\"); Ok(83646f67) Ok(\"dog\"); Ok(83636174) Ok(\"cat\");";
-    check_rows(rt.alloc(), table)
+    check_rows(rt.alloc(), TEXTS)
 }
 
-// Before each item comes the number of items that are left, and the first item is asked for at the
-// end.
 #[test]
 fn rlp_iter(rt: HostRuntime) -> Result<(), Fail> {
-    let table = "lenient iterated:
-        c88363617483646f67 0 | 2 (2, Some(2)) Ok(83636174); 1 (1, Some(1)) Ok(83646f67); \
-        0 (0, Some(0)); 0 (0, Some(0)); Ok(83636174) Ok(\"cat\");";
-    check_rows(rt.alloc(), table)
+    check_rows(rt.alloc(), TEXTS)
 }
 
 #[test]
 fn rlp_at_with_offset(rt: HostRuntime) -> Result<(), Fail> {
-    let table = "lenient at_with_offset:
-        c88363617483646f67 0 1 0 | Ok(83636174) 1; Ok(83646f67) 5; Ok(83636174) 1;";
-    check_rows(rt.alloc(), table)
+    check_rows(rt.alloc(), TEXTS)
 }
 
 #[test]
 fn rlp_at_err(rt: HostRuntime) -> Result<(), Fail> {
-    let table = "lenient item:
-        c88363617483646f 0 | Err(RlpIsTooShort) RlpIsTooShort
-        c88363617483646f 1 | Err(RlpIsTooShort) RlpIsTooShort";
-    check_rows(rt.alloc(), table)
+    check_rows(
+        rt.alloc(),
+        "items:\nc88363617483646f | Ok(0) Err(RlpIsTooShort)",
+    )
 }
 
 // The first bytes of the long headers of strings, without other bytes.
 #[test]
 fn test_rlp_is_int(rt: HostRuntime) -> Result<(), Fail> {
-    let table = "lenient view int:\nb8 | false\nb9 | false\nba | false\nbb | false\nbc | false
+    let table = "view int:\nb8 | false\nb9 | false\nba | false\nbb | false\nbc | false
         bd | false\nbe | false\nbf | false";
     check_rows(rt.alloc(), table)
 }

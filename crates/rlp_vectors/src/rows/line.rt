@@ -78,7 +78,7 @@ impl fmt::Write for Line {
 }
 
 /// Bytes that print as hexadecimal digits.
-#[derive(Drop)]
+#[derive(PartialEq, Drop)]
 pub struct Hex<'a>(pub &'a [u8]);
 
 impl<'a> fmt::Debug for Hex<'a> {

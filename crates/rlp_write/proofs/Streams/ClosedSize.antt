@@ -1,15 +1,14 @@
 -- The closed size is computed from the places of the open lists.
 use Rattle.std.proofs.Common.{◌≡◌, ℕ, ◌+◌, ◌-◌, ◌*◌, ◌^◌, ◌<◌, ◌≤◌, Bool, List, [], ◌∷◌, ◌++◌, length, take, drop, replicate, sym, ◌∙◌}
-use Rattle.std.proofs.{Common.{ap, subst, arith, append-nil, length-append, length-drop, ⊎_elim, suc, Option, Some, None}, lemmas.Bool.cases_lt}
+use Rattle.std.proofs.{Common.{ap, subst, arith, append-nil, length-append, length-drop, ⊎_elim, suc}, lemmas.Bool.cases_lt}
 use Rattle.std.proofs.lemmas.List.{length-take-le, length-replicate}
-use Rattle.std.specs.Option.{SomeIff}
 use Rattle.rlp_write.specs.declared.open_lists.Placeholder.{Placeholder}
 use Rattle.rlp_write.specs.Streams.Stream.{closed_payload_around, State, list_encoding, closed_size, closed_size_with}
 use Rattle.rlp_write.specs.{Streams.Placeholders.{begin_of, lists_of, IsLaid, Descends}, Streams.Closing.{header_len, closed_len, left_of}}
 use Rattle.rlp_write.specs.Streams.Layout.{state_of}
 use Rattle.rlp_format.specs.Format.Encoding.{big_endian, written_header}
 use Rattle.rlp_format.proofs.{Lemmas.Digits.big_endian_length, Lemmas.Headers.{written_header_short, written_header_long}}
-use Rattle.rlp_write.proofs.Streams.FlatBuffer.{start_le}
+use Rattle.rlp_write.proofs.Streams.FlatBuffer.{start_le, laid_descends, left_behind}
 
 closed_len_is : (start : ℕ) (b x : List ℕ) (ps : List Placeholder) → IsLaid start b ps
     → length (closed_payload_around list_encoding (drop (begin_of start ps) b ++ x) (lists_of start b ps)) ≡ closed_len start (length b) (length x) ps
@@ -113,16 +112,12 @@ measured_all start end more whole left tail (p ∷ lists) h none = absurd (let n
 pub closed_size_none : (s : State) → closed_size_with 0 s ≡ closed_size s
 closed_size_none s = ap (λ b. length (closed_payload_around list_encoding b s.stack.lists)) (append-nil s.stack.inner)
 
--- a small size is found
-pub found : (r : Option ℕ) (P : Type 0) (v : ℕ) → SomeIff r P v → P → r ≡ Some v
-found None P v h p = absurd (h p)
-found (Some w) P v h p = ap Some h.1
+-- the closed size is small: a buffer has fewer than 2^63 bytes, and there are fewer than 2^59 places
+pub closed_small : (start : ℕ) (b : List ℕ) (ps : List Placeholder) (m : Bool) → IsLaid start b ps → length b < 2 ^ 63 → 24 * length ps < 2 ^ 63
+    → closed_size (state_of start b ps m) < 2 ^ 64
+closed_small start b ps m h short few =
+    omega (arith, closed_len_few start 0 b ps h (omega arith), closed_size_is start b ps m 0 h, closed_size_none (state_of start b ps m))
 
--- the size of the bytes of a buffer is found: a buffer has fewer than 2^63 bytes, and there are fewer than 2^63 places
-pub found_len : (start end : ℕ) (b : List ℕ) (ps : List Placeholder) (r : Option ℕ) → end ≡ length b
-    → SomeIff r (closed_len start end 0 ps < 2 ^ 64) (closed_len start end 0 ps) → IsLaid start b ps
-    → end < 2 ^ 63 → 24 * length ps < 2 ^ 63 → r ≡ Some (closed_len start end 0 ps)
-found_len start end b ps r ends is laid below few =
-    let bound : closed_len start end 0 ps ≤ (length b - start) + 8 * length ps + 0 =
-    rw ends (closed_len_few start 0 b ps laid (omega (arith, ends))) in
-    found r (closed_len start end 0 ps < 2 ^ 64) (closed_len start end 0 ps) is (omega (arith, bound, ends))
+pub ruleset measures = (measured_more, measured_all, measured_long, measured_encoded)
+
+pub ruleset placed = (laid_descends, left_behind)

@@ -145,21 +145,6 @@ pub counted_closed : (k : ℕ) (ps : List Placeholder) → closes k ps ≡ true 
 counted_closed k [] e = absurd (let no : ⊥ = cc in no)
 counted_closed k (p ∷ ps) e = rw e (counted_one ps)
 
--- the number of moved bytes grows by the length of the bytes that are moved
-pub moved_within : (begin at len old new : ℕ) → begin ≤ at → (begin < at → new ≡ old + len) → (begin ≡ at → new ≡ old) → new ≤ old + len
-moved_within begin at len old new forward counts stays =
-    ⊎_elim (λ before. omega (arith, counts before)) (λ after. omega (arith, stays (omega arith))) (cases_lt begin at)
-
--- and it doesn't shrink
-pub moved_more : (begin at len old new : ℕ) → begin ≤ at → (begin < at → new ≡ old + len) → (begin ≡ at → new ≡ old) → old ≤ new
-moved_more begin at len old new forward counts stays =
-    ⊎_elim (λ before. omega (arith, counts before)) (λ after. omega (arith, stays (omega arith))) (cases_lt begin at)
-
--- places that descend from a lower place also descend from a higher one
-pub descends_le : (low high : ℕ) (ps : List Placeholder) → low ≤ high → Descends low ps → Descends high ps
-descends_le low high [] le d = tt
-descends_le low high (p ∷ ps) le d = (omega (arith, d.0), d.1)
-
 -- ---- what the innermost lists await
 
 -- an element that is set, in the reversed list

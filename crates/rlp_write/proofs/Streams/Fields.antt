@@ -1,11 +1,11 @@
 -- Values that are appended one after another, such as the fields of a struct.
-use Rattle.std.proofs.Common.{◌≡◌, ◌<◌, ◌≤◌, ◌+◌, ◌^◌, ℕ, Option, Some, None, zero, suc, List, [], ◌∷◌, ◌++◌, length, take, drop, get_or, map, refl, sym}
-use Rattle.std.proofs.{Common.{ap, ◌∙◌, subst, arith, append-nil, append_assoc, length-append}, lemmas.List.{length-map, take_more, take-append-drop}}
+use Rattle.std.proofs.Common.{◌≡◌, ◌<◌, ◌≤◌, ◌+◌, ℕ, zero, suc, List, [], ◌∷◌, ◌++◌, length, take, drop, get_or, map, refl, sym}
+use Rattle.std.proofs.{Common.{ap, ◌∙◌, subst, arith, append-nil, append_assoc, length-append}, lemmas.List.{length-map, take_all, take_more, take-append-drop}}
 use Rattle.std.proofs.lemmas.List.Concat.{flat_map-append, flat_map_single}
-use Rattle.std.specs.{List.All, Prelude.{MatchOption, SomeIff}}
+use Rattle.std.specs.List.{All}
 use Rattle.rlp_format.specs.{Format.Encoding.{Item, list_of}, Values.Value.all_items}
 use Rattle.rlp_write.specs.{Streams.Stream.{State, Seen, add, add_all, put_item, with_list_of}, Streams.Growth.GrowsTo, Streams.Fields.AppendsSome}
-use Rattle.rlp_write.proofs.Streams.Filling.{all_more, filled_list, grows_filling}
+use Rattle.rlp_write.proofs.{Streams.Filling.{all_more, filled_list, grows_filling}, Streams.Growth.growth}
 
 add_all-append : (xs ys : List Item) (s : State) → add_all (xs ++ ys) s ≡ add_all ys (add_all xs s)
 add_all-append [] ys s = refl
@@ -125,10 +125,12 @@ counted_so_far items values i x d inside is =
     let few = counted_within items values (i + 1) in
     omega (arith, sum, few)
 
--- with the items of other values
-pub counted_both : (xs ys : List Item) (n m : ℕ) (o : Option ℕ) → n ≡ length xs → m ≡ length ys → SomeIff o (n + m < 2 ^ 64) (n + m)
-    → MatchOption o (2 ^ 64 ≤ length (xs ++ ys)) (λ k. k ≡ length (xs ++ ys))
-counted_both xs ys n m None first second not = omega (arith, length-append xs ys, first, second, not)
-counted_both xs ys n m (Some k) first second (fits, is) = omega (arith, length-append xs ys, first, second, is)
+pub ruleset counts = (length-map, length-append)
 
-pub ruleset counts = (length-map, counted_both)
+pub ruleset pairs = (some_first, some_second, both_added)
+
+pub ruleset filled = (some_grows, all_fill, growth)
+
+pub ruleset each = (one_each, some_at, take_all)
+
+pub ruleset flattened = (flattened_at, take_all, counted_more, counted_so_far)

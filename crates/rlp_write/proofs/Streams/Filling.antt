@@ -3,14 +3,9 @@ use Rattle.std.proofs.Common.{◌≡◌, ℕ, zero, suc, ◌+◌, ◌-◌, ◌<�
 use Rattle.std.proofs.{Common.{refl, sym, ◌∙◌, ap, subst, arith, append_assoc, append-nil}, lemmas.List.Elements.All-more}
 use Rattle.std.specs.List.{All}
 use Rattle.rlp_format.specs.Format.Encoding.{written_header, Item, list, Items, no_items, item_and, list_of, is_list, encoding, join_items}
-use Rattle.rlp_write.specs.{Streams.Stream.{State, add, put_item, add_all, with_list_of}, Streams.Growth.GrowsTo}
+use Rattle.rlp_write.specs.Streams.{Stream.{State, put_item, add_all, with_list_of}, Growth.GrowsTo}
 use Rattle.rlp_write.proofs.Streams.Listed.{in_list, list_filled, add_more, or_true}
 use Rattle.rlp_write.proofs.Streams.Growth.{grows_same, grows_put, grows_with_list, grows_in_list, grows_trans}
-
--- all items are added, and then one more
-pub add_all-push : (xs : List Item) (x : Item) (s : State) → add_all (xs ++ x ∷ []) s ≡ add x (add_all xs s)
-add_all-push [] x s = refl
-add_all-push (y ∷ xs) x s = add_all-push xs x (add y s)
 
 -- a list that awaits more than the items that were added stays open
 stays_open : (xs : List Item) (n : ℕ) (s : State) (p : List ℕ) (m : Bool) → length xs < n → GrowsTo s (add_all xs (in_list s n p m))

@@ -1,8 +1,8 @@
--- Unbounded lists that are finalized at once: they are closed like lists that each await their last item.
-use Rattle.std.proofs.Common.{◌≡◌, ◌<◌, ◌≤◌, ℕ, zero, suc, Bool, true, cond, is_none, List, [], ◌∷◌, ◌++◌, Option, None, Some, refl, sym, ap, ◌∙◌, append-nil, arith, length}
-use Rattle.std.proofs.lemmas.Bool.{cond_both}
-use Rattle.rlp_write.specs.Streams.Stream.{OpenList, Stack, count_around, each_awaits, unbounded_count, finalized}
-use Rattle.rlp_write.specs.Streams.Stream.{State, list_encoding, put, count, with_awaiting, with_is_counted}
+-- Unbounded lists that are finalized, at once or in turn: they are closed like lists that each await their last item.
+use Rattle.std.proofs.Common.{◌≡◌, ◌<◌, ◌≤◌, ◌+◌, ℕ, zero, suc, Bool, true, cond, is_none, IsTrue, List, [], ◌∷◌, ◌++◌, Option, None, Some, Ok, replicate, refl, sym, ap, ◌∙◌, append-nil, arith, length}
+use Rattle.std.proofs.lemmas.Bool.{cond-true, cond_both}
+use Rattle.rlp_write.specs.Streams.Stream.{OpenList, Stack, count_around, each_awaits, is_unbounded, unbounded_count, finalized}
+use Rattle.rlp_write.specs.Streams.Stream.{State, list_encoding, put, count, with_awaiting, with_is_counted, after_from, effect, finalize_unbounded_list, is_admitted}
 
 abbrev state_with : List ℕ → Stack ℕ → Bool → State
 state_with f s m = record { front = f; stack = s; is_counted = m }
@@ -72,3 +72,43 @@ pub length-each_awaits : (n : ℕ) (w : Option ℕ) (ls : List (OpenList ℕ)) �
 length-each_awaits zero w ls = refl
 length-each_awaits (suc n) w [] = refl
 length-each_awaits (suc n) w (l ∷ ls) = ap suc (length-each_awaits n w ls)
+
+pub ruleset finalizing = (finalized_at_once, awaiting_restored, unbounded_open, length-each_awaits)
+
+-- ---- in turn
+
+unbounded : (l : OpenList ℕ) (ls : List (OpenList ℕ)) → 0 < unbounded_count (l ∷ ls) → IsTrue (is_unbounded (l ∷ ls))
+unbounded l ls some = by_awaits l.awaits some
+  where
+    by_awaits : (awaits : Option ℕ) → 0 < cond (is_none awaits) (suc (unbounded_count ls)) 0
+        → IsTrue (is_unbounded (record { awaits = awaits; outer = l.outer } ∷ ls))
+    by_awaits None some = refl
+    by_awaits (Some k) some = absurd (let no : 0 < 0 = some in omega arith)
+
+counts_left : (n : ℕ) (p : List ℕ) (ls : List (OpenList ℕ)) (s : Stack ℕ) → n ≤ unbounded_count ls
+    → (0 < unbounded_count ls → s ≡ record { inner = p; lists = ls }) → n ≤ unbounded_count s.lists
+counts_left zero p ls s many same = omega arith
+counts_left (suc n) p ls s many same = rw (same (omega (arith, many))) many
+
+-- one more list is finalized, and the others are unbounded
+next_by : (n : ℕ) (f p : List ℕ) (ls : List (OpenList ℕ)) (m : Bool) → n < unbounded_count ls
+    → IsTrue (is_unbounded ls)
+    × (n ≤ unbounded_count (effect finalize_unbounded_list (record { front = f; stack = record { inner = p; lists = ls }; is_counted = m })).stack.lists)
+next_by n f p [] m many = absurd (let no : n < 0 = many in omega arith)
+next_by n f p (l ∷ ls) m many = (
+  unbounded l ls (omega (arith, many)),
+  counts_left n (l.outer ++ list_encoding p) ls _ (unbounded_around l ls n many) (count_unbounded (l.outer ++ list_encoding p) ls),
+)
+
+pub finalized-next : (n : ℕ) (s : State) → n < unbounded_count s.stack.lists
+    → IsTrue (is_admitted finalize_unbounded_list s) × (n ≤ unbounded_count (effect finalize_unbounded_list s).stack.lists)
+finalized-next n s many = next_by n s.front s.stack.inner s.stack.lists s.is_counted many
+
+-- all calls are admitted, and they lead to the same state
+pub finalized-in_turn : (n place : ℕ) (s : State) → n ≤ unbounded_count s.stack.lists
+    → after_from place s (replicate n finalize_unbounded_list) ≡ Ok (finalized n s)
+finalized-in_turn zero place s many = refl
+finalized-in_turn (suc n) place s many =
+    let next = finalized-next n s (omega (arith, many)) in
+    cond-true (is_admitted finalize_unbounded_list s) _ _ next.0
+    ∙ finalized-in_turn n (place + 1) (effect finalize_unbounded_list s) next.1

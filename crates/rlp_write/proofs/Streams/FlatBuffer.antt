@@ -1,14 +1,14 @@
 -- How putting, opening and counting change the state that a stream's bytes represent.
 use Rattle.std.proofs.Common.{◌≡◌, ℕ, zero, suc, ◌+◌, ◌≤◌, Bool, true, false, IsTrue, ◌&&◌, cond, List, [], ◌∷◌, ◌++◌, Option, length, get_or, take}
 use Rattle.std.proofs.Common.{drop, is_none, refl, sym, ◌∙◌, ap, arith, append_assoc, append-nil, length-append, length-drop, subst}
-use Rattle.std.proofs.lemmas.List.{take-take, take-append-le, drop-append-le, take_at, drop_all, drop_more, length-take, length-take-le, length_push, take-append-drop, get_or-take, get_or_at, get_or_append_left}
-use Rattle.rlp_write.specs.declared.open_lists.Placeholder.{Placeholder}
-use Rattle.rlp_write.specs.Streams.Stream.{OpenList, AwaitsSome, each_awaits, is_last, awaits_after, count_around, is_counted_after, unbounded_count, closed_payload_around}
-use Rattle.rlp_write.specs.Streams.Stream.{State, IsFinished, list_encoding, put, with_list, with_awaiting, count, raw_text, closed_size}
-use Rattle.rlp_write.specs.Streams.Placeholders.{begin_of, lists_of, Placed, IsLaid, Descends, closes, with_awaits, with_innermost, unbounded_innermost}
+use Rattle.std.proofs.lemmas.List.{take-take, take-append-le, drop-append-le, take_at, drop_all, drop_more, length-take, length-take-le, length_push, take-append-drop, get_or-take, get_or_append_left}
+use Rattle.rlp_write.specs.{contracts.flat.RlpStream.the_view, declared.flat.RlpStream.TheInside.Inside, declared.open_lists.Placeholder.Placeholder}
+use Rattle.rlp_write.specs.Streams.Stream.{OpenList, AwaitsSome, awaited, each_awaits, is_last, awaits_after, count_around, is_counted_after, unbounded_count, closed_payload_around}
+use Rattle.rlp_write.specs.Streams.Stream.{State, Seen, list_encoding, put, with_list, with_awaiting, count, raw_text, closed_size}
+use Rattle.rlp_write.specs.Streams.Placeholders.{begin_of, lists_of, Placed, IsLaid, Descends, closes, innermost_awaits, with_awaits, with_innermost, unbounded_innermost}
 use Rattle.rlp_write.specs.{Streams.Closing.{filled, counted, closed_bytes, left_of}, Streams.Layout.{stack_of, state_of}}
 use Rattle.rlp_format.specs.Format.Encoding.{written_header}
-use Rattle.rlp_write.proofs.{Streams.States.{raw_text-put, raw_text-with_list, closed_text-count}, Streams.Awaits.await-after}
+use Rattle.rlp_write.proofs.{Streams.States.{out_size, raw_text-put, raw_text-with_list, closed_text-count}, Streams.Growth.grows_same, Streams.Awaits.await-after}
 use Rattle.rlp_write.proofs.Streams.Closings.{header_some, counted_closed}
 
 -- ---- places
@@ -32,6 +32,11 @@ laid_descends start b (p ∷ ps) h =
     let within = h.0.within in
     (h.0.within, rw (length-take-le p.position b (omega arith)) at (laid_descends start (take p.position b) ps h.1))
 
+-- so they do from any later end
+pub laid_below : (start end : ℕ) (b : List ℕ) (ps : List Placeholder) → IsLaid start b ps → length b ≤ end → Descends end ps
+laid_below start end b [] h le = tt
+laid_below start end b (p ∷ ps) h le = let d = laid_descends start b (p ∷ ps) h in (omega (arith, d.0), d.1)
+
 -- the bytes before the innermost placeholder begin with the same front
 pub below_front : (start : ℕ) (b : List ℕ) (p : Placeholder) (ps : List Placeholder) → IsLaid start b (p ∷ ps) → take start (take p.position b) ≡ take start b
 below_front start b p ps h =
@@ -47,10 +52,19 @@ lists_append start b x (p ∷ ps) h =
     let within = h.0.within in
     rw (take-append-le p.position b x (omega arith)) refl
 
--- bytes at the end of the buffer are put in the state
-pub state_put : (start : ℕ) (b x : List ℕ) (ps : List Placeholder) (m : Bool) → IsLaid start b ps → state_of start (b ++ x) ps m ≡ put x (state_of start b ps m)
-state_put start b x ps m h =
-    rw (take-append-le start b x (start_le start b ps h), drop-append-le (begin_of start ps) b x (begin_le start b ps h), lists_append start b x ps h) refl
+module _ (start : ℕ) (b x c : List ℕ) (ps : List Placeholder) (h : IsLaid start b ps) (e : c ≡ b ++ x) where
+  pub front_put : take start c ≡ take start b
+  front_put = rw (e, take-append-le start b x (start_le start b ps h)) refl
+
+  pub inner_put : drop (begin_of start ps) c ≡ drop (begin_of start ps) b ++ x
+  inner_put = rw (e, drop-append-le (begin_of start ps) b x (begin_le start b ps h)) refl
+
+  pub lists_put : lists_of start c ps ≡ lists_of start b ps
+  lists_put = rw (e, lists_append start b x ps h) refl
+
+  -- bytes at the end of the buffer are put in the state
+  state_put : (m : Bool) → state_of start c ps m ≡ put x (state_of start b ps m)
+  state_put m = rw (front_put, inner_put, lists_put) refl
 
 placed_append : (b x : List ℕ) (p : Placeholder) → Placed b p → Placed (b ++ x) p
 placed_append b x p h =
@@ -79,20 +93,18 @@ laid_take n start b (p ∷ ps) some h =
 
 -- ---- the bytes are those of the state
 
--- the bytes are the state's raw text
-pub raw_state : (start : ℕ) (b : List ℕ) (ps : List Placeholder) (m : Bool) → IsLaid start b ps → b ≡ raw_text (state_of start b ps m)
-raw_state start b [] m h = sym (ap (λ t. take start b ++ t) (append-nil (drop start b)) ∙ take-append-drop start b)
-raw_state start b (p ∷ ps) m h =
-    let around = state_of start (take p.position b) ps m in
-    let inside = put (drop (p.position + 1) b) (with_list p.awaits around) in
-    let front : state_of start b (p ∷ ps) m ≡ record inside { front = take start b; is_counted = m } = refl in
-    let same : raw_text inside ≡ raw_text (state_of start b (p ∷ ps) m) = rw (below_front start b p ps h) refl in
+-- the state's raw text is all bytes
+pub raw_state : (start : ℕ) (b : List ℕ) (ps : List Placeholder) → IsLaid start b ps → raw_text (state_of start b ps false) ≡ b
+raw_state start b [] h = ap (λ t. take start b ++ t) (append-nil (drop start b)) ∙ take-append-drop start b
+raw_state start b (p ∷ ps) h =
+    let around = state_of start (take p.position b) ps false in
+    let behind = drop (p.position + 1) b in
+    let inside = put behind (with_list p.awaits around) in
+    let same : raw_text inside ≡ raw_text (state_of start b (p ∷ ps) false) = rw (below_front start b p ps h) refl in
     let within = h.0.within in
-    sym (take-append-drop p.position b) ∙ ap (λ c. take p.position b ++ c) (drop_more b p.position 1 within ∙ ap (λ x. x ∷ drop (p.position + 1) b) h.0.placeholder)
-    ∙ (ap (λ c. c ++ (0 ∷ drop (p.position + 1) b)) (raw_state start (take p.position b) ps m h.1)
-    ∙ (sym (append_assoc (raw_text around) (0 ∷ []) (drop (p.position + 1) b))
-    ∙ (ap (λ c. c ++ drop (p.position + 1) b) (sym (raw_text-with_list p.awaits around))
-    ∙ (sym (raw_text-put (drop (p.position + 1) b) (with_list p.awaits around)) ∙ same))))
+    sym same ∙ raw_text-put behind (with_list p.awaits around) ∙ ap (λ c. c ++ behind) (raw_text-with_list p.awaits around)
+    ∙ append_assoc (raw_text around) (0 ∷ []) behind ∙ ap (λ c. c ++ (0 ∷ behind)) (raw_state start (take p.position b) ps h.1)
+    ∙ sym (ap (λ c. take p.position b ++ c) (drop_more b p.position 1 within ∙ ap (λ x. x ∷ behind) h.0.placeholder)) ∙ take-append-drop p.position b
 
 -- ---- items are counted
 
@@ -203,7 +215,7 @@ lists_awaits (suc n) w start b (p ∷ ps) =
     ap (λ ls. first ls (begin_of start (with_awaits n w ps))) (lists_awaits n w start rest ps)
     ∙ ap (λ begin. first (each_awaits n w (lists_of start rest ps)) begin) (begin_awaits n w start ps)
 
-state_awaits : (n : ℕ) (w : Option ℕ) (start : ℕ) (b : List ℕ) (ps : List Placeholder) (m : Bool)
+pub state_awaits : (n : ℕ) (w : Option ℕ) (start : ℕ) (b : List ℕ) (ps : List Placeholder) (m : Bool)
     → state_of start b (with_awaits n w ps) m ≡ with_awaiting n w (state_of start b ps m)
 state_awaits n w start b ps m =
     let with : ℕ → List (OpenList ℕ) → State =
@@ -228,27 +240,15 @@ pub record StandsFor (s : State) (start : ℕ) (b : List ℕ) (ps : List Placeho
   pub laid : IsLaid start b ps
   pub is : state_of start b ps m ≡ s
 
+-- its bytes and places stand for its state
+pub stands : (i : Inside) (v : Seen) → the_view i ≡ v → IsLaid i.start i.buffer.items i.lists → StandsFor v.state i.start i.buffer.items i.lists i.is_counted
+stands i v e laid = record { laid = laid; is = ap (λ (w : Seen). w.state) e }
+
 -- bytes at the end are put in the state
 pub stands_put : {s : State} {start : ℕ} {b : List ℕ} {ps : List Placeholder} {m : Bool} → StandsFor s start b ps m
     → (x c : List ℕ) → c ≡ b ++ x → StandsFor (put x s) start c ps m
 stands_put {s} {start} {b} {ps} {m} h x c e =
-    record { laid = rw e (laid_append start b x ps h.laid); is = rw e (state_put start b x ps m h.laid ∙ ap (put x) h.is) }
-
--- a byte 0 at the end is a new list
-pub stands_opened : {s : State} {start : ℕ} {b : List ℕ} {ps : List Placeholder} {m : Bool} → StandsFor s start b ps m
-    → (awaits : Option ℕ) (position : ℕ) → AwaitsSome awaits → position ≡ length b
-    → (c : List ℕ) (qs : List Placeholder) → c ≡ b ++ 0 ∷ [] → qs ≡ record { position = position; awaits = awaits } ∷ ps
-    → StandsFor (with_list awaits s) start c qs false
-stands_opened {s} {start} {b} {ps} {m} h awaits position some at c qs e f =
-    let p : Placeholder = record { position = position; awaits = awaits } in
-    let rest : take position (b ++ 0 ∷ []) ≡ b = take_at b (0 ∷ []) position (sym at) in
-    let none : drop (position + 1) (b ++ 0 ∷ []) ≡ [] = drop_all (position + 1) (b ++ 0 ∷ []) (omega (arith, length_push b 0)) in
-    let opened : state_of start (b ++ 0 ∷ []) (p ∷ ps) false ≡ with_list awaits (state_of start b ps m) =
-    rw (take-append-le start b (0 ∷ []) (start_le start b ps h.laid), none, rest) refl in
-    let placed : Placed (b ++ 0 ∷ []) p =
-    record { within = omega (arith, length_push b 0); placeholder = get_or_at b 0 [] 1 position (sym at); awaits_some = some } in
-    let laid : IsLaid start (b ++ 0 ∷ []) (p ∷ ps) = (placed, rw rest h.laid) in
-    record { laid = rw (e, f) laid; is = rw (e, f) (opened ∙ ap (with_list awaits) h.is) }
+    record { laid = rw e (laid_append start b x ps h.laid); is = state_put start b x c ps h.laid e m ∙ ap (put x) h.is }
 
 and_yes : (m a : Bool) → a ≡ true → (m && a) ≡ m
 and_yes true true e = refl
@@ -293,14 +293,12 @@ stands_closed {s} {start} {b} {ps} {m} h k c qs closing e f =
 
 -- after bytes were put, with room behind them for the headers
 pub stands_filled : {s : State} {start : ℕ} {b : List ℕ} {ps : List Placeholder} {m : Bool} → StandsFor s start b ps m
-    → (k : ℕ) (x grown : List ℕ) {wide long after : List ℕ} {end closing : ℕ} {rest last : List Placeholder}
-    → is_counted_after k s.stack.lists false ≡ true → end ≡ length b + length x → wide ≡ b → long ≡ wide ++ x → take (length long) grown ≡ long
+    → (k : ℕ) (x grown : List ℕ) {long after : List ℕ} {end closing : ℕ} {rest last : List Placeholder}
+    → is_counted_after k s.stack.lists false ≡ true → long ≡ b ++ x → end ≡ length long → take (length long) grown ≡ long
     → closing ≡ filled k ps → after ≡ closed_bytes closing (take end grown) [] ps → rest ≡ drop closing ps → last ≡ with_innermost (awaits_after 1) rest
     → StandsFor (count k (put x s)) start after last true
-stands_filled {s} {start} {b} {ps} {m} h k x grown {wide} {long} {after} {end} {closing} {rest} {last} closes_some size same put_in front number bytes left counts =
+stands_filled {s} {start} {b} {ps} {m} h k x grown {long} {after} {end} {closing} {rest} {last} closes_some whole len front number bytes left counts =
     let full : closes k ps ≡ true = sym (closes_state k start b ps) ∙ ap (λ (t : State). is_counted_after k t.stack.lists false) h.is ∙ closes_some in
-    let whole : long ≡ b ++ x = put_in ∙ ap (λ c. c ++ x) same in
-    let len : end ≡ length long = omega (arith, size, ap length whole, length-append b x) in
     let first : take end grown ≡ b ++ x = ap (λ n. take n grown) len ∙ front ∙ whole in
     stands_closed (stands_put h x (b ++ x) refl) k after last full
     (bytes ∙ ap (λ n. closed_bytes n (take end grown) [] ps) number ∙ ap (λ c. closed_bytes (filled k ps) c [] ps) first)
@@ -313,24 +311,60 @@ pub stands_awaiting : {s : State} {start : ℕ} {b : List ℕ} {ps : List Placeh
 stands_awaiting {s} {start} {b} {ps} {m} h n awaits qs some e =
     record { laid = rw e (laid_awaits n awaits some start b ps h.laid); is = rw e (state_awaits n awaits start b ps m ∙ ap (with_awaiting n awaits) h.is) }
 
--- with no list open, the bytes are the front and the top
-pub stands_finished : (s : State) (start : ℕ) (b : List ℕ) (ps : List Placeholder) (m : Bool) → StandsFor s start b ps m → IsFinished s
-    → b ≡ s.front ++ s.stack.inner
-stands_finished s start b [] m h finished = sym (take-append-drop start b) ∙ ap (λ (t : State). t.front ++ t.stack.inner) h.is
-stands_finished s start b (p ∷ ps) m h finished =
-    absurd (let none = ap (λ (t : State). t.stack.lists) h.is ∙ finished in let no : ⊥ = cc in no)
-
 -- if a count moves bytes behind the front alone, and each once, it moves at most the closed size
 pub stands_moved : {s : State} {start : ℕ} {b : List ℕ} {ps : List Placeholder} {m : Bool} → StandsFor s start b ps m
-    → (k n old new end : ℕ) (x : List ℕ) → end ≡ length b + length x → new + left_of n end ps ≤ old + end → new ≤ old + closed_size (count k (put x s))
-stands_moved {s} {start} {b} {ps} {m} h k n old new end x size moved =
-    let long = b ++ x in
-    let laid = laid_append start b x ps h.laid in
+    → (k n old new end : ℕ) (x long : List ℕ) → long ≡ b ++ x → end ≡ length long → new + left_of n end ps ≤ old + end
+    → new ≤ old + closed_size (count k (put x s))
+stands_moved {s} {start} {b} {ps} {m} h k n old new end x long whole len moved =
+    let put_in = stands_put h x long whole in
     let now = state_of start long ps m in
-    let len : end ≡ length long = omega (arith, size, length-append b x) in
-    let all = laid_bytes start long ps laid in
-    let front = left_behind n start long ps laid in
+    let all = laid_bytes start long ps put_in.laid in
+    let front = left_behind n start long ps put_in.laid in
     let most = bytes_closed now.stack.inner now.stack.lists in
-    let is : now ≡ put x s = state_put start b x ps m h.laid ∙ ap (put x) h.is in
-    subst (λ t. new ≤ old + closed_size (count k t)) is
+    subst (λ t. new ≤ old + closed_size (count k t)) put_in.is
     (omega (arith, moved, ap (λ e. left_of n e ps) len, len, all, front, most, ap length (closed_text-count k now)))
+
+-- ---- for the calls of a stream
+
+-- a byte 0 at the end is a new list
+pub opened_rest : (b c : List ℕ) (position : ℕ) → position ≡ length b → c ≡ b ++ 0 ∷ [] → take position c ≡ b
+opened_rest b c position at e = rw (e, take_at b (0 ∷ []) position (sym at)) refl
+
+pub opened_inner : (b c : List ℕ) (position : ℕ) → position ≡ length b → c ≡ b ++ 0 ∷ [] → drop (position + 1) c ≡ []
+opened_inner b c position at e = rw e (drop_all (position + 1) (b ++ 0 ∷ []) (omega (arith, length_push b 0)))
+
+-- the innermost list awaits what its place says
+pub innermost_awaited : (start : ℕ) (b : List ℕ) (ps : List Placeholder) → awaited (lists_of start b ps) ≡ innermost_awaits ps
+innermost_awaited start b [] = refl
+innermost_awaited start b (p ∷ ps) = refl
+
+-- with no list open, the bytes are the front and the top
+pub all_of_finished : (start : ℕ) (b : List ℕ) (ps : List Placeholder) → lists_of start b ps ≡ [] → take start b ++ drop (begin_of start ps) b ≡ b
+all_of_finished start b [] none = take-append-drop start b
+all_of_finished start b (p ∷ ps) none = absurd (let no : ⊥ = cc in no)
+
+-- and their number is that of the front and the closed size
+pub size_of_finished : (start : ℕ) (b : List ℕ) (ps : List Placeholder) → lists_of start b ps ≡ [] → length b ≡ length (take start b) + closed_size (state_of start b ps false)
+size_of_finished start b ps none = ap length (sym (all_of_finished start b ps none)) ∙ out_size (state_of start b ps false) none
+
+-- the innermost lists await something else
+pub begin_changed : (n : ℕ) (w : Option ℕ) (start : ℕ) (ps qs : List Placeholder) → qs ≡ with_awaits n w ps → begin_of start qs ≡ begin_of start ps
+begin_changed n w start ps qs e = rw e (begin_awaits n w start ps)
+
+pub lists_changed : (n : ℕ) (w : Option ℕ) (start : ℕ) (b : List ℕ) (ps qs : List Placeholder) → qs ≡ with_awaits n w ps
+    → lists_of start b qs ≡ each_awaits n w (lists_of start b ps)
+lists_changed n w start b ps qs e = rw e (lists_awaits n w start b ps)
+
+pub ruleset puts = (laid_append, front_put, inner_put, lists_put, grows_same)
+
+pub ruleset opens = (front_put, opened_rest, opened_inner)
+
+pub ruleset places = (raw_state, length-lists_of, innermost_awaited)
+
+pub ruleset awaits = (length-lists_of, laid_awaits, begin_changed, lists_changed)
+
+pub ruleset clears = (start_le, length-take-le)
+
+pub ruleset empties = (laid_bytes, bytes_closed, none_closed)
+
+pub ruleset finishes = (all_of_finished, size_of_finished)

@@ -88,3 +88,10 @@ item_counted (list xs) s t u start is uncounted counts =
     absurd (let both : true ≡ false = sym (ap (λ (u : State). u.is_counted) is) ∙ uncounted in let no : ⊥ = cc in no)
 
 pub ruleset growth = (grows_same, grows_put, grows_with_list, grows_in_list, grows_trans)
+
+-- with no list open, none is open after an item was put
+pub item_finished : (x : Item) (s t : State) → t ≡ put_item x s → s.stack.lists ≡ [] → t.stack.lists ≡ []
+item_finished (string b) s t is none = ap (λ (u : State). u.stack.lists) is ∙ none
+item_finished (list xs) s t is none = ap (λ (u : State). u.stack.lists) is ∙ rw none refl
+
+pub ruleset values = (grows_uncounted, counted_item, item_counted, item_finished)

@@ -1,10 +1,10 @@
--- Values whose encodings are put one after another with no list open.
-use Rattle.std.proofs.Common.{◌≡◌, ℕ, ◌+◌, ◌<◌, List, [], ◌∷◌, ◌++◌, length, take, drop, map, get_or, refl, sym, ap, ◌∙◌}
-use Rattle.std.proofs.lemmas.List.{map_more, flat_map_more}
-use Rattle.rlp_format.specs.Format.Encoding.{Item, string, list, list_of, encoding, join}
+-- Values whose encodings are put one after another with no list open, and the encoding of the list of them.
+use Rattle.std.proofs.Common.{◌≡◌, ℕ, ◌+◌, ◌-◌, ◌<◌, List, [], ◌∷◌, ◌++◌, length, take, drop, map, get_or, length-drop, append-nil, refl, sym, ap, ◌∙◌, arith}
+use Rattle.std.proofs.lemmas.List.{drop_all, drop-take, map_more, flat_map_more}
+use Rattle.rlp_format.specs.Format.Encoding.{Item, string, list, list_of, encoding, join, written_header}
 use Rattle.rlp_format.proofs.Lemmas.Encodings.{encoding_list}
 use Rattle.rlp_write.specs.Streams.Stream.{Stack, State, IsFinished, list_encoding, put_item}
-use Rattle.rlp_write.proofs.Streams.States.{put_item-finished}
+use Rattle.rlp_write.proofs.{Streams.States.put_item-finished, Streams.Filling.all_more, Streams.MovedBytes.{Follows, follows}}
 
 -- an item that was put with no list open
 pub record IsPutAlone (x : Item) (s t : State) : Type 0 where
@@ -34,3 +34,33 @@ pub joined_list : (xs : List Item) (front inner out : List ℕ) (first : ℕ) �
 joined_list xs front inner out first is begin rest =
     let payload : drop 1 out ≡ join xs = ap (drop 1) (is ∙ ap (λ f. f ++ inner) begin) ∙ rest in
     ap list_encoding payload ∙ sym (encoding_list xs)
+
+pub ruleset joined = (put_alone, joined_more, all_more, joined_list)
+
+-- ---- the header before them
+
+payload_behind : (b grown : List ℕ) (len : ℕ) → len ≡ length b - 1 → take (length b) grown ≡ b → take len (drop 1 grown) ≡ drop 1 b
+payload_behind [] grown len size front = ap (λ n. take n (drop 1 grown)) size
+payload_behind (byte ∷ b) grown len size front =
+    let whole : 1 + len ≡ length (byte ∷ b) = omega arith in
+    sym (drop-take 1 len grown) ∙ ap (λ n. drop 1 (take n grown)) whole ∙ ap (drop 1) front
+
+-- the payload was moved behind the place of its header
+pub payload_moved : (b grown moved : List ℕ) (len h : ℕ) → len ≡ length b - 1 → take (length b) grown ≡ b → length grown ≡ h + len
+    → moved ≡ take h grown ++ (take len (drop 1 grown) ++ drop (h + len) grown) → Follows h grown (drop 1 b) moved
+payload_moved b grown moved len h many front all is =
+    let none : drop (h + len) grown ≡ [] = drop_all (h + len) grown (omega arith) in
+    let rest : take len (drop 1 grown) ++ drop (h + len) grown ≡ drop 1 b =
+    rw (none, payload_behind b grown len many front) (append-nil (drop 1 b)) in
+    follows h grown (drop 1 b) moved (omega arith) (is ∙ ap (λ z. take h grown ++ z) rest)
+
+-- The payload stands behind the first byte of b. The buffer grows by the header's length minus one, the payload is moved behind the header, and the header is
+-- written.
+pub alone_written : (b grown moved final : List ℕ) (len h at : ℕ) → Follows h grown (drop 1 b) moved → len ≡ length b - 1 → h ≡ length (written_header 0xc0 len)
+    → at + length (written_header 0xc0 (length moved - h)) ≡ h
+    → final ≡ take at moved ++ (written_header 0xc0 (length moved - h) ++ drop h moved) → final ≡ list_encoding (drop 1 b)
+alone_written b grown moved final len h at now many header begin written =
+    let size : length moved - h ≡ length (drop 1 b) = omega (arith, now.len) in
+    let whole : length moved - h ≡ len = omega (arith, now.len, many, length-drop 1 b) in
+    let start : at ≡ 0 = omega (arith, rw whole at begin, header) in
+    rw (start, size, now.rest) at written

@@ -100,7 +100,7 @@ stands_back s t start c qs m now grown place at some d rs cut kept =
     let len : place.len ≡ n = omega (
       arith,
       ap (λ (q : Place). q.len) at,
-      ap length (raw_state start (take n c) ps s.is_counted open_here.laid),
+      ap length (raw_state start (take n c) ps open_here.laid),
       ap (λ (u : State). length (raw_text u)) is,
       length-take-le n c r.few,
     ) in

@@ -56,8 +56,8 @@ size-finalized : (n : ℕ) (s : State) → closed_size (finalized n s) ≡ close
 size-finalized zero s = refl
 size-finalized (suc n) s = size-finalized n (effect finalize_unbounded_list s) ∙ ap length (closed_text-count 1 (shut s) ∙ closed_text-shut s)
 
-pub size_kept-each : (n : ℕ) (s t : State) → t ≡ finalized n s → closed_size t ≡ closed_size s
-size_kept-each n s t e = ap closed_size e ∙ size-finalized n s
+pub size_kept_each : (n : ℕ) (s t : State) → t ≡ finalized n s → closed_size t ≡ closed_size s
+size_kept_each n s t e = ap closed_size e ∙ size-finalized n s
 
 -- no bytes are put
 pub put_none : (s : State) → put [] s ≡ s
@@ -99,26 +99,12 @@ levels_bytes = flat_map (λ (l : Level ℕ). 0 ∷ l.payload)
 
 -- the bytes of the last level are the last bytes
 levels_last : (top : List ℕ) (around : List (Level ℕ)) (l : Level ℕ) → top ++ levels_bytes (around ++ l ∷ []) ≡ (top ++ levels_bytes around) ++ (0 ∷ l.payload)
-levels_last top around l =
-    let split : levels_bytes (around ++ l ∷ []) ≡ levels_bytes around ++ ((0 ∷ l.payload) ++ []) =
-    flat_map-append (λ (l : Level ℕ). 0 ∷ l.payload) around (l ∷ []) in
-    let whole : levels_bytes (around ++ l ∷ []) ≡ levels_bytes around ++ (0 ∷ l.payload) = split
-    ∙ ap (λ (b : List ℕ). levels_bytes around ++ b) (append-nil (0 ∷ l.payload)) in
-    ap (λ (b : List ℕ). top ++ b) whole ∙ sym (append_assoc top (levels_bytes around) (0 ∷ l.payload))
+levels_last top around l = simp (flat_map-append, append_assoc, append-nil)
 
 raw_put_around : (f p x : List ℕ) (ls : List (OpenList ℕ)) → f ++ (top_around (p ++ x) ls ++ levels_bytes (levels_around (p ++ x) ls))
     ≡ (f ++ (top_around p ls ++ levels_bytes (levels_around p ls))) ++ x
-raw_put_around f p x [] =
-    let longer : (p ++ x) ++ [] ≡ (p ++ []) ++ x = append-nil (p ++ x) ∙ ap (λ (b : List ℕ). b ++ x) (sym (append-nil p)) in
-    ap (λ (b : List ℕ). f ++ b) longer ∙ sym (append_assoc f (p ++ []) x)
-raw_put_around f p x (l ∷ ls) =
-    let t = top_around l.outer ls in
-    let around = levels_around l.outer ls in
-    let old : Level ℕ = record { payload = p; awaits = l.awaits } in
-    let new : Level ℕ = record { payload = p ++ x; awaits = l.awaits } in
-    let longer : t ++ levels_bytes (around ++ new ∷ []) ≡ (t ++ levels_bytes (around ++ old ∷ [])) ++ x =
-    levels_last t around new ∙ (sym (append_assoc (t ++ levels_bytes around) (0 ∷ p) x) ∙ ap (λ (b : List ℕ). b ++ x) (sym (levels_last t around old))) in
-    ap (λ (b : List ℕ). f ++ b) longer ∙ sym (append_assoc f (t ++ levels_bytes (around ++ old ∷ [])) x)
+raw_put_around f p x [] = simp (append_assoc, append-nil)
+raw_put_around f p x (l ∷ ls) = simp (flat_map-append, append_assoc, append-nil)
 
 -- bytes that are put are the last of the raw text
 pub raw_text-put : (x : List ℕ) (s : State) → raw_text (put x s) ≡ raw_text s ++ x
@@ -146,3 +132,5 @@ put_item-finished (string t) s e = rw e refl
 put_item-finished (list xs) s e = rw e refl
 
 pub ruleset states = (raw_text-put, raw_text-with_list, closed_size-put, closed_text-shut, closed_text-count, add-finished, put_item-finished)
+
+pub ruleset sizes = (within_size-found, within_size-too_large, within_size-within)

@@ -40,10 +40,10 @@ header_set base n zeros first bytes long digits len within is =
 
 -- the header and the string, one after the other behind the old bytes
 pub string_written : (old value header : List ℕ) {first second new : List ℕ} → is_low_byte value ≡ false → header ≡ written_header 0x80 (length value)
-    → first ≡ old → second ≡ first ++ header → new ≡ second ++ value → new ≡ old ++ encoding (string value)
+    → first ≡ old → second ≡ first ++ header → new ≡ second ++ value → old ++ encoding (string value) ≡ new
 string_written old value header other heads same headed is =
-    is ∙ ap (λ b. b ++ value) (headed ∙ ap (λ b. b ++ header) same) ∙ append_assoc old header value
-    ∙ ap (λ b. old ++ b) (ap (λ h. h ++ value) heads ∙ sym (encoding_other value other))
+    ap (λ b. old ++ b) (encoding_other value other ∙ ap (λ h. h ++ value) (sym heads)) ∙ sym (is ∙ ap (λ b. b ++ value) (headed ∙ ap (λ b. b ++ header) same)
+    ∙ append_assoc old header value)
 
 -- a part is inserted at a place from which the bytes were moved further
 pub inserted : (b part moved : List ℕ) (at n : ℕ) → n + at + length part ≡ length b
@@ -54,29 +54,17 @@ inserted b part moved at n all is =
     let now = follows (at + length part) b (take n (drop at b) ++ drop ((at + length part) + n) b) moved (omega (arith, all)) is in
     rw (now.front at (omega arith), now.rest, last, append-nil) refl
 
--- a string in a buffer, with its header inserted before it
-pub header_inserted : (b header new : List ℕ) (start : ℕ) → is_low_byte (drop start b) ≡ false → header ≡ written_header 0x80 (length (drop start b))
-    → new ≡ take start b ++ (header ++ drop start b) → new ≡ take start b ++ encoding (string (drop start b))
-header_inserted b header new start other is e =
-    e ∙ ap (λ z. take start b ++ (z ++ drop start b)) is ∙ ap (λ z. take start b ++ z) (sym (encoding_other (drop start b) other))
-
 -- a slice from a place on
-pub rest_from : (b slice : List ℕ) (start : ℕ) → slice ≡ b → take (length slice - start) (drop start slice) ≡ drop start b
-rest_from b slice start same =
-    take_all (length slice - start) (drop start slice) (omega (arith, length-drop start slice)) ∙ ap (λ z. drop start z) same
+pub rest_from : (b : List ℕ) (start : ℕ) → take (length b - start) (drop start b) ≡ drop start b
+rest_from b start = take_all (length b - start) (drop start b) (omega (arith, length-drop start b))
 
 -- a string that is its own encoding needs no header
-pub header_none : (b : List ℕ) (start : ℕ) → is_low_byte (drop start b) ≡ true → b ≡ take start b ++ encoding (string (drop start b))
-header_none b start low = sym (ap (λ z. take start b ++ z) (encoding_low (drop start b) low) ∙ take-append-drop start b)
+pub header_none : (b : List ℕ) (start : ℕ) → is_low_byte (drop start b) ≡ true → take start b ++ encoding (string (drop start b)) ≡ b
+header_none b start low = ap (λ z. take start b ++ z) (encoding_low (drop start b) low) ∙ take-append-drop start b
 
 -- the length of an encoding with a header
-pub encoding_length : (s header : List ℕ) (room : ℕ) → is_low_byte s ≡ false → header ≡ written_header 0x80 (length s)
-    → room < length header + length s → room < length (encoding (string s))
-encoding_length s header room other is less =
-    let len = length-append (written_header 0x80 (length s)) s in
-    let whole : length (encoding (string s)) ≡ length (written_header 0x80 (length s) ++ s) = ap length (encoding_other s other) in
-    let heads : length header ≡ length (written_header 0x80 (length s)) = ap length is in
-    omega arith
+pub encoding_length : (s : List ℕ) → is_low_byte s ≡ false → length (encoding (string s)) ≡ length (written_header 0x80 (length s)) + length s
+encoding_length s other = ap length (encoding_other s other) ∙ length-append (written_header 0x80 (length s)) s
 
 -- a list's header is written over the bytes in front of its payload
 pub header_placed : (b view new header : List ℕ) (payload : ℕ) → b ≡ view
@@ -106,4 +94,16 @@ parts_written old mid new start Gives (s, gives, put) at is = (
 pub parts_left : (old mid new : List ℕ) (Gives : List ℕ → Type 0) → (s : List ℕ) × Gives s × (mid ≡ old ++ s) → new ≡ mid → BeginsWith new old
 parts_left old mid new Gives (s, gives, put) same = (s, same ∙ put)
 
-pub ruleset written = (encoding_low, written_header_short, header_set)
+-- bytes that begin with the old ones
+pub begins_still : (old more : List ℕ) {mid new : List ℕ} → mid ≡ old ++ more → new ≡ mid → BeginsWith new old
+begins_still old more put same = (more, same ∙ put)
+
+pub ruleset written = (encoding_low, encoding_other, written_header_short, header_set)
+
+pub ruleset parts = (parts_written, parts_left)
+
+pub ruleset strings = (encoding_low, encoding_length, string_written, written_header_short)
+
+pub ruleset from_place = (encoding_other, header_none, rest_from)
+
+pub ruleset lengths = (written_header_short, written_header_long)

@@ -131,6 +131,7 @@ impl Buffer {
     /// Moves bytes to a later place in the buffer, and counts them. If the bytes are at that place
     /// already, it moves nothing.
     #[inline]
+    #[tactic(auto, using(crate::proofs::Streams::Closings::shifted_none))]
     pub(crate) fn shift(&mut self, from: usize, len: usize, to: usize)
         requires forward { from ≤ to }
         requires within { to + len ≤ length self.old.items }
@@ -150,6 +151,7 @@ impl Buffer {
     /// Writes the header of the list whose payload is all bytes from a place on. It writes over the
     /// bytes in front of that place. Returns the place where the header begins.
     #[inline]
+    #[tactic(auto, using(crate::proofs::Streams::Written::header_placed))]
     pub(crate) fn write_list_header(&mut self, payload: usize) -> usize
         requires within { payload ≤ length self.old.items }
         requires room { header_len (length self.old.items - payload) ≤ payload }

@@ -40,6 +40,7 @@ pub(super) fn write_at(bytes: &mut [u8], at: usize, part: &[u8])
 }
 
 /// Inserts a part at a place. The same number of bytes at the end is lost.
+#[tactic(auto, using(crate::proofs::Streams::Written::inserted))]
 pub(super) fn insert(bytes: &mut [u8], at: usize, part: &[u8])
     requires { at + length part.now ≤ length bytes.old }
     ensures { bytes.new ≡ take at bytes.old

@@ -21,7 +21,7 @@ fn is_low_byte(value: &[u8]) -> bool
 
 /// Writes the encoding of a string at the end of a buffer. It makes room for all of it first, then
 /// writes the header, and then copies the string once.
-#[tactic(auto, using(crate::proofs::Streams::Written::encoding_low))]
+#[tactic(auto, using(crate::proofs::Streams::Written::strings))]
 pub fn write_string(buffer: &mut Buffer, value: &[u8]) -> Result<(), AllocError>
     ensures ok { OnOk result
         (buffer.new.items ≡ buffer.old.items ++ encoding (string value.now)) }
@@ -43,7 +43,7 @@ pub fn write_string(buffer: &mut Buffer, value: &[u8]) -> Result<(), AllocError>
 }
 
 /// The same as [`write_string`] for a string with a header of one byte.
-#[tactic(auto, using(crate::proofs::Streams::Written::written))]
+#[tactic(auto, using(crate::proofs::Streams::Written::strings))]
 fn write_short(buffer: &mut Buffer, value: &[u8]) -> Result<(), AllocError>
     requires short { length value.now ≤ 55 }
     requires headed { is_low_byte value.now ≡ false }
@@ -60,6 +60,7 @@ fn write_short(buffer: &mut Buffer, value: &[u8]) -> Result<(), AllocError>
 }
 
 /// The encoding of a string, alone in a buffer. It allocates once, the length of the encoding.
+#[tactic(auto, using(crate::proofs::Streams::Written::written))]
 pub fn encoded_string(alloc: Global, value: &[u8]) -> Result<BytesMut, AllocError>
     ensures { IfOk result (λ b. b.items ≡ encoding (string value.now)) }
 {
@@ -86,6 +87,7 @@ pub fn encoded_digit(alloc: Global, digit: u8) -> Result<BytesMut, AllocError>
 
 /// Writes the bytes that an iterator gives at the end of a buffer. A call that fails may leave some
 /// of the bytes.
+#[tactic(auto, using(crate::proofs::Streams::Written::begins_still))]
 fn write_bytes_of<I: IntoIterator<Item = u8>>(
     buffer: &mut Buffer,
     value: I,
@@ -105,6 +107,7 @@ fn write_bytes_of<I: IntoIterator<Item = u8>>(
 
 /// Turns the bytes from a place on into the encoding of the string of these bytes. If the string
 /// isn't its own encoding, it inserts the header.
+#[tactic(auto, using(crate::proofs::Streams::Written::from_place))]
 fn write_header_before(buffer: &mut Buffer, start: usize) -> Result<(), AllocError>
     requires { start ≤ length buffer.old.items }
     ensures ok { OnOk result (buffer.new.items
@@ -135,16 +138,15 @@ pub fn write_string_of<I: IntoIterator<Item = u8>>(
     ensures moved { buffer.new.moved ≡ buffer.old.moved }
 {
     let start = buffer.len();
-    match write_parts_of(buffer, value) {
-        Ok(()) => Ok(()),
-        Err(e) => {
-            buffer.truncate(start);
-            Err(e)
-        }
+    if let Err(e) = write_parts_of(buffer, value) {
+        buffer.truncate(start);
+        return Err(e);
     }
+    Ok(())
 }
 
 /// The same as [`write_string_of`], but a call that fails may leave some of the bytes.
+#[tactic(auto, using(crate::proofs::Streams::Written::parts))]
 fn write_parts_of<I: IntoIterator<Item = u8>>(
     buffer: &mut Buffer,
     value: I,

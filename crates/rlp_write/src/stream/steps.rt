@@ -13,6 +13,7 @@ use std::alloc::AllocError;
 impl RlpStream {
     /// Whether the closed size with these bytes put is at most the limit. It adds up the size, list
     /// by list, only if an upper bound of the size is above the limit.
+    #[tactic(auto, using(crate::proofs::Streams::States::sizes))]
     pub(super) fn is_within_size(&self, bytes: &[u8], limit: usize) -> bool
         ensures { result ≡ is_within_size bytes.now limit self.now.state }
     {
@@ -26,6 +27,7 @@ impl RlpStream {
     }
 
     /// Opens a list that awaits `len` items. A list of no items is written at once.
+    #[tactic(auto, using(crate::proofs::Streams::Listed::opened_none))]
     pub(crate) fn try_begin(&mut self, len: usize) -> Result<(), AllocError>
         ensures ok { OnOk result (self.new.state ≡ with_list_of len self.old.state) }
         ensures refused { OnErr result (IsAsBefore self.old self.new) }
@@ -46,6 +48,7 @@ impl RlpStream {
     /// is counted in the list around it. So each of the `count` lists is made to await one item,
     /// and one item is counted, which closes all of them in one pass. If memory is refused, the
     /// lists are made unbounded again.
+    #[tactic(auto, using(crate::proofs::Streams::Finalizing::finalizing))]
     pub(super) fn try_finalize(&mut self, count: usize) -> Result<(), AllocError>
         requires some { 0 < count }
         requires open { count ≤ unbounded_count self.old.state.stack.lists }
@@ -54,19 +57,16 @@ impl RlpStream {
         ensures moved { MovesWithin self.old self.new }
     {
         self.set_awaits(count, Some(1));
-        match self.put_counted(&[], 1) {
-            Ok(()) => {
-                self.set_counted(true);
-                Ok(())
-            }
-            Err(e) => {
-                self.set_awaits(count, None);
-                Err(e)
-            }
+        if let Err(e) = self.put_counted(&[], 1) {
+            self.set_awaits(count, None);
+            return Err(e);
         }
+        self.set_counted(true);
+        Ok(())
     }
 
     /// Counts items in the innermost open list. With no list open it doesn't fail.
+    #[tactic(auto, using(crate::proofs::Streams::States::put_none))]
     fn try_count(&mut self, items: usize) -> Result<(), AllocError>
         ensures ok { OnOk result (self.new.state ≡ count items self.old.state) }
         ensures room { IsFinished self.old.state → IsOk result }
@@ -77,6 +77,7 @@ impl RlpStream {
     }
 
     /// Puts a value and counts it if `is_counted` is false. A call that fails may leave some bytes.
+    #[tactic(auto, using(crate::proofs::Streams::Growth::values))]
     fn put_value<E: Encodable>(&mut self, value: &E) -> Result<(), AllocError>
         requires { self.old.state.is_counted ≡ false }
         ensures fits { OnOk result (E.fits value.now) }
@@ -95,6 +96,7 @@ impl RlpStream {
 
     /// Puts the string that an iterator gives and counts it. A call that fails may leave some
     /// bytes.
+    #[tactic(auto, using(crate::proofs::Streams::Growth::growth))]
     fn put_iter<I: IntoIterator<Item = u8>>(&mut self, value: I) -> Result<(), AllocError>
         requires uncounted { self.old.state.is_counted ≡ false }
         requires ends { IsFiniteIterable I.into_iter_gives I.IntoIter.can_next I.IntoIter.remaining value }
@@ -109,6 +111,7 @@ impl RlpStream {
     }
 
     /// Appends a value. If that fails, goes back to the place before the call.
+    #[tactic(auto, using(crate::proofs::Streams::Rewinding::grown_uncounted))]
     pub(crate) fn try_append<E: Encodable>(&mut self, value: &E) -> Result<(), AllocError>
         ensures fits { OnOk result (E.fits value.now) }
         ensures ok { OnOk result (self.new.state ≡ add (E.item value.now) self.old.state) }
@@ -119,13 +122,11 @@ impl RlpStream {
     {
         let place = self.place();
         self.set_counted(false);
-        match self.put_value(value) {
-            Ok(()) => Ok(()),
-            Err(e) => {
-                self.go_back(place);
-                Err(e)
-            }
+        if let Err(e) = self.put_value(value) {
+            self.go_back(place);
+            return Err(e);
         }
+        Ok(())
     }
 
     /// Writes a value by its own `rlp_append`. If that fails, goes back to the place before the
@@ -139,17 +140,16 @@ impl RlpStream {
         ensures moved { MovedGrows self.old self.new }
     {
         let place = self.place();
-        match value.rlp_append(self) {
-            Ok(()) => Ok(()),
-            Err(e) => {
-                self.go_back(place);
-                Err(e)
-            }
+        if let Err(e) = value.rlp_append(self) {
+            self.go_back(place);
+            return Err(e);
         }
+        Ok(())
     }
 
     /// Appends the string that an iterator gives. If that fails, goes back to the place before the
     /// call.
+    #[tactic(auto, using(crate::proofs::Streams::Rewinding::grown_uncounted))]
     pub(super) fn try_append_iter<I: IntoIterator<Item = u8>>(
         &mut self,
         value: I,
@@ -163,12 +163,10 @@ impl RlpStream {
     {
         let place = self.place();
         self.set_counted(false);
-        match self.put_iter(value) {
-            Ok(()) => Ok(()),
-            Err(e) => {
-                self.go_back(place);
-                Err(e)
-            }
+        if let Err(e) = self.put_iter(value) {
+            self.go_back(place);
+            return Err(e);
         }
+        Ok(())
     }
 }

@@ -3,8 +3,8 @@
 ghost use Rattle.std.specs.{Prelude.{◌∷◌, [], All, IfSome, map}, Vec.vec_items, declared.alloc.Global.Global};
 ghost use Rattle.rlp_format.specs.{Format.Encoding.list_of, Values.Value.items_if};
 
-use crate::stream::{Listed, RlpStream};
-use crate::structs::AppendFields;
+use crate::stream::RlpStream;
+use crate::structs::{AppendFields, Listed};
 use crate::traits::Encodable;
 use std::alloc::AllocError;
 
@@ -33,6 +33,7 @@ impl<T: Encodable> AppendFields for Optional<'_, T> {
         }
     }
 
+    #[tactic(auto, using(crate::proofs::Streams::Fields::some_none))]
     fn append_fields(&self, s: &mut RlpStream) -> Result<(), AllocError> {
         match self.0 {
             Some(value) => s.try_append(value),
@@ -55,6 +56,7 @@ impl<T: Encodable> AppendFields for OptionalListOf<'_, T> {
         }
     }
 
+    #[tactic(auto, using(crate::proofs::Streams::Fields::some_none))]
     fn append_fields(&self, s: &mut RlpStream) -> Result<(), AllocError> {
         match self.0 {
             Some(values) => s.try_append(&Listed(values.as_slice())),

@@ -3,8 +3,8 @@
 ghost use Rattle.std.specs.Prelude.{◌∷◌, [], All, map};
 ghost use Rattle.rlp_format.specs.{Format.Encoding.list_of, Values.Value.all_items};
 
-use crate::stream::{Listed, RlpStream};
-use crate::structs::AppendFields;
+use crate::stream::RlpStream;
+use crate::structs::{AppendFields, write_struct};
 use crate::traits::Encodable;
 use std::alloc::AllocError;
 
@@ -29,6 +29,7 @@ impl<T: Encodable> AppendFields for ListOf<'_, T> {
         Some(1)
     }
 
+    #[tactic(auto, using(crate::proofs::Streams::Fields::some_none))]
     fn append_fields(&self, s: &mut RlpStream) -> Result<(), AllocError> {
         s.try_append(&Listed(self.0))
     }
@@ -44,6 +45,7 @@ impl<T: Encodable> AppendFields for Each<'_, T> {
         Some(self.0.len())
     }
 
+    #[tactic(auto, using(crate::proofs::Streams::Fields::each))]
     fn append_fields(&self, s: &mut RlpStream) -> Result<(), AllocError> {
         let values = self.0;
         for value in values {
@@ -58,27 +60,37 @@ impl<T: AppendFields> AppendFields for Flattened<'_, T> {
 
     ghost fit = { λ v. All T.fit v.0.now };
 
+    #[tactic(auto, using(crate::proofs::Streams::Fields::flattened))]
     fn field_count(&self) -> Option<usize> {
         let values = self.0;
         let mut count: usize = 0;
         for value in values {
-            let more = match value.field_count() {
-                Some(more) => more,
-                None => return None,
-            };
-            count = match count.checked_add(more) {
-                Some(sum) => sum,
-                None => return None,
-            };
+            let more = value.field_count()?;
+            count = count.checked_add(more)?;
         }
         Some(count)
     }
 
+    #[tactic(auto, using(crate::proofs::Streams::Fields::flattened))]
     fn append_fields(&self, s: &mut RlpStream) -> Result<(), AllocError> {
         let values = self.0;
         for value in values {
             value.append_fields(s)?;
         }
         Ok(())
+    }
+}
+
+/// Values that are written as one list.
+#[derive(Drop)]
+pub(crate) struct Listed<'a, E>(pub(crate) &'a [E]);
+
+impl<E: Encodable> Encodable for Listed<'_, E> {
+    ghost item = { λ v. list_of (map E.item v.0.now) };
+
+    ghost fits = { λ v. All E.fits v.0.now };
+
+    fn rlp_append(&self, s: &mut RlpStream) -> Result<(), AllocError> {
+        write_struct(s, &Each(self.0))
     }
 }

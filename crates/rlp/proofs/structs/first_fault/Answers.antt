@@ -2,13 +2,6 @@ use Rattle.std.proofs.Common.{Some, arith, inl, inr, sym, ap, ◌∙◌, ⊎_eli
 use Rattle.rlp.proofs.Counting.{count_refused, fault_at, listed}
 use Rattle.rlp.proofs.structs.first_fault.Goals as goal
 
-pub returns-then-accepts-clause-fault : goal.returns-then-accepts-clause-fault
-returns-then-accepts-clause-fault g c =
-    let r = g.F.DecodeFields.reading in
-    let v = c.args.rlp.now in
-    let count = sym c.in-Ok.ensures in
-    ⊎_elim (λ f. inl (fault_at r v _ _ _ count f (sym c.if-accepts.ensures)).fault) inr (c.requires.found (listed r v _ count))
-
 pub returns-then-accepts-clause-place : goal.returns-then-accepts-clause-place
 returns-then-accepts-clause-place g c =
     let r = g.F.DecodeFields.reading in
@@ -16,10 +9,6 @@ returns-then-accepts-clause-place g c =
     let count = sym c.in-Ok.ensures in
     ⊎_elim (λ f. inl ((fault_at r v _ _ _ count f (sym c.if-accepts.ensures)).place ∙ ap Some (omega (arith, c.saturating_sub.ensures, c.saturating_sub-then-accepts.ensures)))) inr
     (c.requires.found (listed r v _ count))
-
-pub returns-clause-fault : goal.returns-clause-fault
-returns-clause-fault g c =
-    inl (count_refused g.F.DecodeFields.reading c.args.rlp.now _ (sym c.in-Ok.ensures) (sym c.if-accepts.ensures)).fault
 
 pub returns-clause-place : goal.returns-clause-place
 returns-clause-place g c =

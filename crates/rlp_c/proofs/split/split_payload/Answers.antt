@@ -1,6 +1,6 @@
 use Rattle.std.proofs.Common.{rules, sym, ap, ◌∙◌}
 use Rattle.rlp_reading.specs.Format.Framing.{framing}
-use Rattle.rlp_reading.proofs.{Lemmas.Frames.item_some, Format.Following.framing-followed, Format.StrictLists.no_bytes}
+use Rattle.rlp_reading.proofs.{Lemmas.Frames.item_some, Lemmas.Texts.framing-followed, Lemmas.Numbered.no_bytes}
 use Rattle.rlp_c.proofs.Splitting.{splitting_ends, splitting_one}
 use Rattle.rlp_c.proofs.split.split_payload.Goals as goal
 

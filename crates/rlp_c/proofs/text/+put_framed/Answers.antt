@@ -1,6 +1,6 @@
 use Rattle.std.proofs.Common.{◌<◌, [], ◌++◌, map, codes, length, sym, refl, arith}
 use Rattle.rlp_reading.specs.{Format.Framing.{items, split}, Views.Text.{separated, text}}
-use Rattle.rlp_reading.proofs.Views.Printing.{done-all, done-next, item-shorter, items-list, length-framed, text-list, text-string}
+use Rattle.rlp_reading.proofs.Lemmas.Texts.{done-all, done-next, item-shorter, items-list, length-framed, text-list, text-string}
 use Rattle.rlp_c.proofs.Texts.{printing_one, put_as, put_both}
 use Rattle.rlp_c.proofs.text.+put_framed.Goals as goal
 

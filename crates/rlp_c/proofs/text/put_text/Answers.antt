@@ -1,6 +1,6 @@
 use Rattle.std.proofs.Common.{ap, refl, sym, ◌∙◌}
 use Rattle.rlp_reading.specs.Views.Text.{text}
-use Rattle.rlp_reading.proofs.{Format.Following.text-followed, Views.Printing.{length-some, text-fault, text-null}}
+use Rattle.rlp_reading.proofs.Lemmas.Texts.{text-followed, length-some, text-fault, text-null}
 use Rattle.rlp_c.proofs.Texts.{put_as}
 use Rattle.rlp_c.proofs.text.put_text.Goals as goal
 

@@ -1,8 +1,8 @@
 use Rattle.std.proofs.{Common.{rules, sym}, lemmas.Grind.common_steps}
 use Rattle.rlp_format.proofs.Lemmas.Digits.{bytes_held}
 use Rattle.rlp_reading.proofs.Lemmas.Frames.{split_framed, split_unframed}
-use Rattle.rlp_reading.proofs.Views.Fronts.{front_frame, front_frame_fault, front_item, front_ends, front_item_value, front_value, front_value_fault}
-use Rattle.rlp_reading.proofs.{Views.ItemPlaces.fault-err, Views.ViewKinds.item_whole, Lemmas.Propagated.propagated}
+use Rattle.rlp_reading.proofs.Lemmas.Fronts.{front_frame, front_frame_fault, front_item, front_ends, front_item_value, front_value, front_value_fault}
+use Rattle.rlp_reading.proofs.{Lemmas.Fronts.{item_whole, propagated}, Lemmas.Numbered.fault-err}
 use Rattle.rlp_reading.proofs.framed.first_framed.Goals as goal
 
 pub returns-in_err-header-clause-frame : goal.returns-in_err-header-clause-frame

@@ -1,5 +1,5 @@
 use Rattle.std.proofs.{Common.arith, lemmas.Grind.common_steps}
-use Rattle.rlp_reading.proofs.{Views.Fronts.{whole_front, long_front, faulty_front}, Lemmas.Propagated.propagated}
+use Rattle.rlp_reading.proofs.Lemmas.Fronts.{whole_front, long_front, faulty_front, propagated}
 use Rattle.rlp_reading.proofs.framed.whole_framed.Goals as goal
 
 pub returns-then-is_empty-clause-fault : goal.returns-then-is_empty-clause-fault

@@ -1,5 +1,5 @@
 use Rattle.std.proofs.Common.{arith, ◌∙◌}
-use Rattle.rlp_reading.proofs.FirstBytes.{first_low, first_string, first_long_string, first_list, first_long_list}
+use Rattle.rlp_reading.proofs.Lemmas.Strings.{first_low, first_string, first_long_string, first_list, first_long_list}
 use Rattle.rlp_reading.proofs.header.header_by_first_byte.Goals as goal
 
 pub returns-in-0-to-127 : goal.returns-in-0-to-127

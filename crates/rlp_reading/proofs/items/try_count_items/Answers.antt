@@ -1,6 +1,6 @@
 use Rattle.std.proofs.Common.{◌≡◌, [], length, ap, sym, ◌∙◌, arith}
 use Rattle.rlp_reading.specs.Format.Framing.{split}
-use Rattle.rlp_reading.proofs.{Format.Splits.split-nil, Format.StrictLists.no_bytes}
+use Rattle.rlp_reading.proofs.Lemmas.Numbered.{split-nil, no_bytes}
 use Rattle.rlp_reading.proofs.items.try_count_items.Goals as goal
 
 pub returns-clause-count : goal.returns-clause-count

@@ -1,5 +1,6 @@
 use Rattle.std.proofs.Common.{◌<◌, ◌^◌, length, arith, sym, ◌∙◌}
-use Rattle.rlp_format.proofs.Lemmas.Encodings.{prefix_free, front_sized}
+use Rattle.rlp_format.proofs.Lemmas.Encodings.{front_sized}
+use Rattle.rlp_reading.proofs.Lemmas.Items.{prefix_free}
 use Rattle.rlp_reading.proofs.laws.encoding_in_front_is_unique.Goals as goal
 
 pub returns : goal.returns

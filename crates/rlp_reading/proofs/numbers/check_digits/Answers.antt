@@ -1,5 +1,5 @@
 use Rattle.rlp_format.proofs.Lemmas.Digits.{none_is_zero}
-use Rattle.rlp_reading.proofs.Lemmas.Numbers.{leading_is_value}
+use Rattle.rlp_reading.proofs.Lemmas.StringsHeld.{leading_is_value}
 use Rattle.rlp_reading.proofs.numbers.check_digits.Goals as goal
 
 pub returns-in-empty-clause-value : goal.returns-in-empty-clause-value

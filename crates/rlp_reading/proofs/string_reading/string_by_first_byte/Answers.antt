@@ -1,5 +1,5 @@
 use Rattle.std.proofs.Common.{arith}
-use Rattle.rlp_reading.proofs.FirstBytes.{alone, short_after, long_after, no_string}
+use Rattle.rlp_reading.proofs.Lemmas.Strings.{alone, short_after, long_after, no_string}
 use Rattle.rlp_reading.proofs.string_reading.string_by_first_byte.Goals as goal
 
 pub returns-in-0-to-127 : goal.returns-in-0-to-127

@@ -1,29 +1,26 @@
 use Rattle.std.proofs.{Common.{◌<◌, ◌++◌, ◌∙◌, ap, ◌∷◌, [], length, sym, rules, refl}, Output.{has_written_styled_append, has_written_styled_of_eq}}
-use Rattle.rlp_reading.specs.Format.Framing.{items, split}
-use Rattle.rlp_reading.proofs.Views.Printing.{length-framed, text-string, text-list, texts-more, separator_after-more, item-shorter, items-list}
-use Rattle.rlp_reading.proofs.Views.Printing.{done-next, done-more, done-all}
+use Rattle.rlp_reading.specs.Format.Framing.{split}
+use Rattle.rlp_reading.proofs.Lemmas.Texts.{length-framed, text-string, text-list, texts-more, separator_after-more, item-shorter, items-list, done-next}
+use Rattle.rlp_reading.proofs.Lemmas.Texts.{done-more, done-all}
 use Rattle.rlp_reading.proofs.text.+write_framed.Goals as goal
 
 pub returns-then-not-is_list : goal.returns-then-not-is_list
 returns-then-not-is_list g t c flush ok =
     let some = length-framed c.args.framed.now.item.now c.args.framed.now.content.now c.args.framed.now.reads in
     has_written_styled_of_eq _ _ _ _ _
-    (text-string c.args.framed.now.item.now c.args.framed.now.content.now some (sym c.if-not-is_list.ensures) c.args.framed.now.reads)
-    (c.write_string.ensures flush ok)
+    (text-string _ _ some (sym c.if-not-is_list.ensures) c.args.framed.now.reads) (c.write_string.ensures flush ok)
 
 pub loop-item-init : goal.loop-item-init
 loop-item-init g t c = record {
   done = [];
-  all = ap split c.new-items.ensures.rest
-      ∙ sym (items-list c.args.framed.now.item.now c.args.framed.now.content.now (sym c.if-not-is_list.ensures) c.args.framed.now.reads);
+  all = ap split c.new-items.ensures.rest ∙ sym (items-list _ _ (sym c.if-not-is_list.ensures) c.args.framed.now.reads);
   next_separator = refl;
   wrote = search rules;
 }
 
 pub write_framed-requires : goal.write_framed-requires
 write_framed-requires g t c κs within =
-    let next = done-next c.loop-item.invariant.done (items c.args.framed.now.item.now) c.loop-item.items.rest c.in-Ok.item.item.now
-    c.next_framed.new.self.rest c.loop-item.invariant.all c.in-Ok.ensures.parts in
+    let next = done-next _ _ _ _ c.next_framed.new.self.rest c.loop-item.invariant.all c.in-Ok.ensures.parts in
     let shorter : length c.in-Ok.item.item.now < length c.args.framed.now.item.now =
     item-shorter c.args.framed.now.item.now c.in-Ok.item.item.now c.loop-item.invariant.done (split c.next_framed.new.self.rest) next in
     search rules
@@ -31,8 +28,7 @@ write_framed-requires g t c κs within =
 pub loop-item-preserved : goal.loop-item-preserved
 loop-item-preserved g t c = record {
   done = c.loop-item.invariant.done ++ c.in-Ok.item.item.now ∷ [];
-  all = done-more c.loop-item.invariant.done (items c.args.framed.now.item.now) c.loop-item.items.rest c.in-Ok.item.item.now
-      c.next_framed.new.self.rest c.loop-item.invariant.all c.in-Ok.ensures.parts;
+  all = done-more c.loop-item.invariant.done _ c.loop-item.items.rest _ _ c.loop-item.invariant.all c.in-Ok.ensures.parts;
   next_separator = separator_after-more c.loop-item.invariant.done c.in-Ok.item.item.now;
   wrote = λ flush.
       let before = c.loop-item.invariant.wrote flush in
@@ -48,9 +44,7 @@ returns g t c flush ok =
     let opened = c.in_ok-write_str.ensures.styled flush (search rules) in
     let written = c.loop-item.invariant.wrote opened.flush in
     let closed = c.write_str-2.ensures.styled written.flush ok in
-    let all = done-all c.loop-item.invariant.done (items c.args.framed.now.item.now) c.loop-item.items.rest c.loop-item.invariant.all
-    c.in_default.ensures.parts in
+    let all = done-all _ _ c.loop-item.items.rest c.loop-item.invariant.all c.in_default.ensures.parts in
     has_written_styled_of_eq _ _ _ _ _
-    (text-list c.args.framed.now.item.now c.args.framed.now.content.now c.loop-item.invariant.done some
-    (sym c.if-not-is_list.ensures) c.args.framed.now.reads all)
+    (text-list _ _ c.loop-item.invariant.done some (sym c.if-not-is_list.ensures) c.args.framed.now.reads all)
     (has_written_styled_append _ _ _ _ _ _ (has_written_styled_append _ _ _ _ _ _ opened written) closed)

@@ -1,7 +1,7 @@
 use Rattle.std.proofs.Common.{◌≡◌, ◌++◌, length, map, List, ℕ}
 use Rattle.std.specs.Fmt.{HasWrittenStyled, IsFlush}
 use Rattle.rlp_reading.specs.{Format.Framing.{items, split}, Views.Text.{text, separated}}
-use Rattle.rlp_reading.proofs.Views.Printing.{separator_after}
+use Rattle.rlp_reading.proofs.Lemmas.Texts.{separator_after}
 use Rattle.rlp_reading.proofs.text.+write_framed.Given as goal
 
 abbrev pub decreases-write_framed : goal.decreases-write_framed

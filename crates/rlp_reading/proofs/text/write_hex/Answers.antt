@@ -1,7 +1,7 @@
 use Rattle.std.proofs.{Common.{[], ◌++◌, ap, refl, rules, ◌∙◌}, Output.{has_written_styled_append, has_written_styled_of_eq}}
 use Rattle.hex.specs.Hex.{encode_lower, encode_with}
 use Rattle.rlp_format.proofs.HexDigits.{digits_append}
-use Rattle.rlp_reading.proofs.Views.Printing.{all-cut}
+use Rattle.rlp_reading.proofs.Lemmas.Texts.{all-cut}
 use Rattle.rlp_reading.proofs.text.write_hex.Goals as goal
 
 pub loop-rest-init : goal.loop-rest-init

@@ -1,6 +1,6 @@
 use Rattle.std.proofs.{Common.{ap, refl, sym, ◌∙◌}, Output.has_written_styled_of_eq}
 use Rattle.rlp_reading.specs.Views.Text.{text}
-use Rattle.rlp_reading.proofs.{Format.Following.text-followed, Views.Printing.{length-some, text-null, text-fault}}
+use Rattle.rlp_reading.proofs.Lemmas.Texts.{text-followed, length-some, text-null, text-fault}
 use Rattle.rlp_reading.proofs.text.write_text.Goals as goal
 
 pub returns-then-is_null : goal.returns-then-is_null

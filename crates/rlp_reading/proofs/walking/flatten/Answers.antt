@@ -1,6 +1,6 @@
-use Rattle.std.proofs.Common.{length, drop, arith}
+use Rattle.std.proofs.Common.{arith}
 use Rattle.rlp_reading.specs.Format.TreeFaults.{faulty, refused}
-use Rattle.rlp_reading.proofs.Trees.Flattening.{flattened_vec}
+use Rattle.rlp_reading.proofs.Trees.Walks.{flattened_vec}
 use Rattle.rlp_reading.proofs.walking.flatten.Goals as goal
 
 pub returns-in-Err-clause-fault : goal.returns-in-Err-clause-fault
@@ -14,6 +14,4 @@ returns-in-Err-walk_whole-clause-fault c = faulty c.in-Err-walk_whole.fault c.in
 
 pub returns-in-Ok-walk_whole-clause-items : goal.returns-in-Ok-walk_whole-clause-items
 returns-in-Ok-walk_whole-clause-items c =
-    flattened_vec c.args.bytes.now c.args.max_depth c.walk_whole.new.out c.as_mut_slice.result.now c.walk_whole-2.new.out
-    (drop (length c.walk_whole-2.new.out) c.in-Ok-from_elem.items.items) c.in-Ok-from_elem.items.len c.in-Ok.count c.in-Ok-walk_whole.field-0
-    (omega arith) c.as_mut_slice.ensures.len c.in-Ok-from_elem.ensures.len c.in-Ok.ensures.walked c.in-Ok-walk_whole.ensures.walked
+    flattened_vec _ (omega arith) c.as_mut_slice.ensures.len c.in-Ok-from_elem.ensures.len c.in-Ok.ensures.walked c.in-Ok-walk_whole.ensures.walked

@@ -1,5 +1,5 @@
 use Rattle.std.proofs.Common.{arith}
-use Rattle.rlp_reading.proofs.{Trees.Canonical.not_whole, Trees.Faults.tree_fault-frame, Trees.Flattening.fault_whole}
+use Rattle.rlp_reading.proofs.{Trees.Canonical.{not_whole, tree_fault-frame}, Trees.Walks.fault_whole}
 use Rattle.rlp_reading.proofs.walking.walk_whole.Goals as goal
 
 pub returns-in-Ok-clause-fault : goal.returns-in-Ok-clause-fault

@@ -1,7 +1,7 @@
 use Rattle.std.proofs.Common.{refl}
 use Rattle.rlp_show.specs.Display.{a_list, a_string, an_object, end}
 use Rattle.rlp_show.specs.Messages.{disconnect_display, get_block_headers_display, hello_display, new_block_display, new_block_hash_display, new_pooled_transaction_hashes_display, range_display, receipt69_display, status68_display, status69_display}
-use Rattle.rlp_show.specs.{Records.any_receipt_display, Transactions.any_transaction_display, Transactions.pooled_transaction_display}
+use Rattle.rlp_show.specs.{Records.any_receipt_display, Shown.after_number, Transactions.any_transaction_display, Transactions.pooled_transaction_display}
 use Rattle.rlp_show.specs.Blocks.{body_fields_display, header_display}
 use Rattle.rlp_show.proofs.known.put_message.Goals as goal
 
@@ -39,28 +39,28 @@ pub returns-in-BlockRangeUpdate : goal.returns-in-BlockRangeUpdate
 returns-in-BlockRangeUpdate c = rw c.in-BlockRangeUpdate.is (c.put_record-in-BlockRangeUpdate.ensures (an_object range_display).shown (λ x. refl))
 
 pub returns-in-GetBlockHeaders : goal.returns-in-GetBlockHeaders
-returns-in-GetBlockHeaders c = rw c.in-GetBlockHeaders.is (c.put_numbered.ensures get_block_headers_display.shown (λ x. refl))
+returns-in-GetBlockHeaders c = rw c.in-GetBlockHeaders.is (c.put_record-in-GetBlockHeaders.ensures (λ m. after_number get_block_headers_display.shown (m.0, m.1.0)) (λ x. refl))
 
 pub returns-in-BlockHeaders : goal.returns-in-BlockHeaders
-returns-in-BlockHeaders c = rw c.in-BlockHeaders.is (c.put_numbered-in-BlockHeaders.ensures (a_list header_display).shown (λ x. refl))
+returns-in-BlockHeaders c = rw c.in-BlockHeaders.is (c.put_record-in-BlockHeaders.ensures (λ m. after_number (a_list header_display).shown (m.0, m.1.0)) (λ x. refl))
 
 pub returns-in-BlockBodies : goal.returns-in-BlockBodies
-returns-in-BlockBodies c = rw c.in-BlockBodies.is (c.put_numbered-in-BlockBodies.ensures (a_list (an_object body_fields_display)).shown (λ x. refl))
+returns-in-BlockBodies c = rw c.in-BlockBodies.is (c.put_record-in-BlockBodies.ensures (λ m. after_number (a_list (an_object body_fields_display)).shown (m.0, m.1.0)) (λ x. refl))
 
 pub returns-in-PooledTransactions : goal.returns-in-PooledTransactions
-returns-in-PooledTransactions c = rw c.in-PooledTransactions.is (c.put_numbered-in-PooledTransactions.ensures (a_list pooled_transaction_display).shown (λ x. refl))
+returns-in-PooledTransactions c = rw c.in-PooledTransactions.is (c.put_record-in-PooledTransactions.ensures (λ m. after_number (a_list pooled_transaction_display).shown (m.0, m.1.0)) (λ x. refl))
 
 pub returns-in-Receipts68 : goal.returns-in-Receipts68
-returns-in-Receipts68 c = rw c.in-Receipts68.is (c.put_numbered-in-Receipts68.ensures (a_list (a_list any_receipt_display)).shown (λ x. refl))
+returns-in-Receipts68 c = rw c.in-Receipts68.is (c.put_record-in-Receipts68.ensures (λ m. after_number (a_list (a_list any_receipt_display)).shown (m.0, m.1.0)) (λ x. refl))
 
 pub returns-in-Receipts69 : goal.returns-in-Receipts69
-returns-in-Receipts69 c = rw c.in-Receipts69.is (c.put_numbered-in-Receipts69.ensures (a_list (a_list receipt69_display)).shown (λ x. refl))
+returns-in-Receipts69 c = rw c.in-Receipts69.is (c.put_record-in-Receipts69.ensures (λ m. after_number (a_list (a_list receipt69_display)).shown (m.0, m.1.0)) (λ x. refl))
 
 pub returns-in-GetBlockBodies : goal.returns-in-GetBlockBodies
-returns-in-GetBlockBodies c = rw c.in-GetBlockBodies.is (c.put_numbered-in-GetBlockBodies.ensures (a_list a_string).shown (λ x. refl))
+returns-in-GetBlockBodies c = rw c.in-GetBlockBodies.is (c.put_record-in-GetBlockBodies.ensures (λ m. after_number (a_list a_string).shown (m.0, m.1.0)) (λ x. refl))
 
 pub returns-in-GetPooledTransactions : goal.returns-in-GetPooledTransactions
-returns-in-GetPooledTransactions c = rw c.in-GetPooledTransactions.is (c.put_numbered-in-GetPooledTransactions.ensures (a_list a_string).shown (λ x. refl))
+returns-in-GetPooledTransactions c = rw c.in-GetPooledTransactions.is (c.put_record-in-GetPooledTransactions.ensures (λ m. after_number (a_list a_string).shown (m.0, m.1.0)) (λ x. refl))
 
 pub returns-in-GetReceipts : goal.returns-in-GetReceipts
-returns-in-GetReceipts c = rw c.in-GetReceipts.is (c.put_numbered-in-GetReceipts.ensures (a_list a_string).shown (λ x. refl))
+returns-in-GetReceipts c = rw c.in-GetReceipts.is (c.put_record-in-GetReceipts.ensures (λ m. after_number (a_list a_string).shown (m.0, m.1.0)) (λ x. refl))

@@ -1,10 +1,9 @@
-use Rattle.std.proofs.Common.{refl}
+use Rattle.std.proofs.Common.{refl, sym}
 use Rattle.rlp_show.specs.Transactions.{any_transaction_display}
-use Rattle.rlp_show.proofs.{Alone.signed_given, Readings.given_at}
+use Rattle.rlp_show.proofs.Readings.{other_fault, put_as, unsigned_faulty}
 use Rattle.rlp_show.proofs.known.put_transaction.Goals as goal
 
 pub returns-in_default : goal.returns-in_default
 returns-in_default c =
-    given_at _ _ _ _ _ _ _ _ _ _ c.put_alone.ensures.short
-    (signed_given c.args.given.now.bytes.now c.in-Err.fault _ c.in-Err.ensures.fault c.in_default.not-OutOfMemory)
-    (c.put_alone.ensures.text any_transaction_display.shown (λ x. refl))
+    put_as _ _ _ _ _ _ _ _ _ (sym (unsigned_faulty c.args.given.now.bytes.now _ (other_fault _ _ _ c.in-Err.ensures.fault c.in_default.not-OutOfMemory)))
+    (c.put_alone.ensures any_transaction_display.shown (λ x. refl))

@@ -1,5 +1,5 @@
 use Rattle.std.proofs.Common.{arith}
-use Rattle.rlp_show.proofs.{LineLemmas.line_answered, LineLemmas.line_slice, OnlyAlone.receipt_only}
+use Rattle.rlp_show.proofs.LineLemmas.{line_answered, line_slice, receipt_only}
 use Rattle.rlp_show.specs.declared.kind.Kind.TheVariants as kind
 use Rattle.rlp_show.proofs.laws.only_receipts_are_shown.Goals as goal
 

@@ -1,5 +1,5 @@
 use Rattle.std.proofs.Common.{arith}
-use Rattle.rlp_show.proofs.{LineLemmas.line_answered, LineLemmas.line_slice, OnlyAlone.transaction_only}
+use Rattle.rlp_show.proofs.LineLemmas.{line_answered, line_slice, transaction_only}
 use Rattle.rlp_show.specs.declared.kind.Kind.TheVariants as kind
 use Rattle.rlp_show.proofs.laws.only_transactions_are_shown.Goals as goal
 

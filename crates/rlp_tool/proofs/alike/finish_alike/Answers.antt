@@ -1,8 +1,26 @@
-use Rattle.std.proofs.Common.{rules, ◌≡◌, inl, inr, refl, ⊎_elim, Option, Some, None, IsSome, subst, sym}
-use Rattle.rlp.specs.Streams.Described.{FinishAs}
-use Rattle.rlp_tool.specs.{Building.AreJoined, StreamCalls.calls_of}
-use Rattle.rlp_tool.proofs.AlikeLemmas.{described_by, none_holds, second_refused, some_fails}
+use Rattle.std.proofs.Common.{rules, ◌≡◌, ◌↔◌, ◌⊎◌, inl, inr, refl, true, false, ⊎_elim, ℕ, List, Option, Some, None, IsNone, IsSome, subst, sym}
+use Rattle.std.proofs.Common.{Result, Ok, Err, IfErr}
+use Rattle.rlp.specs.{Streams.Stream.Call, Streams.Described.FinishAs}
+use Rattle.rlp_tool.specs.{declared.building.BuildFault.BuildFault, Building.{AreJoined, DescribeItems, IsRefusal}, StreamCalls.calls_of}
 use Rattle.rlp_tool.proofs.alike.finish_alike.Goals as goal
+
+-- ---- an option that is `None` if and only if P holds
+
+none_holds : {T P : Type 0} (o : Option T) → o ≡ None → (IsNone o ↔ P) → P
+none_holds None e told = told.0 refl
+none_holds (Some x) e told = absurd (let no : ⊥ = cc in no)
+
+some_fails : {T P : Type 0} (o : Option T) (x : T) → o ≡ Some x → (IsNone o ↔ P) → ¬ P
+some_fails None x e told = absurd (let no : ⊥ = cc in no)
+some_fails (Some y) x e told = λ p. let wrong : true ≡ false = told.1 p in let never : ⊥ = cc in never
+
+-- ---- faults
+
+-- the first calls describe items, and the second have a fault
+second_refused : {T : Type 0} (front : List ℕ) (ones others : List Call) (r : Result T BuildFault) → DescribeItems front ones
+    → IfErr r (IsRefusal front others) → IfErr r (λ fault. IsRefusal front ones fault ⊎ (DescribeItems front ones × IsRefusal front others fault))
+second_refused front ones others (Ok x) described told = tt
+second_refused front ones others (Err fault) described told = inr (described, told)
 
 none_some : {T : Type 0} (o : Option T) → o ≡ None → IsSome o → ⊥
 none_some (Some x) e h = let never : ⊥ = cc in never
@@ -51,7 +69,7 @@ returns-in_err-second-clause-refused g c =
     let ones = calls_of g.A.Encodable.item c.args.one.now in
     let others = calls_of g.B.Encodable.item c.args.other.now in
     let joined : AreJoined c.args.front.now ones c.in-Some.first.items = rw c.in-Some.is at c.in_ok-first.ensures.joined in
-    second_refused c.args.front.now ones others c.from_residual-in_err-second.result (described_by c.args.front.now ones c.in-Some.first.items joined)
+    second_refused c.args.front.now ones others c.from_residual-in_err-second.result (joined.items, joined.shallow)
     (search (rules, c.in_err-second.ensures.refused))
 
 pub returns-in_default-2-clause-left_open : goal.returns-in_default-2-clause-left_open

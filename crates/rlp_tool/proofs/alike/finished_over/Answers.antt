@@ -1,8 +1,14 @@
-use Rattle.std.proofs.Common.{refl}
-use Rattle.rlp.specs.Streams.Described.{FinishAs}
-use Rattle.rlp_tool.specs.{Building.StayOpen, StreamCalls.calls_of}
-use Rattle.rlp_tool.proofs.AlikeLemmas.{finished_closed}
+use Rattle.std.proofs.Common.{◌≡◌, ◌∙◌, ap, refl, List, ℕ}
+use Rattle.rlp.specs.{Streams.Stream.{State, Call, after}, Streams.Described.FinishAs}
+use Rattle.rlp_tool.specs.{Building.{LeaveOpen, StayOpen}, StreamCalls.calls_of}
+use Rattle.rlp_tool.proofs.CallsLemmas.{same_last}
 use Rattle.rlp_tool.proofs.alike.finished_over.Goals as goal
+
+-- calls that finish leave no list open
+finished_closed : (front : List ℕ) (calls : List Call) (bytes : List ℕ) → FinishAs front calls bytes → ¬ LeaveOpen front calls
+finished_closed front calls bytes done (size, raw, left) =
+    let same : left.last ≡ done.last = same_last (after front calls) left.last done.last left.admitted done.admitted in
+    left.unfinished (ap (λ (s : State). s.stack.lists) same ∙ done.closed)
 
 pub returns-in-Ok-Open-clause-described : goal.returns-in-Ok-Open-clause-described
 returns-in-Ok-Open-clause-described g c = λ items d. absurd (rw c.in-Ok-Open.field-0-is at (c.in-Ok-Open.ensures.described items d))

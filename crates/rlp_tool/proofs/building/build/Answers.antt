@@ -1,6 +1,7 @@
-use Rattle.std.proofs.{Common.rules, lemmas.Result.{IfOk-weaker, err_from_is_err_and}}
-use Rattle.rlp_tool.specs.{Making.AreMade, StreamCalls.calls_of}
-use Rattle.rlp_tool.proofs.CallsLemmas.{built, described_built, described_refused, joined_built, memory_refused, OnOk-all}
+use Rattle.std.proofs.{Common.{rules, subst}, lemmas.Result.{IfOk-weaker, err_from_is_err_and}}
+use Rattle.rlp.specs.Streams.Stream.{initial_state}
+use Rattle.rlp_tool.specs.{Making.{AreMade}, StreamCalls.calls_of}
+use Rattle.rlp_tool.proofs.CallsLemmas.{all_taken, built, described_built, described_refused, joined_built, memory_refused, OnOk-all}
 use Rattle.rlp_tool.proofs.MakingLemmas.{all_made, one_fails}
 use Rattle.rlp_tool.proofs.building.build.Goals as goal
 
@@ -10,14 +11,14 @@ returns g c =
     let front = c.args.front.items in
     let s = c.make_calls.new.stream.state in
     let law = c.stream_joins_what_is_described.ensures in
-    let made : AreMade front all s = all_made front all _ _ s (c.in_ok-make_calls.ensures.made front c.new_with_buffer-stream.ensures.state)
-    c.in_ok-make_calls.ensures.ended in
-    let ok = IfOk-weaker c.held.result _ _ (λ b. built front all s b made.admitted made.same_front) c.held.ensures.ok in
+    let made : AreMade (initial_state front) all s = subst (λ u. AreMade u all s) c.new_with_buffer-stream.ensures.state
+    (all_made all _ _ _ _ s c.in_ok-make_calls.ensures.made c.in_ok-make_calls.ensures.ended) in
+    let ok = IfOk-weaker c.held.result _ _ (built front all s made (law.payloads front all)) c.held.ensures.ok in
     record {
       ok = ok;
       refused = memory_refused front all c.held.result c.held.ensures.refused;
-      taken = OnOk-all c.held.result made.taken;
-      joined = IfOk-weaker c.held.result _ _ (λ b. joined_built front all s b made (law.payloads front all made.taken.steps)) c.held.ensures.ok;
+      taken = OnOk-all c.held.result (all_taken front all s made (law.payloads front all));
+      joined = IfOk-weaker c.held.result _ _ (joined_built front all s made (law.payloads front all)) c.held.ensures.ok;
       described = λ items d. IfOk-weaker c.held.result _ _ (λ b. described_built front all items b (law.finished front all items d)) ok;
       described_refused = search rules;
     }
@@ -26,7 +27,7 @@ pub returns-in_err-make_calls-clause-refused : goal.returns-in_err-make_calls-cl
 returns-in_err-make_calls-clause-refused g c =
     let p = err_from_is_err_and c.from_residual.result c.from_residual.ensures.1 in
     rw (p.1, p.2) (one_fails c.args.front.items (calls_of g.E.Encodable.item c.args.calls.now) _ _ _ _
-    (c.in_err-make_calls.ensures.made c.args.front.items c.new_with_buffer-stream.ensures.state))
+    (rw c.new_with_buffer-stream.ensures.state at c.in_err-make_calls.ensures.made))
 
 pub returns-in_err-make_calls-clause-described : goal.returns-in_err-make_calls-clause-described
 returns-in_err-make_calls-clause-described g c = λ items d.
@@ -38,4 +39,4 @@ returns-in_err-make_calls-clause-described_refused g c = λ items d.
     let front = c.args.front.items in
     let all = calls_of g.E.Encodable.item c.args.calls.now in
     rw (p.1, p.2) (described_refused front all items _ d
-    (one_fails front all _ _ _ _ (c.in_err-make_calls.ensures.made front c.new_with_buffer-stream.ensures.state)))
+    (one_fails front all _ _ _ _ (rw c.new_with_buffer-stream.ensures.state at c.in_err-make_calls.ensures.made)))

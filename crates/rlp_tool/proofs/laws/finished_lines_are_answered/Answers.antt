@@ -1,7 +1,8 @@
 use Rattle.std.proofs.Common.{[], refl}
 use Rattle.rlp.proofs.Streams.Descriptions.{items_anyhow}
-use Rattle.rlp_tool.specs.{Building.AreTaken, RawItems.IsShallow}
-use Rattle.rlp_tool.proofs.{AnswerLemmas.{answer-described, answer-ends, answer-finishes}, CallsLemmas.are_joined}
+use Rattle.rlp.specs.Streams.Stream.{initial_state}
+use Rattle.rlp_tool.specs.{RawItems.IsShallow}
+use Rattle.rlp_tool.proofs.{AnswerLemmas.{answer-described, answer-ends, answer-finishes}, CallsLemmas.{are_joined, made_steps}}
 use Rattle.rlp_tool.proofs.laws.finished_lines_are_answered.Goals as goal
 
 pub returns : goal.returns
@@ -15,8 +16,8 @@ returns c =
         answer-finishes line calls bytes says taken f,
       );
       only = λ calls says begins.
-          let e = answer-ends line calls c.parts_of_sized_are_sized.ensures.join says begins in
-          let taken : AreTaken [] calls = record { steps = e.steps; described = e.described } in
-          let j = are_joined [] calls e.last e.last.stack.inner taken (law.payloads [] calls e.steps) e.admitted e.closed refl in
+          let (last, made, closed) = answer-ends line calls c.parts_of_sized_are_sized.ensures.join says begins in
+          let (steps, described, admitted) = made_steps 1 (initial_state []) calls last made in
+          let j = are_joined [] calls last last.stack.inner (record { steps = steps; described = described }) (law.payloads [] calls steps) admitted closed refl in
           (j.items, j.shallow, answer-described line calls j.items (law.finished [] calls j.items j.described) says j.shallow);
     }

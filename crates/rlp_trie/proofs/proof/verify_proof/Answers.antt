@@ -1,7 +1,7 @@
 use Rattle.std.proofs.Common.{◌≡◌, map, rules, subst, sym}
 use Rattle.std.specs.Vec.{vec_items}
 use Rattle.rlp.specs.Format.Encoding.{string}
-use Rattle.rlp_reading.proofs.Lemmas.Reading.{bytes_held}
+use Rattle.rlp_format.proofs.Lemmas.Digits.{bytes_held}
 use Rattle.rlp_trie.specs.{HexPrefix.{AreNibbles, nibbles_of}, Next.IsEnd}
 use Rattle.rlp_trie.proofs.{PathLemmas.nibbles_are, WalkLemmas.end_proves}
 use Rattle.rlp_trie.proofs.proof.verify_proof.Goals as goal

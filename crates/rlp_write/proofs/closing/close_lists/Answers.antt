@@ -35,33 +35,3 @@ pub returns-after-loop-left-clause-bytes : goal.returns-after-loop-left-clause-b
 returns-after-loop-left-clause-bytes c =
     let none : c.loop-left.left ≡ 0 = omega arith in
     closes_all _ c.loop-left.buffer.items c.loop-left.from c.loop-left.to c.loop-left.lists (rw none at c.loop-left.invariant.closes)
-
-pub returns-after-loop-left-clause-moved : goal.returns-after-loop-left-clause-moved
-returns-after-loop-left-clause-moved c =
-    let none : c.loop-left.left ≡ 0 = omega arith in
-    let lowest = rw none at c.loop-left.invariant.lowest in
-    omega (arith, lowest, c.loop-left.invariant.moved)
-
-pub overflow_sub-len : goal.overflow_sub-len
-overflow_sub-len c =
-    let order = rw c.in-Some.ensures at c.loop-left.invariant.closes.order in
-    omega (arith, order.0)
-
-pub overflow_sub-to : goal.overflow_sub-to
-overflow_sub-to c = omega (arith, c.loop-left.invariant.closes.room)
-
-pub shift-requires-clause-within : goal.shift-requires-clause-within
-shift-requires-clause-within c =
-    let order = rw c.in-Some.ensures at c.loop-left.invariant.closes.order in
-    omega (arith, order.0, c.loop-left.invariant.closes.room, c.loop-left.invariant.closes.within)
-
-pub shift-requires-clause-forward : goal.shift-requires-clause-forward
-shift-requires-clause-forward c =
-    let order = rw c.in-Some.ensures at c.loop-left.invariant.closes.order in
-    omega (arith, order.0, c.loop-left.invariant.closes.room)
-
-pub returns-in-loop-left : goal.returns-in-loop-left
-returns-in-loop-left c =
-    let enough = c.loop-left.invariant.closes.enough in
-    let popped = c.pop.ensures in
-    absurd (grind arith)

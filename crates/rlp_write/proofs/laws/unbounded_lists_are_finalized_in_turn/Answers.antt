@@ -1,4 +1,4 @@
-use Rattle.rlp_write.proofs.Streams.InTurn.{finalized-next, finalized-in_turn}
+use Rattle.rlp_write.proofs.Streams.Finalizing.{finalized-next, finalized-in_turn}
 use Rattle.rlp_write.proofs.laws.unbounded_lists_are_finalized_in_turn.Goals as goal
 
 pub returns-clause-admitted : goal.returns-clause-admitted

@@ -1,5 +1,5 @@
 use Rattle.std.proofs.Common.{ap, arith, length, rules}
-use Rattle.rlp_reading.proofs.{Lemmas.Numbers.lone_digit, StringLaws.number_given}
+use Rattle.rlp_reading.proofs.{Lemmas.StringsHeld.lone_digit, StringLaws.number_given}
 use Rattle.rlp.proofs.impls.number.number_within.Goals as goal
 
 pub returns-in-1-to-127-clause-fits : goal.returns-in-1-to-127-clause-fits

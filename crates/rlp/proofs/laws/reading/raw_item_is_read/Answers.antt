@@ -1,6 +1,5 @@
-use Rattle.rlp_reading.specs.Form.{raw_item}
 use Rattle.rlp_reading.proofs.Readings.{one_reading, raw_whole}
 use Rattle.rlp.proofs.laws.reading.raw_item_is_read.Goals as goal
 
 pub returns : goal.returns
-returns c = one_reading raw_item c.args.rlp.now raw_whole
+returns c = one_reading _ _ raw_whole

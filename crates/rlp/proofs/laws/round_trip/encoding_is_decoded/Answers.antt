@@ -6,7 +6,7 @@ use Rattle.rlp.proofs.laws.round_trip.encoding_is_decoded.Goals as goal
 pub returns-clause-alike : goal.returns-clause-alike
 returns-clause-alike g c = λ v fit begins.
     let law = g.met.T.RoundTrip.round_trip in
-    answers_alike (form_of _ _ _) law.told _ v _ fit (law.back.back _ v (omega arith) fit begins) c.decode.ensures.value
+    answers_alike _ law.told _ v _ fit (law.back.back _ v (omega arith) fit begins) c.decode.ensures.value
 
 pub returns-clause-memory : goal.returns-clause-memory
 returns-clause-memory g c = λ v fit begins.

@@ -6,8 +6,9 @@ use Rattle.rlp.proofs.laws.round_trip.list_is_decoded.Goals as goal
 
 pub returns-clause-alike : goal.returns-clause-alike
 returns-clause-alike g c = λ vs all begins.
-    list_alike (form_of _ _ _) vec_items g.met.T.RoundTrip.round_trip _ vs _ (omega arith) all begins c.decode_list.ensures.value
+    list_alike (form_of _ _ _) g.met.T.RoundTrip.round_trip.back _ vs (omega arith) all begins vec_items _ g.met.T.RoundTrip.round_trip.told
+    c.decode_list.ensures.value
 
 pub returns-clause-memory : goal.returns-clause-memory
 returns-clause-memory g c = λ vs all begins.
-    list_memory (form_of _ _ _) g.met.T.RoundTrip.round_trip _ vs _ (omega arith) all begins c.decode_list.ensures.fault
+    list_memory (form_of _ _ _) g.met.T.RoundTrip.round_trip.back _ vs (omega arith) all begins _ c.decode_list.ensures.fault

@@ -6,12 +6,12 @@ use Rattle.rlp.proofs.laws.round_trip.scalar_is_decoded.Goals as goal
 
 pub returns-clause-only : goal.returns-clause-only
 returns-clause-only g c = λ v same.
-    answers_begin (form_of _ _ _) g.met.T.Scalar.exact _ v _ (bytes_held _ c.type_inv.bytes) (omega arith) c.decode.ensures.value same
+    answers_begin _ g.met.T.Scalar.exact _ v _ (bytes_held _ c.type_inv.bytes) (omega arith) c.decode.ensures.value same
 
 pub returns-clause-alike : goal.returns-clause-alike
 returns-clause-alike g c = λ v fit begins.
     let law = g.met.T.RoundTrip.round_trip in
-    answers_alike (form_of _ _ _) law.told _ v _ fit (law.back.back _ v (omega arith) fit begins) c.decode.ensures.value
+    answers_alike _ law.told _ v _ fit (law.back.back _ v (omega arith) fit begins) c.decode.ensures.value
 
 pub returns-clause-memory : goal.returns-clause-memory
 returns-clause-memory g c = λ v fit begins.

@@ -1,8 +1,7 @@
 use Rattle.std.proofs.Common.{arith}
 use Rattle.rlp_format.proofs.Lemmas.Digits.{bytes_held}
-use Rattle.rlp_reading.specs.Laws.{form_of}
 use Rattle.rlp_reading.proofs.Corollaries.{gives_strictly}
 use Rattle.rlp.proofs.laws.strict.whole_encoding_is_read.Goals as goal
 
 pub returns : goal.returns
-returns g c = λ v. gives_strictly (form_of _ _ _) g.met.T.StrictRead.strict _ v (bytes_held _ c.type_inv.bytes) (omega arith)
+returns g c = λ v. gives_strictly _ g.met.T.StrictRead.strict _ v (bytes_held _ c.type_inv.bytes) (omega arith)

@@ -1,6 +1,6 @@
-use Rattle.std.proofs.{Common.{◌≡◌, ℕ, ◌*◌, ◌+◌, ◌<◌, ◌^◌, ⊎_elim, List, [], ◌∷◌, length, refl, sym, ap, ◌∙◌, arith, Ordering}, lemmas.Bool.cases_lt}
+use Rattle.std.proofs.{Common.{◌≡◌, ℕ, ◌*◌, ◌+◌, ◌<◌, ◌^◌, List, [], ◌∷◌, length, refl, sym, ap, ◌∙◌, arith, Ordering}, lemmas.Bool.Decides.nat_tests}
 use Rattle.std.proofs.lemmas.List.Elements.{recursion_from_All}
-use Rattle.std.specs.{Cmp.nat_cmp_is, Cmp.Lexicographic.slice_cmp, Ordering.{nat_cmp, ordering_then}}
+use Rattle.std.specs.{Cmp.Lexicographic.slice_cmp, Ordering.{nat_cmp, ordering_then}}
 use Rattle.std.specs.{declared.cmp.Ordering.TheVariants.{Less, Equal, Greater}, Int.Digits.number_from_digits_after}
 use Rattle.rlp_format.proofs.Lemmas.Digits.{bytes_held}
 use Rattle.rlp_reading.proofs.Lemmas.Reading.{Bytes}
@@ -19,27 +19,7 @@ then_equal Greater = refl
 
 -- one more digit after each of two numbers
 one_more : (m n x y : ℕ) → x < 256 → y < 256 → nat_cmp (m * 256 + x) (n * 256 + y) ≡ ordering_then (nat_cmp m n) (nat_cmp x y)
-one_more m n x y low small =
-    ⊎_elim
-    (λ (less : m < n). sym (nat_cmp_is (m * 256 + x) (n * 256 + y) Less (omega (arith, less, low))) ∙ ap (λ o. ordering_then o (nat_cmp x y)) (nat_cmp_is m n Less less))
-    (λ above. ⊎_elim
-    (λ (more : n < m). sym (nat_cmp_is (m * 256 + x) (n * 256 + y) Greater (omega (arith, more, small)))
-    ∙ ap (λ o. ordering_then o (nat_cmp x y)) (nat_cmp_is m n Greater more))
-    (λ below. let same : m ≡ n = omega (arith, above, below) in
-    last same ∙ ap (λ o. ordering_then o (nat_cmp x y)) (nat_cmp_is m n Equal same))
-    (cases_lt n m))
-    (cases_lt m n)
-  where
-    last : m ≡ n → nat_cmp (m * 256 + x) (n * 256 + y) ≡ nat_cmp x y
-    last same =
-        ⊎_elim
-        (λ (less : x < y). sym (nat_cmp_is (m * 256 + x) (n * 256 + y) Less (omega (arith, same, less))) ∙ nat_cmp_is x y Less less)
-        (λ above. ⊎_elim
-        (λ (more : y < x). sym (nat_cmp_is (m * 256 + x) (n * 256 + y) Greater (omega (arith, same, more))) ∙ nat_cmp_is x y Greater more)
-        (λ below. sym (nat_cmp_is (m * 256 + x) (n * 256 + y) Equal (omega (arith, same, above, below)))
-        ∙ nat_cmp_is x y Equal (omega (arith, above, below)))
-        (cases_lt y x))
-        (cases_lt x y)
+one_more m n x y low small = grind (arith, nat_tests)
 
 -- as many digits after each of two numbers
 digits_after : (xs ys : List ℕ) (m n : ℕ) → length xs ≡ length ys → Bytes xs → Bytes ys

@@ -1,5 +1,5 @@
 use Rattle.std.proofs.lemmas.Bool.{cond-false}
-use Rattle.rlp_reading.proofs.{Lemmas.Numbered.{item_at-in_order, item_at-no_list, item_at-past_same}, Views.ListsHeld.strict_past}
+use Rattle.rlp_reading.proofs.{Lemmas.Numbered.{item_at-in_order, item_at-no_list, item_at-past_same}, Lemmas.WholeLists.strict_past}
 use Rattle.rlp.proofs.laws.views.items_by_number_are_in_order.Goals as goal
 
 pub returns : goal.returns

@@ -1,5 +1,5 @@
 use Rattle.std.proofs.Common.{◌≡◌, ◌<◌, ◌^◌, length, arith}
-use Rattle.rlp_reading.proofs.Views.SplitOff.{split_end, split_off}
+use Rattle.rlp_reading.proofs.Lemmas.Fronts.{split_end, split_off}
 use Rattle.rlp.proofs.laws.views.joined_items_are_split_off.Goals as goal
 
 pub returns-clause-next : goal.returns-clause-next

@@ -3,18 +3,10 @@ use Rattle.rlp_reading.specs.Views.View.{View}
 use Rattle.rlp_reading.proofs.Lemmas.StringsHeld.{after_held, first_held, held_only}
 use Rattle.rlp.proofs.rlpin.decoder.short_string.Goals as goal
 
-pub returns-in-0-to-127-clause-held : goal.returns-in-0-to-127-clause-held
-returns-in-0-to-127-clause-held c =
-    first_held (record { bytes = c.args.bytes.now; is_strict = c.args.strict }) c.args.bytes.now refl (search rules) (search rules) (search rules)
-
 pub returns-in-0-to-127-clause-exact : goal.returns-in-0-to-127-clause-exact
 returns-in-0-to-127-clause-exact c =
     let v : View = record { bytes = c.args.bytes.now; is_strict = c.args.strict } in
     held_only v _ (omega arith) (first_held v c.args.bytes.now refl (search rules) (search rules) (search rules))
-
-pub returns-else-len-eq1-clause-held : goal.returns-else-len-eq1-clause-held
-returns-else-len-eq1-clause-held c =
-    after_held (record { bytes = c.args.bytes.now; is_strict = c.args.strict }) c.args.bytes.now refl (search rules) (search rules) (search rules) (search rules) (search rules) (search rules)
 
 pub returns-else-len-eq1-clause-exact : goal.returns-else-len-eq1-clause-exact
 returns-else-len-eq1-clause-exact c =

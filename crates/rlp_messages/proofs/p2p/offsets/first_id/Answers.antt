@@ -1,6 +1,6 @@
 use Rattle.std.proofs.Common.{map}
+use Rattle.rlp_messages.proofs.BothEnds.{all_ids}
 use Rattle.rlp_messages.specs.P2p.Offsets.{ids_before, known_of, offered}
-use Rattle.rlp_messages.proofs.Capabilities.{all_ids}
 use Rattle.rlp_messages.proofs.p2p.offsets.first_id.Goals as goal
 
 pub returns : goal.returns

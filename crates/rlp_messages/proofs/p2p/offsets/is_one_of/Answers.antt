@@ -1,6 +1,6 @@
 use Rattle.std.proofs.Common.{[], get_or}
-use Rattle.rlp_messages.specs.{declared.p2p.offsets.Protocol.Protocol, P2p.Offsets.{is_named, known_of}}
-use Rattle.rlp_messages.proofs.Capabilities.{named_so, none_of_ours, one_of_ours}
+use Rattle.rlp_messages.proofs.BothEnds.{named_so, none_of_ours, one_of_ours}
+use Rattle.rlp_messages.specs.{P2p.Offsets.{is_named, known_of}, declared.p2p.offsets.Protocol.Protocol}
 use Rattle.rlp_messages.proofs.p2p.offsets.is_one_of.Goals as goal
 
 abbrev none : Protocol

@@ -1,6 +1,6 @@
 use Rattle.std.proofs.Common.{[], get_or, refl}
-use Rattle.rlp_messages.specs.{declared.p2p.offsets.Protocol.Protocol, P2p.Offsets.{known_of, offered, supersedes}}
-use Rattle.rlp_messages.proofs.Capabilities.{none_has, one_has, superseding}
+use Rattle.rlp_messages.proofs.BothEnds.{none_has, one_has, superseding}
+use Rattle.rlp_messages.specs.{P2p.Offsets.{known_of, offered, supersedes}, declared.p2p.offsets.Protocol.Protocol}
 use Rattle.rlp_messages.proofs.p2p.offsets.is_superseded.Goals as goal
 
 abbrev none : Protocol

@@ -1,7 +1,7 @@
-use Rattle.std.proofs.Common.{ap, subst, true, ◌≡◌, ◌∙◌}
+use Rattle.std.proofs.Common.{◌∙◌, ◌≡◌, ap, subst, true}
 use Rattle.std.specs.Str.{bytes_eq}
+use Rattle.rlp_messages.proofs.BothEnds.{named_so, none_has, one_has}
 use Rattle.rlp_messages.specs.P2p.Offsets.{is_named, named_of}
-use Rattle.rlp_messages.proofs.Capabilities.{named_so, none_has, one_has}
 use Rattle.rlp_messages.proofs.p2p.offsets.speaks.Goals as goal
 
 pub returns-then-eq : goal.returns-then-eq

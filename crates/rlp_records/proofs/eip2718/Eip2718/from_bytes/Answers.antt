@@ -1,5 +1,5 @@
 use Rattle.std.proofs.Common.{arith}
-use Rattle.rlp_reading.proofs.Lemmas.Reading.{bytes_held}
+use Rattle.rlp_format.proofs.Lemmas.Digits.{bytes_held}
 use Rattle.rlp_records.proofs.{Bytes.{read_memory, read_whole}, TypedSums.typed_strings}
 use Rattle.rlp_records.proofs.eip2718.Eip2718.from_bytes.Goals as goal
 

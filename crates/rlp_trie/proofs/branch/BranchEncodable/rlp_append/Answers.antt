@@ -2,7 +2,7 @@ use Rattle.std.proofs.Common.{◌≡◌, None, List, ◌++◌, length, map, ap, 
 use Rattle.std.specs.Vec.{vec_items}
 use Rattle.rlp.specs.{Codec.{byte_string, end, field, plain, plain_fields}, Format.Encoding.{Item, list_of}, Streams.Stream.put_item}
 use Rattle.rlp_trie.specs.{declared.branch.Branch.Branch, declared.branch_child.BranchChild.BranchChild, BranchChildLaws.branch_child}
-use Rattle.rlp_reading.proofs.EachField.{each_items}
+use Rattle.rlp_reading.proofs.FieldLaws.{each_items}
 use Rattle.rlp_trie.proofs.branch.BranchEncodable.rlp_append.Goals as goal
 
 pub returns-in-Ok-append_fields-clause-ok : goal.returns-in-Ok-append_fields-clause-ok

@@ -1,4 +1,4 @@
-use Rattle.rlp_write.proofs.{Streams.Rewinding.stands_back, Streams.Opening.stands}
+use Rattle.rlp_write.proofs.{Streams.Rewinding.stands_back, Streams.FlatBuffer.stands}
 use Rattle.rlp_write.proofs.flat.RlpStream.go_back.Goals as goal
 
 pub invariant_of-self : goal.invariant_of-self

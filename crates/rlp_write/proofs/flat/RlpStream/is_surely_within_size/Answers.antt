@@ -1,12 +1,7 @@
 use Rattle.std.proofs.{Common.{◌+◌, ◌-◌, ◌*◌, ◌≤◌, length, arith, subst}, lemmas.Bool.Decides.nat_tests}
 use Rattle.rlp_write.specs.Streams.Stream.{Seen, closed_size_with}
-use Rattle.rlp_write.proofs.{Streams.FlatBuffer.start_le, Streams.ClosedSize.within_few}
+use Rattle.rlp_write.proofs.Streams.ClosedSize.{within_few}
 use Rattle.rlp_write.proofs.flat.RlpStream.is_surely_within_size.Goals as goal
-
-pub overflow_sub-most : goal.overflow_sub-most
-overflow_sub-most c =
-    let i = c.self.inside in
-    omega (arith, c.len.ensures.value, start_le i.start i.buffer.items i.lists c.self.invariant)
 
 pub returns-in-Some : goal.returns-in-Some
 returns-in-Some c =

@@ -1,50 +1,39 @@
-use Rattle.std.proofs.Common.{◌≡◌, ◌+◌, length, length-append, ap, refl, ◌∙◌, arith}
-use Rattle.rlp_write.specs.Streams.Stream.{Seen, closed_size}
-use Rattle.rlp_write.proofs.{Streams.Closings.descends_le, Streams.FlatBuffer.{laid_descends, stands_filled, stands_moved}, Streams.Opening.stands}
+use Rattle.std.proofs.Common.{◌≡◌, true, ap, length, length-append, sym, ◌∙◌, arith}
+use Rattle.rlp_write.specs.{Streams.Placeholders.Descends, Streams.Stream.{Seen, closed_size, count, put}}
+use Rattle.rlp_write.proofs.{Streams.FlatBuffer.{StandsFor, laid_below, stands, stands_filled, stands_moved}, flat.RlpStream.put_closing.Goals.{After-count_innermost, After-len-end}}
 use Rattle.rlp_write.proofs.flat.RlpStream.put_closing.Goals as goal
 
-pub plan_count-plan-requires-clause-order : goal.plan_count-plan-requires-clause-order
-plan_count-plan-requires-clause-order c =
+order : (c : After-len-end) → Descends c.len-end.result c.self.inside.lists
+order c =
     let i = c.self.inside in
-    let end : c.len-end.result ≡ length c.self.inside.buffer.items + length c.args.bytes.now =
-    omega (arith, c.len-end.ensures.value, ap length c.in_ok-extend_from_slice.ensures.ok, length-append c.self.inside.buffer.items c.args.bytes.now) in
-    descends_le (length i.buffer.items) c.len-end.result i.lists (omega (arith, end)) (laid_descends i.start i.buffer.items i.lists c.self.invariant)
+    laid_below i.start c.len-end.result i.buffer.items i.lists c.self.invariant
+    (omega (arith, c.len-end.ensures.value, ap length c.in_ok-extend_from_slice.ensures.ok, length-append i.buffer.items c.args.bytes.now))
+
+pub plan_count-plan-requires-clause-order : goal.plan_count-plan-requires-clause-order
+plan_count-plan-requires-clause-order c = order (goal.at.plan_count-plan-requires-clause-order c).After-len-end
 
 pub close_lists-requires-clause-order : goal.close_lists-requires-clause-order
-close_lists-requires-clause-order c =
-    let i = c.self.inside in
-    let end : c.len-end.result ≡ length c.self.inside.buffer.items + length c.args.bytes.now =
-    omega (arith, c.len-end.ensures.value, ap length c.in_ok-extend_from_slice.ensures.ok, length-append c.self.inside.buffer.items c.args.bytes.now) in
-    descends_le (length i.buffer.items) c.len-end.result i.lists (omega (arith, end)) (laid_descends i.start i.buffer.items i.lists c.self.invariant)
+close_lists-requires-clause-order c = order (goal.at.close_lists-requires-clause-order c).After-len-end
+
+done : (c : After-count_innermost)
+    → StandsFor (count c.args.items (put c.args.bytes.now c.args.self.now.state)) c.self.inside.start c.close_lists.new.buffer.items c.count_innermost.new.self true
+done c =
+    stands_filled (stands c.self.inside _ c.self.view_is c.self.invariant) c.args.items c.args.bytes.now c.advance_mut.new.self.items c.requires
+    (c.in_default.ensures.items ∙ c.in_ok-extend_from_slice.ensures.ok) (c.len-end.ensures.value ∙ ap length (sym c.in_default.ensures.items)) c.advance_mut.ensures.front
+    c.plan_count-plan.ensures.closing c.close_lists.ensures.bytes c.close_lists.ensures.lists c.count_innermost.ensures
 
 pub invariant_of-self-2 : goal.invariant_of-self-2
-invariant_of-self-2 c =
-    let now = stands c.self.inside _ c.self.view_is c.self.invariant in
-    let end : c.len-end.result ≡ length c.self.inside.buffer.items + length c.args.bytes.now =
-    omega (arith, c.len-end.ensures.value, ap length c.in_ok-extend_from_slice.ensures.ok, length-append c.self.inside.buffer.items c.args.bytes.now) in
-    (stands_filled now c.args.items c.args.bytes.now c.advance_mut.new.self.items c.requires end refl
-    (c.in_default.ensures.items ∙ c.in_ok-extend_from_slice.ensures.ok) c.advance_mut.ensures.front c.plan_count-plan.ensures.closing
-    c.close_lists.ensures.bytes c.close_lists.ensures.lists c.count_innermost.ensures).laid
+invariant_of-self-2 c = (done (goal.at.invariant_of-self-2 c).After-count_innermost).laid
 
 pub returns-clause-ok : goal.returns-clause-ok
-returns-clause-ok c =
-    let now = stands c.self.inside _ c.self.view_is c.self.invariant in
-    let end : c.len-end.result ≡ length c.self.inside.buffer.items + length c.args.bytes.now =
-    omega (arith, c.len-end.ensures.value, ap length c.in_ok-extend_from_slice.ensures.ok, length-append c.self.inside.buffer.items c.args.bytes.now) in
-    (stands_filled now c.args.items c.args.bytes.now c.advance_mut.new.self.items c.requires end refl
-    (c.in_default.ensures.items ∙ c.in_ok-extend_from_slice.ensures.ok) c.advance_mut.ensures.front c.plan_count-plan.ensures.closing
-    c.close_lists.ensures.bytes c.close_lists.ensures.lists c.count_innermost.ensures).is
+returns-clause-ok c = (done (goal.at.returns-clause-ok c).After-count_innermost).is
 
 pub returns-clause-moved : goal.returns-clause-moved
 returns-clause-moved c =
-    let now = stands c.self.inside _ c.self.view_is c.self.invariant in
-    let end : c.len-end.result ≡ length c.self.inside.buffer.items + length c.args.bytes.now =
-    omega (arith, c.len-end.ensures.value, ap length c.in_ok-extend_from_slice.ensures.ok, length-append c.self.inside.buffer.items c.args.bytes.now) in
-    let done = stands_filled now c.args.items c.args.bytes.now c.advance_mut.new.self.items c.requires end refl
-    (c.in_default.ensures.items ∙ c.in_ok-extend_from_slice.ensures.ok) c.advance_mut.ensures.front c.plan_count-plan.ensures.closing
-    c.close_lists.ensures.bytes c.close_lists.ensures.lists c.count_innermost.ensures in
     let still : c.advance_mut.new.self.moved ≡ c.args.self.now.moved =
     c.advance_mut.ensures.moved ∙ c.in_default.ensures.moved ∙ c.in_ok-extend_from_slice.ensures.moved ∙ ap (λ (v : Seen). v.moved) c.self.view_is in
-    let within = stands_moved now c.args.items c.plan_count-plan.result.closing c.args.self.now.moved c.close_lists.new.buffer.moved c.len-end.result
-    c.args.bytes.now end (omega (arith, c.close_lists.ensures.moved, still)) in
+    let within = stands_moved (stands c.self.inside _ c.self.view_is c.self.invariant) c.args.items c.plan_count-plan.result.closing c.args.self.now.moved
+    c.close_lists.new.buffer.moved c.len-end.result c.args.bytes.now _ c.in_ok-extend_from_slice.ensures.ok c.len-end.ensures.value
+    (omega (arith, c.close_lists.ensures.moved, still)) in
+    let done = done (goal.at.returns-clause-moved c).After-count_innermost in
     (omega (arith, c.close_lists.ensures.counted, still), omega (arith, within, ap closed_size done.is))

@@ -1,5 +1,5 @@
 use Rattle.std.proofs.Common.{sym, ◌∙◌}
-use Rattle.rlp_write.proofs.{Streams.FlatBuffer.{stands_put, stands_within}, Streams.Opening.stands}
+use Rattle.rlp_write.proofs.Streams.FlatBuffer.{stands, stands_put, stands_within}
 use Rattle.rlp_write.proofs.flat.RlpStream.put_counted.Goals as goal
 
 pub returns-clause-ok : goal.returns-clause-ok

@@ -1,5 +1,5 @@
 use Rattle.std.proofs.Common.{◌==◌, length, ap, sym, ◌∙◌}
-use Rattle.rlp_reading.proofs.Format.StrictLists.{no_bytes}
+use Rattle.rlp_reading.proofs.Lemmas.Numbered.{no_bytes}
 use Rattle.rlp.proofs.Readers.{no_bytes_left, none_left}
 use Rattle.rlp.proofs.rlpin.fields.Fields.has_ended.Goals as goal
 

@@ -1,4 +1,4 @@
-use Rattle.rlp_reading.proofs.{ListLaws.items_faulty, Lemmas.Propagated.propagated}
+use Rattle.rlp_reading.proofs.{ListLaws.items_faulty, Lemmas.Fronts.propagated}
 use Rattle.rlp.proofs.rlpin.fields.Fields.of.Goals as goal
 
 pub returns-in_err-check_items-clause-items : goal.returns-in_err-check_items-clause-items

@@ -1,9 +1,23 @@
-use Rattle.std.proofs.{Common.{◌≡◌, length, Ok, Err, sym, ◌∙◌, ap, arith, subst}, lemmas.Result.err_from_is_err_and}
+use Rattle.std.proofs.{Common.{◌≡◌, ◌+◌, ◌≤◌, length, Ok, Err, sym, ◌∙◌, ap, arith, subst}, lemmas.Result.err_from_is_err_and}
 use Rattle.rlp_reading.specs.{Format.Framing.{framing, value, payload}, Views.View.View}
-use Rattle.rlp_reading.proofs.Lemmas.Numbered.{told_begins}
-use Rattle.rlp_reading.proofs.Views.ItemPlaces.{IsWalked, walked-none, walked-one, walked-item, walked-past, walked-length, not_framed_item, not_told_item}
-use Rattle.rlp_reading.proofs.Format.StrictLists.{value-payload}
+use Rattle.rlp_reading.proofs.Lemmas.Numbered.{told_begins, value-payload, IsWalked}
+use Rattle.rlp_reading.proofs.Lemmas.Numbered.{walked-none, walked-one, walked-item, walked-past, walked-length, not_framed_item, not_told_item}
+use Rattle.rlp.proofs.rlpin.rlp.Rlp.at_with_offset.Goals.{After-new-items, After-rest}
 use Rattle.rlp.proofs.rlpin.rlp.Rlp.at_with_offset.Goals as goal
+
+framed : (c : After-new-items) → framing c.args.self.now.bytes ≡ Ok c.in_ok-list.list.header
+framed c = ap (λ (v : View). framing v.bytes) (sym c.self.view_is) ∙ c.in_ok-list.ensures.header
+
+content : (c : After-new-items) → c.in_ok-list.list.content.now ≡ payload c.args.self.now.bytes
+content c =
+    value-payload c.args.self.now.bytes c.in_ok-list.list.content.now (sym (told_begins c.args.self.now c.in_ok-check_items.ensures))
+    (ap (λ (v : View). value v.bytes) (sym c.self.view_is) ∙ c.in_ok-list.ensures.value)
+
+room : (c : After-rest) → length c.in_ok-list.list.content.now ≡ length (payload c.args.self.now.bytes)
+    → length c.in_ok-item.item.now + length c.next_item-2.new.self.rest ≤ length c.in_ok-list.list.content.now
+room c long =
+    walked-length c.args.self.now.bytes c.in_ok-item.item.now c.next_item-2.new.self.rest c.loop-walked.items.rest c.loop-walked._walked
+    (length c.in_ok-list.list.content.now) c.loop-walked.invariant c.in_ok-item.ensures.whole long
 
 pub returns-in_err-check_items : goal.returns-in_err-check_items
 returns-in_err-check_items c =
@@ -12,18 +26,14 @@ returns-in_err-check_items c =
 
 pub returns-in_err-list : goal.returns-in_err-list
 returns-in_err-list c =
-    let same : c.self.inside.bytes.now ≡ c.args.self.now.bytes = ap (λ (v : View). v.bytes) c.self.view_is in
-    let framed : framing c.args.self.now.bytes ≡ Err c.in_err-list.field-0.0 = ap framing (sym same) ∙ c.in_err-list.ensures.header in
+    let framed : framing c.args.self.now.bytes ≡ Err c.in_err-list.field-0.0 =
+    ap (λ (v : View). framing v.bytes) (sym c.self.view_is) ∙ c.in_err-list.ensures.header in
     let p = err_from_is_err_and c.from_residual-in_err-list.result c.from_residual-in_err-list.ensures.1 in
     rw (p.1, p.2) (not_framed_item c.args.self.now c.args.index c.in_err-list.field-0.0 c.in_ok-check_items.ensures framed)
 
 pub loop-walked-init : goal.loop-walked-init
 loop-walked-init c =
-    let same : c.self.inside.bytes.now ≡ c.args.self.now.bytes = ap (λ (v : View). v.bytes) c.self.view_is in
-    let content : c.in_ok-list.list.content.now ≡ payload c.args.self.now.bytes =
-    value-payload c.args.self.now.bytes c.in_ok-list.list.content.now (sym (told_begins c.args.self.now c.in_ok-check_items.ensures))
-    (ap value (sym same) ∙ c.in_ok-list.ensures.value) in
-    walked-none c.args.self.now.bytes c.new-items.result.rest (c.new-items.ensures.rest ∙ content)
+    walked-none c.args.self.now.bytes c.new-items.result.rest (c.new-items.ensures.rest ∙ content (goal.at.loop-walked-init c).After-new-items)
 
 pub loop-walked-preserved : goal.loop-walked-preserved
 loop-walked-preserved c =
@@ -32,60 +42,34 @@ loop-walked-preserved c =
 
 pub returns-in_err-next_item : goal.returns-in_err-next_item
 returns-in_err-next_item c =
-    let same : c.self.inside.bytes.now ≡ c.args.self.now.bytes = ap (λ (v : View). v.bytes) c.self.view_is in
-    let framed : framing c.args.self.now.bytes ≡ Ok c.in_ok-list.list.header = ap framing (sym same) ∙ c.in_ok-list.ensures.header in
     let p = err_from_is_err_and c.from_residual-in_err-next_item.result c.from_residual-in_err-next_item.ensures.1 in
     rw (p.1, p.2) (walked-past c.args.self.now c.args.index c.loop-walked._walked c.in_ok-list.list.header c.loop-walked.items.rest
-    c.in_err-next_item.field-0.0 c.in_ok-check_items.ensures framed c.loop-walked.invariant c.in_err-next_item.ensures.parts
-    c.in_err-next_item.ensures.whole (omega arith))
+    c.in_err-next_item.field-0.0 c.in_ok-check_items.ensures (framed (goal.at.returns-in_err-next_item c).After-new-items) c.loop-walked.invariant
+    c.in_err-next_item.ensures.parts c.in_err-next_item.ensures.whole (omega arith))
 
 pub returns-in_err-item : goal.returns-in_err-item
 returns-in_err-item c =
-    let same : c.self.inside.bytes.now ≡ c.args.self.now.bytes = ap (λ (v : View). v.bytes) c.self.view_is in
-    let framed : framing c.args.self.now.bytes ≡ Ok c.in_ok-list.list.header = ap framing (sym same) ∙ c.in_ok-list.ensures.header in
     let p = err_from_is_err_and c.from_residual-in_err-item.result c.from_residual-in_err-item.ensures.1 in
     rw (p.1, p.2) (walked-past c.args.self.now c.args.index c.loop-walked._walked c.in_ok-list.list.header c.loop-walked.items.rest
-    c.in_err-item.field-0.0 c.in_ok-check_items.ensures framed c.loop-walked.invariant c.in_err-item.ensures.parts c.in_err-item.ensures.whole
-    (omega arith))
+    c.in_err-item.field-0.0 c.in_ok-check_items.ensures (framed (goal.at.returns-in_err-item c).After-new-items) c.loop-walked.invariant
+    c.in_err-item.ensures.parts c.in_err-item.ensures.whole (omega arith))
 
 pub overflow_sub-before : goal.overflow_sub-before
 overflow_sub-before c =
-    let same : c.self.inside.bytes.now ≡ c.args.self.now.bytes = ap (λ (v : View). v.bytes) c.self.view_is in
-    let content : c.in_ok-list.list.content.now ≡ payload c.args.self.now.bytes =
-    value-payload c.args.self.now.bytes c.in_ok-list.list.content.now (sym (told_begins c.args.self.now c.in_ok-check_items.ensures))
-    (ap value (sym same) ∙ c.in_ok-list.ensures.value) in
-    omega (
-      arith,
-      ap length c.rest.ensures,
-      walked-length c.args.self.now.bytes c.in_ok-item.item.now c.next_item-2.new.self.rest
-          c.loop-walked.items.rest c.loop-walked._walked (length c.in_ok-list.list.content.now) c.loop-walked.invariant c.in_ok-item.ensures.whole
-          (ap length content),
-    )
+    let a = goal.at.overflow_sub-before c in
+    omega (arith, ap length c.rest.ensures, room a.After-rest (ap length (content a.After-new-items)))
 
 pub overflow_sub-before-2 : goal.overflow_sub-before-2
 overflow_sub-before-2 c =
-    let same : c.self.inside.bytes.now ≡ c.args.self.now.bytes = ap (λ (v : View). v.bytes) c.self.view_is in
-    let content : c.in_ok-list.list.content.now ≡ payload c.args.self.now.bytes =
-    value-payload c.args.self.now.bytes c.in_ok-list.list.content.now (sym (told_begins c.args.self.now c.in_ok-check_items.ensures))
-    (ap value (sym same) ∙ c.in_ok-list.ensures.value) in
-    omega (
-      arith,
-      ap length c.rest.ensures,
-      walked-length c.args.self.now.bytes c.in_ok-item.item.now c.next_item-2.new.self.rest
-          c.loop-walked.items.rest c.loop-walked._walked (length c.in_ok-list.list.content.now) c.loop-walked.invariant c.in_ok-item.ensures.whole
-          (ap length content),
-    )
+    let a = goal.at.overflow_sub-before-2 c in
+    omega (arith, ap length c.rest.ensures, room a.After-rest (ap length (content a.After-new-items)))
 
 pub returns : goal.returns
 returns c =
-    let same : c.self.inside.bytes.now ≡ c.args.self.now.bytes = ap (λ (v : View). v.bytes) c.self.view_is in
-    let framed : framing c.args.self.now.bytes ≡ Ok c.in_ok-list.list.header = ap framing (sym same) ∙ c.in_ok-list.ensures.header in
-    let content : c.in_ok-list.list.content.now ≡ payload c.args.self.now.bytes =
-    value-payload c.args.self.now.bytes c.in_ok-list.list.content.now (sym (told_begins c.args.self.now c.in_ok-check_items.ensures))
-    (ap value (sym same) ∙ c.in_ok-list.ensures.value) in
+    let a = (goal.at.returns c).After-new-items in
     let here : IsWalked c.args.self.now.bytes c.args.index c.loop-walked.items.rest =
     subst (λ k. IsWalked c.args.self.now.bytes k c.loop-walked.items.rest) (omega arith) c.loop-walked.invariant in
     rw (c.with_bytes.ensures, c.rest.ensures)
     (walked-item c.args.self.now c.in_ok-item.item.now c.args.index
     (length c.in_ok-list.list.content.now) c.in_ok-list.list.header c.next_item-2.new.self.rest c.loop-walked.items.rest
-    c.in_ok-check_items.ensures framed (ap length content) here c.in_ok-item.ensures.parts c.in_ok-item.ensures.whole)
+    c.in_ok-check_items.ensures (framed a) (ap length (content a)) here c.in_ok-item.ensures.parts c.in_ok-item.ensures.whole)

@@ -1,4 +1,4 @@
-use Rattle.rlp_reading.proofs.Views.ItemPlaces.{IsWalked}
+use Rattle.rlp_reading.proofs.Lemmas.Numbered.{IsWalked}
 use Rattle.rlp.proofs.rlpin.rlp.Rlp.at_with_offset.Given as goal
 
 -- the first items were walked over

@@ -1,12 +1,9 @@
 use Rattle.std.proofs.Common.{◌≡◌, true, ap, sym, ◌∙◌}
 use Rattle.rlp_reading.specs.Views.View.{View}
-use Rattle.rlp.proofs.Readers.{counted_by, strict_by}
+use Rattle.rlp.proofs.Readers.{strict_by}
 use Rattle.rlp.proofs.rlpin.rlp.Rlp.counted_items.Goals as goal
 
 pub returns-then-self-clause-count : goal.returns-then-self-clause-count
 returns-then-self-clause-count c =
     let strict : c.args.self.now.is_strict ≡ true = sym (ap (λ (v : View). v.is_strict) c.self.view_is) ∙ c.if-self.true in
     strict_by c.args.self.now c.strict_items.result strict c.strict_items.ensures.fault c.strict_items.ensures.count
-
-pub returns-then-self-clause-all : goal.returns-then-self-clause-all
-returns-then-self-clause-all c = counted_by (λ s. s.now) c.strict_items.result _ c.strict_items.ensures.items c.strict_items.ensures.count

@@ -1,5 +1,5 @@
 use Rattle.std.proofs.Common.{sym}
-use Rattle.rlp_reading.proofs.Views.InOrder.{counted_told}
+use Rattle.rlp_reading.proofs.Lemmas.Numbered.{counted_told}
 use Rattle.rlp.proofs.rlpin.rlp.Rlp.fields_of.Goals as goal
 
 pub returns-clause-past : goal.returns-clause-past

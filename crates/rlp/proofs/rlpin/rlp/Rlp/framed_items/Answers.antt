@@ -1,16 +1,8 @@
 use Rattle.std.proofs.Common.{◌≡◌, true, ap, sym, ◌∙◌}
-use Rattle.rlp_reading.specs.{Format.Framing.{strict_fault, value}, Views.View.View}
-use Rattle.rlp.proofs.Readers.{items_of_framed, strict_unframed}
-use Rattle.rlp_reading.proofs.Lemmas.Propagated.{propagated}
+use Rattle.rlp_reading.specs.{Format.Framing.strict_fault, Views.View.View}
+use Rattle.rlp.proofs.Readers.{strict_unframed}
+use Rattle.rlp_reading.proofs.Lemmas.Fronts.{propagated}
 use Rattle.rlp.proofs.rlpin.rlp.Rlp.framed_items.Goals as goal
-
-pub returns-in-Some-clause-items : goal.returns-in-Some-clause-items
-returns-in-Some-clause-items c = items_of_framed _ _ (sym c.if-not-is_list.ensures) c.in-Some.ensures.content
-
-pub returns-clause-items : goal.returns-clause-items
-returns-clause-items c =
-    let same : c.self.inside.bytes.now ≡ c.args.self.now.bytes = ap (λ (v : View). v.bytes) c.self.view_is in
-    items_of_framed _ _ (sym c.if-not-is_list.ensures) (ap value (sym same) ∙ c.in_ok-list.ensures.value)
 
 pub returns-in_err-list-clause-fault : goal.returns-in_err-list-clause-fault
 returns-in_err-list-clause-fault c =

@@ -1,2 +1,0 @@
--- decoding the encoding of a value
-pub mod Decoding
