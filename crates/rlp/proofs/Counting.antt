@@ -1,12 +1,13 @@
 -- What a struct gives, by the number of items that a view has.
-use Rattle.std.proofs.Common.{◌≡◌, ◌≢◌, ℕ, ◌-◌, true, false, List, [], ◌∷◌, length, None, Some, Result, Ok, Err, IfOk, arith, refl, sym, ap, subst, ◌∙◌}
-use Rattle.std.proofs.lemmas.List.{length-map}
+use Rattle.std.proofs.Common.{ap, refl, sym, ◌∙◌, ◌∷◌}
+use Rattle.std.proofs.{Common.{◌≡◌, ◌≢◌, ℕ, ◌-◌, true, false, List, [], length, None, Some, Ok, Err, arith}, lemmas.List.length-map}
 use Rattle.std.specs.List.{slice_get}
 use Rattle.rlp_reading.specs.{declared.error.DecoderError.DecoderError, declared.error.DecoderError.TheVariants.RlpIncorrectListLen}
 use Rattle.rlp_reading.specs.{Format.Framing.items, Views.View.{View, item_count, item_views}}
-use Rattle.rlp_reading.specs.Form.{Fault, Faults, FieldsReading, Gives, Path, all_taken, and_then, fault_of, incorrect_list_len, items_of, struct_reading, take_all}
+use Rattle.rlp_reading.specs.Form.{Fault, Faults, FieldsReading, Gives, all_taken, fault_of, incorrect_list_len, items_of, struct_reading, and_then, take_all}
 use Rattle.rlp_reading.specs.Laws.{TakePossible}
-use Rattle.rlp_reading.proofs.{Lemmas.Numbered.{item_count-told, counted_told}, ListLaws.items_told, StructLaws.{other_number, struct_given, this_number}}
+use Rattle.rlp_reading.proofs.{Lemmas.Numbered.{item_count-told, counted_told}, ListLaws.items_told}
+use Rattle.rlp_reading.proofs.StructLaws.{other_number, struct_given, this_number}
 use Rattle.rlp.specs.Left.{AreFaulty}
 
 module _ {P : Type 0} (r : FieldsReading P) (v : View) where
@@ -21,22 +22,15 @@ module _ {P : Type 0} (r : FieldsReading P) (v : View) where
     pub place : slice_get ((struct_reading r).read v).path 0 ≡ None
 
   numbered : (n : ℕ) → item_count v ≡ Ok n → n ≡ length (item_views v)
-  numbered n count =
-      let is : item_count v ≡ Ok (length (items v.bytes)) = item_count-told v (counted_told v n count) in
-      let same : n ≡ length (items v.bytes) = cc in
-      same ∙ sym (length-map (items v.bytes) (λ b. record v { bytes = b }))
+  numbered n count = grind (arith, item_count-told, counted_told, length-map)
 
   -- the number of items is possible
   pub fault_at : (n : ℕ) (e : DecoderError) (left : ℕ) → item_count v ≡ Ok n → AreFaulty r (item_views v) left e → r.accepts n ≡ true → FailsAt e (n - 1 - left)
-  fault_at n e left count faulty right =
-      let h = this_number r.accepts r.read v (item_views v) (faulty.after, fault_of e) (items_told v (counted_told v n count)) (ap r.accepts (sym (numbered n count)) ∙ right) faulty.fault in
-      record { fault = h.fault; place = ap (λ (p : Path). slice_get p 0) h.at ∙ ap Some (omega (arith, numbered n count, faulty.many)) }
+  fault_at n e left count faulty right = grind (arith, this_number, items_told, counted_told, numbered)
 
   -- the number of items is wrong
   pub count_refused : (n : ℕ) → item_count v ≡ Ok n → r.accepts n ≡ false → FailsAsList incorrect_list_len
-  count_refused n count wrong =
-      let h = other_number r.accepts r.read v (item_views v) (items_told v (counted_told v n count)) (ap r.accepts (sym (numbered n count)) ∙ wrong) in
-      record { fault = h.fault; place = ap (λ (p : Path). slice_get p 0) h.at }
+  count_refused n count wrong = grind (arith, other_number, items_told, counted_told, numbered)
 
   -- the items of a list that has a number of items
   pub listed : (n : ℕ) → item_count v ≡ Ok n → items_of v ≡ Ok (item_views v)
@@ -44,19 +38,12 @@ module _ {P : Type 0} (r : FieldsReading P) (v : View) where
 
   -- the items give the fields, and nothing is left
   pub fields_given : (vs rest : List View) (x : P) → TakePossible r → items_of v ≡ Ok vs → (r.read vs).result ≡ Ok (r.seen x, rest) → rest ≡ [] → Gives (struct_reading r) v x
-  fields_given vs rest x law items is none =
-      let possible : IfOk (let t : Result (r.M × List View) (List View × Fault) = Ok (r.seen x, rest) in t) (λ t. t.1 ≡ [] → r.accepts (length vs) ≡ true) =
-      subst (λ t. IfOk t (λ t. t.1 ≡ [] → r.accepts (length vs) ≡ true)) is (law.all vs) in
-      struct_given r.accepts r.read v vs (r.seen x) items (possible none) (is ∙ ap (λ ws. Ok (r.seen x, ws)) none)
+  fields_given vs rest x law items is none = grind (arith, struct_given)
 
   -- a field has a fault
   pub field_faulty : (vs after : List View) (left : ℕ) (e : DecoderError) → vs ≡ item_views v → (r.read vs).result ≡ Err (after, fault_of e) → left ≡ length after
       → AreFaulty r (item_views v) left e
-  field_faulty vs after left e items is many = record {
-    after = after;
-    fault = ap (λ ws. (take_all r.read ws).result) (sym items) ∙ ap (λ x. and_then x (λ (t : r.M × List View). (all_taken t.0 t.1).result)) is;
-    many = sym many;
-  }
+  field_faulty vs after left e items is many = grind arith
 
   not_all : (m : r.M) (rest : List View) (left : ℕ) → rest ≢ [] → left ≡ length rest - 1
       → (after : List View) × ((all_taken m rest).result ≡ Err (after, incorrect_list_len)) × (length after ≡ left)

@@ -1,17 +1,18 @@
 -- The items of a view, as a reader of items begins with them.
-use Rattle.std.proofs.Common.{◌≡◌, ℕ, ◌≤◌, ◌↔◌, Option, IsTrue, true, false, MatchResult, IfOk, List, [], ◌∷◌, ◌++◌, length, take, drop, map, ◌<◌, ◌^◌, Bool, arith, Result, Ok, Err, None, Some, refl, sym, ap, ◌∙◌}
-use Rattle.std.proofs.{lemmas.Bool.{cond-true, cond-false}, lemmas.List.length-map}
+use Rattle.std.proofs.Common.{◌≡◌, ℕ, ◌≤◌, ◌↔◌, Option, IsTrue, true, false, MatchResult, IfOk, List, [], ◌∷◌, ◌++◌, length, take, drop, map, ◌<◌}
+use Rattle.std.proofs.{Common.{◌^◌, Bool, arith, Result, Ok, Err, None, Some, refl, sym, ap, ◌∙◌}, lemmas.Bool.{cond-true, cond-false}}
+use Rattle.std.proofs.{lemmas.List.length-map, lemmas.Result.err_from_is_err_and}
 use Rattle.rlp_reading.specs.{declared.error.DecoderError.DecoderError, declared.error.DecoderError.TheVariants.RlpExpectedToBeList}
 use Rattle.rlp_reading.specs.declared.header.PayloadInfo.{PayloadInfo}
-use Rattle.rlp_reading.specs.Format.Framing.{fault, frame, framing, unless, map_ok, value, begins_as_list, items, payload, payload_in, split, after_items, fault_of_some, strict_fault, strict_list_fault}
-use Rattle.rlp_reading.specs.Values.RawItem.{view_frame}
+use Rattle.rlp_reading.specs.Format.Framing.{fault, framing, map_ok, value, begins_as_list, items, payload, payload_in, split, after_items}
+use Rattle.rlp_reading.specs.{Format.Framing.{fault_of_some, strict_fault, strict_list_fault}, Values.RawItem.view_frame}
 use Rattle.rlp_reading.specs.Views.View.{View, view_header, item_at, item_count, item_views, items_fault, list_fault}
 use Rattle.rlp_reading.specs.Form.{fault_of, items_of, list_of_views, map_value, seen_fault}
 use Rattle.rlp_reading.proofs.Lemmas.Numbered.{item_count-fault, item_count-told, payload-fault, told_begins, length-split, split-nil, strict_whole}
-use Rattle.rlp_reading.proofs.Lemmas.Numbered.{after_items-next, after_items-nil, after_items-none, strict_counted, strict_not_begun, strict_not_whole}
-use Rattle.rlp_reading.proofs.Lemmas.Numbered.{value-items, counted_told, framed_place, unframed_place}
-use Rattle.rlp_reading.proofs.Lemmas.Texts.{depth-followed, depth-fault, shallow-other}
-use Rattle.rlp_reading.proofs.Lemmas.Fronts.{faulty_front, front_frame_fault}
+use Rattle.rlp_reading.proofs.Lemmas.Numbered.{after_items-next, after_items-nil, after_items-none, strict_counted, strict_not_begun}
+use Rattle.rlp_reading.proofs.Lemmas.Numbered.{strict_not_whole, value-items, counted_told, framed_place, unframed_place, not_framed_item}
+use Rattle.rlp_reading.proofs.Lemmas.Numbered.{not_told_item, value-payload, walked-none, walked-one, walked-item, walked-past, walked-length}
+use Rattle.rlp_reading.proofs.{Lemmas.Texts.{depth-followed, depth-fault, shallow-other}, Lemmas.Fronts.{faulty_front, front_frame_fault}}
 use Rattle.rlp.specs.Left.{ItemsLeft, after_next}
 
 no_items : (b : List ℕ) → payload b ≡ [] → items b ≡ []
@@ -45,8 +46,7 @@ past_framed v q p i told framed is past = (framed_place v q p p told framed is r
 
 framed_by : (b p : List ℕ) (r : Result PayloadInfo DecoderError) → framing b ≡ r → map_ok (λ (q : PayloadInfo). take q.value_len (drop q.header_len b)) r ≡ Ok p
     → (q : PayloadInfo) × (framing b ≡ Ok q)
-framed_by b p (Ok q) framed is = (q, framed)
-framed_by b p (Err e) framed is = absurd (let no : ⊥ = cc in no)
+framed_by b p r e f = grind arith
 
 -- past the last item of a list whose value is known
 pub past_value : (v : View) (p : List ℕ) (i : ℕ) → items_fault v ≡ None → value v.bytes ≡ Ok p → length (items v.bytes) ≤ i → item_at v i ≡ Err (fault (after_items p))
@@ -74,20 +74,16 @@ strict_untold v e strict fault = sym (strict_counted v (Err e) strict fault tt)
 pub strict_by : {A : Type 0} (v : View) (r : Result (A × ℕ) DecoderError) → v.is_strict ≡ true
     → MatchResult r (λ _. strict_list_fault v.bytes ≡ None) (λ e. strict_list_fault v.bytes ≡ Some e) → IfOk r (λ p. p.1 ≡ length (items v.bytes))
     → MatchResult r (λ p. item_count v ≡ Ok p.1) (λ e. item_count v ≡ Err e)
-strict_by v (Ok p) strict none same = strict_told v p.1 strict none same
-strict_by v (Err e) strict fault same = strict_untold v e strict fault
+strict_by v r f h i = grind (arith, strict_told, strict_untold)
 
 -- the number of the items that bytes begin with
 pub counted_by : {A : Type 0} (bytes : A → List ℕ) (r : Result (A × ℕ) DecoderError) (fs : List (List ℕ)) → IfOk r (λ p. split (bytes p.0) ≡ fs)
     → IfOk r (λ p. p.1 ≡ length fs) → IfOk r (λ p. p.1 ≡ length (split (bytes p.0)))
-counted_by bytes (Ok p) fs is same = same ∙ ap length (sym is)
-counted_by bytes (Err e) fs is same = tt
+counted_by bytes r fs e f = grind arith
 
 -- a lenient view that begins as a list
 pub lenient_told : (v : View) (n : ℕ) → v.is_strict ≡ false → begins_as_list v.bytes ≡ true → n ≡ length (items v.bytes) → item_count v ≡ Ok n
-lenient_told v n lenient kind same =
-    item_count-told v (cond-true (begins_as_list v.bytes) (list_fault v) (Some RlpExpectedToBeList) kind ∙ cond-false v.is_strict (strict_list_fault v.bytes) None lenient)
-    ∙ ap Ok (sym same)
+lenient_told v n lenient kind same = grind (arith, item_count-told, cond-true, cond-false)
 
 -- a view that doesn't begin as a list
 pub other_untold : (v : View) → begins_as_list v.bytes ≡ false → item_count v ≡ Err RlpExpectedToBeList
@@ -99,12 +95,10 @@ pub ruleset counted_views = (lenient_told, other_untold)
 
 -- no bytes have no fault, and only they
 no_fault : (p : List ℕ) → fault_of_some p ≡ None → p ≡ []
-no_fault [] none = refl
-no_fault (byte ∷ more) none = absurd (let no : ⊥ = cc in no)
+no_fault p e = grind arith
 
 counted_none : (v : View) (o : Option DecoderError) → v.is_strict ≡ true → strict_list_fault v.bytes ≡ o → item_count v ≡ Ok (length (items v.bytes)) → o ≡ None
-counted_none v None strict is told = refl
-counted_none v (Some e) strict is told = let other : item_count v ≡ Err e = strict_untold v e strict is in absurd (let no : ⊥ = cc in no)
+counted_none v o e f h = grind (arith, strict_untold)
 
 -- a strict view of exactly one list, by what follows the items in the list
 pub strict_by_end : (v : View) (q : List ℕ) → v.is_strict ≡ true → begins_as_list v.bytes ≡ true → strict_fault v.bytes ≡ None → value v.bytes ≡ Ok q
@@ -122,47 +116,31 @@ strict_unframed v e strict kind is = strict_untold v e strict (strict_not_whole 
 -- a lenient view that begins as a list
 pub lenient_by_end : (v : View) (q : List ℕ) → v.is_strict ≡ false → begins_as_list v.bytes ≡ true
     → (IsTrue v.is_strict → after_items q ≡ []) ↔ (item_count v ≡ Ok (length (items v.bytes)))
-lenient_by_end v q lenient kind = (
-  λ _. lenient_told v _ lenient kind refl,
-  λ _ strict. absurd (let no : ⊥ = cc in no),
-)
+lenient_by_end v q lenient kind = grind (arith, lenient_told)
 
 pub ruleset framed_views = (strict_by_end, strict_unframed, lenient_by_end, other_untold)
 
 told_of : (v : View) (vs : List View) (r : Result ℕ DecoderError) → item_count v ≡ r → map_value (λ (n : ℕ). item_views v) (seen_fault r) ≡ Ok vs
     → item_count v ≡ Ok (length (items v.bytes))
-told_of v vs (Ok n) count is = item_count-told v (counted_told v n count)
-told_of v vs (Err e) count is = absurd (let no : ⊥ = cc in no)
+told_of v vs r e f = grind (arith, item_count-told, counted_told)
 
 -- the items of a view, by what follows those that its list's header leads to
 pub items_by_end : (v : View) (strict : Bool) (q p : List ℕ) → strict ≡ v.is_strict → p ≡ q → split q ≡ items v.bytes
     → (IsTrue v.is_strict → after_items q ≡ []) ↔ (item_count v ≡ Ok (length (items v.bytes)))
     → (IsTrue v.is_strict → after_items p ≡ []) ↔ (items_of v ≡ Ok (map (λ b. record { bytes = b; is_strict = strict }) (split p)))
-items_by_end v strict q p kind same parts told =
-    let e : map (λ b. record { bytes = b; is_strict = strict }) (split p) ≡ item_views v =
-    ap (λ s. map (λ b. record { bytes = b; is_strict = s }) (split p)) kind ∙ ap (map (λ b. record v { bytes = b })) (ap split same ∙ parts) in (
-      λ ended. ap (λ r. map_value (λ (n : ℕ). item_views v) (seen_fault r)) (told.0 (λ s. ap after_items (sym same) ∙ ended s)) ∙ ap Ok (sym e),
-      λ is s. ap after_items same ∙ told.1 (told_of v _ (item_count v) refl is) s,
-    )
+items_by_end v strict q p kind same parts told = grind (arith, told_of)
 
 list_told_by : (v : View) (strict : Bool) → v.is_strict ≡ strict → list_fault v ≡ None → list_of_views v ≡ Ok (item_views v)
 list_told_by v false kind none = cond-false v.is_strict (items_of v) (Ok (item_views v)) kind
-list_told_by v true kind none =
-    cond-true v.is_strict (items_of v) (Ok (item_views v)) kind
-    ∙ ap (λ r. map_value (λ (n : ℕ). item_views v) (seen_fault r))
-    (strict_told v (length (items v.bytes)) kind (sym (cond-true v.is_strict (strict_list_fault v.bytes) None kind) ∙ none) refl)
+list_told_by v true kind none = grind (arith, cond-true, strict_told)
 
 -- a view that can be read as a list
 pub list_told : (v : View) → list_fault v ≡ None → list_of_views v ≡ Ok (item_views v)
 list_told v none = list_told_by v v.is_strict refl none
 
 list_faulty_by : (v : View) (strict : Bool) (e : DecoderError) → v.is_strict ≡ strict → list_fault v ≡ Some e → list_of_views v ≡ Err (fault_of e)
-list_faulty_by v false e kind fault =
-    let none : list_fault v ≡ None = cond-false v.is_strict (strict_list_fault v.bytes) None kind in absurd (let no : ⊥ = cc in no)
-list_faulty_by v true e kind fault =
-    cond-true v.is_strict (items_of v) (Ok (item_views v)) kind
-    ∙ ap (λ r. map_value (λ (n : ℕ). item_views v) (seen_fault r))
-    (strict_untold v e kind (sym (cond-true v.is_strict (strict_list_fault v.bytes) None kind) ∙ fault))
+list_faulty_by v false e kind fault = grind (arith, cond-false)
+list_faulty_by v true e kind fault = grind (arith, cond-true, strict_untold)
 
 -- a view that can't be read as a list
 pub list_faulty : (v : View) (e : DecoderError) → list_fault v ≡ Some e → list_of_views v ≡ Err (fault_of e)
@@ -180,8 +158,7 @@ left_in strict b = record {
 
 -- the items of a slice are few
 pub few_views : (strict : Bool) (b : List ℕ) → length b < 2 ^ 64 → length (left_in strict b).views < 2 ^ 64
-few_views strict b short =
-    let viewed : List ℕ → View = λ b. record { bytes = b; is_strict = strict } in omega (arith, length-map (split b) viewed, length-split b)
+few_views strict b short = grind (arith, length-map, length-split)
 
 -- an item is taken, and the same bytes follow the items
 pub after_taken : (b item others : List ℕ) → split b ≡ item ∷ split others → b ≡ item ++ others → after_items others ≡ after_items b
@@ -190,10 +167,7 @@ after_taken b item others parts whole = sym (after_items-next b item others part
 -- one item is taken
 pub one_taken : (strict : Bool) (b item others : List ℕ) → split b ≡ item ∷ split others → b ≡ item ++ others
     → left_in strict others ≡ after_next (left_in strict b)
-one_taken strict b item others parts whole =
-    ap (λ p. record { views = map (λ b. record { bytes = b; is_strict = strict }) (split others); past = fault p; after = p })
-    (after_taken b item others parts whole)
-    ∙ ap (λ fs. after_next (record { views = map (λ b. record { bytes = b; is_strict = strict }) fs; past = fault (after_items b); after = after_items b })) (sym parts)
+one_taken strict b item others parts whole = grind (arith, after_taken)
 
 -- nothing is left of no bytes
 pub none_left : (strict : Bool) (b : List ℕ) → b ≡ [] → ((left_in strict b).views ≡ []) × (after_items b ≡ [])
@@ -212,12 +186,23 @@ no_bytes_left strict b none ended = sym (after_items-none b (map-none _ (split b
 pub faulty_view : (b : List ℕ) (strict : Bool) (e : DecoderError) → framing b ≡ Err e
     → (view_frame (record { bytes = b; is_strict = strict }) ≡ Err e) × (view_header (record { bytes = b; is_strict = strict }) ≡ Err e)
 faulty_view b false e is = (front_frame_fault b e is, is)
-faulty_view b true e is =
-    let fault : strict_fault b ≡ Some e = faulty_front b e is in
-    (ap (λ f. unless f (frame b)) fault, ap (λ f. unless f (framing b)) fault)
+faulty_view b true e is = grind (arith, faulty_front)
 
 -- ---- for the calls and the laws of a view
 
 pub ruleset nested = (depth-followed, depth-fault, shallow-other)
 
 pub ruleset strict_lists = (strict_not_begun, strict_not_whole, strict_whole, value-items)
+
+pub ruleset walks = (
+  err_from_is_err_and,
+  told_begins,
+  value-payload,
+  walked-none,
+  walked-one,
+  walked-item,
+  walked-past,
+  walked-length,
+  not_framed_item,
+  not_told_item,
+)

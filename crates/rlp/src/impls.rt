@@ -1,6 +1,5 @@
 //! The types that are written and read.
 
-mod boolean;
 mod number;
 mod option;
 mod placed;

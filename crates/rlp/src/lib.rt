@@ -125,6 +125,7 @@ pub fn decode_whole<T: StrictRead>(alloc: Global, bytes: &[u8]) -> Result<T, Dec
     ensures memory { (v : T) → T.fits v → bytes.now ≡ encoding (T.item v)
         → IfErr result (λ e. (e ≡ OutOfMemory) × IsTrue T.reading.takes_memory) }
 {
+    laws::whole_encoding_is_read::<T>(bytes);
     decode_strict(alloc, bytes)
 }
 

@@ -1,7 +1,7 @@
 -- What a key signs for one purpose is not signed for another.
 use Rattle.std.proofs.Common.{ℕ, ⊎_elim, ◌&&◌, ◌*◌, ◌++◌, ◌+◌, ◌<◌, ◌^◌, ◌∙◌, ◌∷◌, ◌≡◌, ◌≢◌, ◌≤◌, ◌⊎◌, Bool, IsTrue, List, None, Option, Some, [], ap, arith, false, inl, inr, length, ltb-true, nat_lt, refl, sym, true}
-use Rattle.std.proofs.lemmas.Bool.Decides.{eqb_tells}
-use Rattle.std.specs.{Cmp.Lexicographic.slice_cmp, Ordering.{is_lt, nat_cmp}, Vec.vec_items}
+use Rattle.std.proofs.{lemmas.Bool.Decides.nat_tests, lemmas.Slice.Eq.bytes_eq-Decides}
+use Rattle.std.specs.{Cmp.Lexicographic.slice_cmp, Ordering.{is_lt, nat_cmp}, Str.bytes_eq, Vec.vec_items}
 use Rattle.rlp_format.proofs.Lemmas.Encodings.{first_of_header, list_written, listed_from}
 use Rattle.rlp_reading.proofs.Lemmas.Items.{encoding_same}
 use Rattle.rlp.specs.Format.Encoding.{IsSized, Item, Items, encoding, items_from, list, list_of, listed, string}
@@ -34,10 +34,7 @@ none_before [] = refl
 none_before (b ∷ key) = refl
 
 not_rising : (a b c : Bool) → c ≡ false → (d : Bool) → IsTrue (a && (b && (c && d))) → ⊥
-not_rising true true true is d rise = let no : ⊥ = cc in no
-not_rising true true false is d rise = let no : ⊥ = cc in no
-not_rising true false c is d rise = let no : ⊥ = cc in no
-not_rising false b c is d rise = let no : ⊥ = cc in no
+not_rising a b c is d rise = grind arith
 
 -- the fourth key isn't empty
 fourth_key : (p q r s : NodePair) → AreInOrder (p ∷ q ∷ r ∷ s ∷ []) → vec_items s.key ≢ []
@@ -68,9 +65,7 @@ items_apart n (p ∷ q ∷ []) l (Some c) rise same = omega (arith, ap length sa
 items_apart n (p ∷ q ∷ r ∷ []) l (Some c) rise same = omega (arith, ap length same)
 items_apart n (p ∷ q ∷ r ∷ s ∷ t ∷ ps) l (Some c) rise same = omega (arith, ap length same)
 items_apart n (p ∷ q ∷ r ∷ s ∷ []) l (Some c) rise same =
-    let key : string (vec_items s.key) ≡ string [] = cc in
-    let empty : vec_items s.key ≡ [] = cc in
-    fourth_key p q r s rise empty
+    let key : string (vec_items s.key) ≡ string [] = cc in fourth_key p q r s rise cc
 
 lists_same : (xs ys : List Item) → list_of xs ≡ list_of ys → xs ≡ ys
 lists_same xs ys same =
@@ -81,11 +76,7 @@ lists_same xs ys same =
 
 -- the byte of another type is below 0x80
 low : (k : ℕ) → IsTrue (is_other_type k) → k < 0x80
-low k other = by (nat_lt k 0x80) (nat_lt authorization_magic k) refl other
-  where
-    by : (a b : Bool) → nat_lt k 0x80 ≡ a → IsTrue (a && b) → k < 0x80
-    by true b is other = ltb-true k 0x80 is
-    by false b is other = absurd (let no : ⊥ = cc in no)
+low k other = grind (arith, nat_tests)
 
 not_known : (k n : ℕ) → k ≡ n → is_other_type n ≡ false → ¬ IsTrue (is_other_type k)
 not_known k n same known other = let no : true ≡ false = sym other ∙ ap is_other_type same ∙ known in cc
@@ -166,12 +157,11 @@ one_content (of_message m) (of_message n) fit fits short same = cc
 -- ---- by hashes
 
 bytes_same_or_not : (a b : List ℕ) → (a ≡ b) ⊎ (a ≢ b)
-bytes_same_or_not [] [] = inl refl
-bytes_same_or_not [] (y ∷ b) = inr (λ same. let no : ⊥ = cc in no)
-bytes_same_or_not (x ∷ a) [] = inr (λ same. let no : ⊥ = cc in no)
-bytes_same_or_not (x ∷ a) (y ∷ b) =
-    ⊎_elim (λ first. ⊎_elim (λ rest. inl (let one = first.1 in cc)) (λ apart. inr (λ same. apart (let rest : a ≡ b = cc in rest))) (bytes_same_or_not a b))
-    (λ apart. inr (λ same. apart.1 (let first : x ≡ y = cc in first))) (eqb_tells x y)
+bytes_same_or_not a b = decided (bytes_eq a b) refl
+  where
+    decided : (t : Bool) → bytes_eq a b ≡ t → (a ≡ b) ⊎ (a ≢ b)
+    decided true is = inl ((bytes_eq-Decides a b).0 is)
+    decided false is = inr (λ same. let no : true ≡ false = sym ((bytes_eq-Decides a b).1 same) ∙ is in cc)
 
 -- what has one hash means the same, or is two byte strings with one hash
 pub one_hash : (one other : SignedContent) → FitsContent one → FitsContent other → length (content_bytes one) < 2 ^ 64

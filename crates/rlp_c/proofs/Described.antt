@@ -1,9 +1,9 @@
 -- The rows of a tree describe it.
-use Rattle.std.proofs.Common.{◌≡◌, ℕ, ◌+◌, ◌-◌, ◌<◌, ◌≤◌, ⊎_elim, List, [], ◌++◌, length, take, drop, refl, sym, ap, ◌∙◌, subst, arith}
-use Rattle.std.proofs.{Common.{true, false, append-nil, append_assoc, length-append, take_at, drop_at}, lemmas.Bool.cases_Bool}
-use Rattle.rlp_format.specs.Format.Encoding.{Item, string, list, Items, no_items, item_and, item_depth, items_depth, encoding, is_low_byte, join_items}
+use Rattle.std.proofs.Common.{◌≡◌, ℕ, ◌+◌, ◌-◌, ◌<◌, ◌≤◌, List, [], ◌++◌, length, take, drop, refl, sym, ap, ◌∙◌, subst, arith, true, false}
+use Rattle.std.proofs.{Common.{append-nil, append_assoc, length-append, take_at, drop_at}, lemmas.Bool.cases_Bool}
+use Rattle.rlp_format.specs.Format.Encoding.{Item, string, list, Items, no_items, item_and, item_depth, items_depth, encoding, join_items}
 use Rattle.rlp_format.specs.Format.Encoding.{written_header}
-use Rattle.rlp_c.specs.{declared.item.RlpItem.RlpItem, Flat.{flat, flat_items, row_of}, Tree.{AreRows, DescribeTree, item_of, items_of, tree_of}}
+use Rattle.rlp_c.specs.{declared.item.RlpItem.RlpItem, Rows.{flat, flat_items, row_of}, Tree.{AreRows, DescribeTree, item_of, items_of, tree_of}}
 use Rattle.rlp_reading.specs.Format.Flat.{flat_item, flat_rows, header_length}
 use Rattle.rlp_reading.proofs.Trees.Needless.{high_written, low_again}
 use Rattle.rlp_c.proofs.Trees.{item-list, item-string, items_of-behind, items_of-deeper, items_of-here}
@@ -16,12 +16,7 @@ record IsAt (b : List ℕ) (place : ℕ) (e : List ℕ) : Type 0 where
   behind : length front ≡ place
 
 at_first : (b : List ℕ) (place : ℕ) (d e : List ℕ) → IsAt b place (d ++ e) → IsAt b place d
-at_first b place d e a = record {
-  front = a.front;
-  back = e ++ a.back;
-  is = a.is ∙ ap (λ s. a.front ++ s) (append_assoc d e a.back);
-  behind = a.behind;
-}
+at_first b place d e a = grind (arith, append_assoc)
 
 at_second : (b : List ℕ) (place : ℕ) (d e : List ℕ) → IsAt b place (d ++ e) → IsAt b (place + length d) e
 at_second b place d e a = record {
@@ -46,11 +41,7 @@ record IsFront (e payload : List ℕ) : Type 0 where
   is : e ≡ header ++ payload
 
 string_front : (s : List ℕ) → IsFront (encoding (string s)) s
-string_front s =
-    ⊎_elim
-    (λ low. record { header = []; is = low_again s low })
-    (λ high. record { header = written_header 0x80 (length s); is = high_written s high })
-    (cases_Bool (is_low_byte s))
+string_front s = grind (arith, low_again, high_written, cases_Bool)
 
 list_front : (xs : Items) → IsFront (encoding (list xs)) (join_items xs)
 unfolding encoding
@@ -95,10 +86,8 @@ module _ (b : List ℕ) where
   stops_items : (d place : ℕ) (xs : Items) (more : List RlpItem) → Stops d more → Stops d (flat_items place d xs ++ more)
   unfolding Stops flat_rows
   stops_items d place no_items more stops e deep = stops e deep
-  stops_items d place (item_and (string s) xs) more stops e deep =
-      items_of-deeper b e (row_of (flat_item place d false (header_length (string s) s) (length s))) _ deep
-  stops_items d place (item_and (list ys) xs) more stops e deep =
-      items_of-deeper b e (row_of (flat_item place d true (header_length (list ys) (join_items ys)) (length (join_items ys)))) _ deep
+  stops_items d place (item_and (string s) xs) more stops e deep = grind (arith, items_of-deeper)
+  stops_items d place (item_and (list ys) xs) more stops e deep = grind (arith, items_of-deeper)
 
   mutual
     unfolding flat_rows encoding Stops

@@ -1,9 +1,3 @@
--- the numbers of faults
-mod Statuses
--- where the string that bytes begin with is
-mod Strings
--- the answer of a whole walk
-mod Flattening
 -- the walk over the items of one list
 mod Splitting
 -- the tree that rows describe

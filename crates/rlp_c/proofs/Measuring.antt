@@ -38,10 +38,7 @@ abbrev pub rows_before : List RlpItem → List RlpItem
 rows_before rest = take (length rest - 1) rest
 
 pub last_is : (rest : List RlpItem) → 1 ≤ length rest → rest ≡ rows_before rest ++ last_row rest ∷ []
-last_is rest some =
-    let whole : length rest ≤ length rest - 1 + 1 = omega (arith, some) in
-    sym (take_all (length rest - 1 + 1) rest whole)
-    ∙ take_more rest (length rest - 1) (record { offset = 0; header_len = 0; payload_len = 0; depth = 0; is_list = 0 }) (omega (arith, some))
+last_is rest some = grind (arith, take_all, take_more)
 
 -- a row among rows, and those behind it
 record IsAmong (limit len : ℕ) (r : RlpItem) (rs : List RlpItem) : Type 0 where
@@ -57,8 +54,7 @@ split_again : (items rest before done : List RlpItem) (r : RlpItem) → rest ++ 
 split_again items rest before done r all is = sym (append_assoc before (r ∷ []) done) ∙ ap (λ s. s ++ done) (sym is) ∙ all
 
 among_all : (b : List ℕ) (items before done : List RlpItem) (r : RlpItem) → DescribeTree 256 b items → before ++ r ∷ done ≡ items → IsAmong 256 (length b) r done
-among_all b items before done r tree all =
-    among 256 (length b) 0 0 before r done (subst (λ rows. AreRows 256 (length b) 0 0 rows) (sym all) tree.fit)
+among_all b items before done r tree all = grind (arith, among)
 
 module _ (b : List ℕ) (items rest before : List RlpItem) (r : RlpItem) (sizes old : List ℕ) (end place : ℕ) (out : List ℕ)
     (tree : DescribeTree 256 b items) (w : IsWriting b items rest sizes old end place out) (is : rest ≡ before ++ r ∷ []) where
@@ -127,40 +123,12 @@ module _ (b : List ℕ) (items rest before : List RlpItem) (r : RlpItem) (sizes 
   none_inside e deep = level-inside b 256 (length b) 1 (depth_behind r) e w.done here.fit.1 (omega (arith, deep, behind-most r))
 
   by_depth_put : (size : ℕ) → size ≡ length front + get_or sizes (r.depth + 1) 0 + get_or sizes r.depth 0 → (e : ℕ) → e ≤ 257 → get_or (put size) e 0 ≡ length (level b e (r ∷ w.done))
-  by_depth_put size sum e low =
-      ⊎_elim
-      (λ inner. ap (λ k. get_or (put size) k 0) inner
-      ∙ get_or-set_same (set sizes r.depth size) (r.depth + 1) 0 0 (omega (arith, w.wide, length-set sizes r.depth size, next_low))
-      ∙ sym (ap length (level-deeper b e r w.done (omega (arith, inner)))))
-      (λ ne. ⊎_elim
-      (λ same_depth. ap (λ k. get_or (put size) k 0) same_depth
-      ∙ get_or-set_other (set sizes r.depth size) (r.depth + 1) r.depth 0 0 (λ no. omega (arith, no))
-      ∙ get_or-set_same sizes r.depth size 0 (omega (arith, w.wide, next_low))
-      ∙ sum ∙ size_is
-      ∙ ap (λ k. length (level b k (r ∷ w.done))) (sym same_depth))
-      (λ ne'. other_size size e ne ne' ∙ w.by_depth e low ∙ ⊎_elim
-      (λ less. ap length (sym (level-behind b e r w.done less)))
-      (λ more.
-      let deep : r.depth + 1 < e = omega (arith, more, ne, ne') in
-      ap length (none_inside e deep) ∙ sym (ap length (level-deeper b e r w.done (omega (arith, deep)))))
-      (cases_lt e r.depth))
-      (cases_eq e r.depth))
-      (cases_eq e (r.depth + 1))
+  by_depth_put size sum e low = grind (arith, get_or-set_same, length-set, next_low, level-deeper, get_or-set_other, size_is, level, other_size, level-behind, none_inside, cases_lt, cases_eq)
 
   -- the row is written in front of the others
   written_one : (start : ℕ) (new : List ℕ) → start + length front ≡ place → (place ≤ length out → new ≡ take start out ++ (front ++ drop place out))
       → end ≤ length old → new ≡ take start old ++ (rows_encoding b (r ∷ w.done) ++ drop end old)
-  written_one start new at put_front room =
-      let rest : List ℕ = rows_encoding b w.done ++ drop end old in
-      let was : out ≡ take place old ++ rest = w.written room in
-      let long : length (take place old) ≡ place = length-take-le place old (omega (arith, room, w.at)) in
-      let within : place ≤ length out = omega (arith, ap length was, length-append (take place old) rest, long) in
-      let before : take start out ≡ take start old =
-      ap (take start) was ∙ take-append-le start (take place old) rest (omega (arith, long, at)) ∙ take-take start place old (omega (arith, at)) in
-      let behind : drop place out ≡ rest = ap (drop place) was ∙ drop_at (take place old) rest place long in
-      put_front within ∙ ap (λ s. s ++ (front ++ drop place out)) before ∙ ap (λ s. take start old ++ (front ++ s)) behind
-      ∙ ap (λ s. take start old ++ s) (sym (append_assoc front (rows_encoding b w.done) (drop end old)))
-      ∙ ap (λ f. take start old ++ (f ++ drop end old)) with_front
+  written_one start new at put_front room = grind (arith, rows_encoding, length-take-le, length-append, take-append-le, take-take, drop_at, append_assoc, with_front)
 
   pub writing_one : (start size : ℕ) (new sizes' : List ℕ) → start + length front ≡ place
       → (place ≤ length out → new ≡ take start out ++ (front ++ drop place out))

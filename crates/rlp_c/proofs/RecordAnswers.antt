@@ -26,7 +26,7 @@ use Rattle.rlp_c.specs.{declared.item.RlpItem.RlpItem, declared.records.fields.R
 use Rattle.rlp_c.specs.declared.records.fields.Record.TheVariants.{Header, Legacy, AccessListPayload, FeeMarketPayload, BlobPayload, SetCodePayload}
 use Rattle.rlp_c.specs.{Fields.{number_of, numbered, record_result, without_value}, Places.{IsFound, fields_in, fields_of, place_of}}
 use Rattle.rlp_c.specs.{Records.{IsRecordRead, IsTransactionRead, legacy, record_of_type, transaction_result, typed, unknown}, Rows.ArePlaced}
-use Rattle.rlp_c.proofs.{Statuses.number_within, Testing.mapped}
+use Rattle.rlp_c.proofs.{Texts.number_within, Testing.mapped}
 
 -- the first byte, and the others
 pub first_and_rest : (b : List ℕ) → 1 ≤ length b → b ≡ slice_index_or b 0 0 ∷ take (length b - 1) (drop 1 b)

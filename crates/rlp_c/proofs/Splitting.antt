@@ -1,13 +1,15 @@
 -- The walk over the items of one list.
-use Rattle.std.proofs.Common.{◌≡◌, ℕ, ◌+◌, ◌-◌, ◌^◌, ◌<◌, ◌≤◌, ◌⊎◌, inl, inr, suc, true, List, [], ◌∷◌, ◌++◌, length, drop, refl, sym, ap, ◌∙◌}
-use Rattle.std.proofs.Common.{subst, arith, Ok, Some, None, append-nil, append_assoc, length-append}
+use Rattle.std.proofs.Common.{◌≡◌, ℕ, ◌+◌, ◌-◌, ◌^◌, ◌<◌, ◌≤◌, ◌⊎◌, inl, inr, suc, true, List, [], ◌∷◌, ◌++◌, length, drop, refl, sym, ap, ◌∙◌, subst}
+use Rattle.std.proofs.Common.{arith, Ok, Some, None, append-nil, append_assoc, length-append}
 use Rattle.rlp_reading.specs.{declared.error.DecoderError.DecoderError, declared.header.PayloadInfo.PayloadInfo}
-use Rattle.rlp_reading.specs.Format.Framing.{IsFramedItem, fault, framing, value, begins_as_list, split, after_items, fault_of_some, strict_fault, strict_list_fault}
-use Rattle.rlp_reading.specs.Format.Walk.{Extends}
+use Rattle.rlp_reading.specs.Format.Framing.{IsFramedItem, fault, framing, value, begins_as_list, split, after_items, fault_of_some, strict_fault}
+use Rattle.rlp_reading.specs.{Format.Framing.{strict_list_fault, IsCanonicalWithin}, Format.Walk.{Extends, IsWalked}}
+use Rattle.rlp_reading.specs.{declared.flat.TreeFault.TreeFault, Format.TreeFaults.tree_fault}
 use Rattle.rlp_reading.proofs.Lemmas.Numbered.{split-nil, after_items-next, after_items-nil, after_items-none, fault_of_some-some, some_bytes}
 use Rattle.rlp_reading.proofs.{Lemmas.Numbered.{strict_not_begun, strict_not_whole, strict_whole, value-items}, Trees.Needless.whole_item}
 use Rattle.rlp_reading.proofs.Trees.Walks.{extends_both, extends_start, content_payload}
-use Rattle.rlp_c.specs.{declared.item.RlpItem.RlpItem, Rows.{ArePlaced, IsItemized, header_length, row, row_by, rows_at}, Status.fault_status}
+use Rattle.rlp_c.specs.{declared.item.RlpItem.RlpItem, Rows.{ArePlaced, IsItemized, header_length, row, row_by, rows_at}}
+use Rattle.rlp_c.specs.{Status.{fault_status, tree_status}, Rows.{IsFlattened, filled, flat, no_room, refused, row_of}}
 use Rattle.std.specs.List.{concat}
 
 -- the first items have rows, and the others are those of the rest
@@ -33,22 +35,10 @@ rows-more : (place depth : ℕ) (fs : List (List ℕ)) (f : List ℕ) → rows_a
     ≡ rows_at place depth fs ++ row_by (place + length (concat fs)) depth (begins_as_list f) (framing f) ∷ []
 unfolding rows_at
 rows-more place depth [] f = ap (λ k. row_by k depth (begins_as_list f) (framing f) ∷ []) (let same : place ≡ place + 0 = omega arith in same)
-rows-more place depth (g ∷ fs) f =
-    let at : place + length g + length (concat fs) ≡ place + length (concat (g ∷ fs)) = omega (arith, length-append g (concat fs)) in
-    ap (λ s. row_by place depth (begins_as_list g) (framing g) ∷ s) (rows-more (place + length g) depth fs f
-    ∙ ap (λ k. rows_at (place + length g) depth fs ++ row_by k depth (begins_as_list f) (framing f) ∷ []) at)
+rows-more place depth (g ∷ fs) f = grind (arith, length-append, rows-more (place + length g) depth fs f)
 
 pub splitting_none : (p : List ℕ) (place : ℕ) (old : List RlpItem) → IsSplitting p p place old old 0
-splitting_none p place old = record {
-  done = [];
-  all = refl;
-  follows = refl;
-  rows = rows_none old place;
-  total = length_none place;
-  counted = refl;
-  bytes = let e : 0 + length p ≡ length p = omega arith in e;
-  few = let e : 0 + length p ≤ length p = omega arith in e;
-}
+splitting_none p place old = grind (arith, rows_none, length_none)
 
 concat-more : (fs : List (List ℕ)) (f : List ℕ) → length (concat (fs ++ f ∷ [])) ≡ length (concat fs) + length f
 concat-more [] f = omega (arith, ap length (append-nil f))
@@ -86,8 +76,7 @@ splitting_one p rest item others place h old mid new n w parts whole header some
 
 pub splitting_fault : (p rest : List ℕ) (place : ℕ) (old new : List RlpItem) (n : ℕ) (e : DecoderError) → IsSplitting p rest place old new n
     → split rest ≡ [] → 0 < length rest → e ≡ fault rest → fault_of_some (after_items p) ≡ Some e
-splitting_fault p rest place old new n e w none some is =
-    ap fault_of_some (w.follows ∙ after_items-none rest none) ∙ fault_of_some-some rest some ∙ ap Some (sym is)
+splitting_fault p rest place old new n e w none some is = grind (arith, after_items-none, fault_of_some-some)
 
 -- the walk has reached the end
 pub record IsAllSplit (p : List ℕ) (place : ℕ) (old new : List RlpItem) (n : ℕ) : Type 0 where
@@ -97,13 +86,7 @@ pub record IsAllSplit (p : List ℕ) (place : ℕ) (old new : List RlpItem) (n :
 
 pub splitting_ends : (p rest : List ℕ) (place : ℕ) (old new : List RlpItem) (n : ℕ) → IsSplitting p rest place old new n → rest ≡ []
     → IsAllSplit p place old new n
-splitting_ends p rest place old new n w none =
-    let same : w.done ≡ split p = sym (append-nil w.done) ∙ ap (λ s. w.done ++ s) (sym (ap split none ∙ split-nil)) ∙ w.all in
-    record {
-      no_fault = ap fault_of_some (w.follows ∙ ap after_items none ∙ after_items-nil);
-      counted = w.counted ∙ ap length same;
-      rows = subst (λ fs. Extends old 0 (rows_at place 1 fs) new) same w.rows;
-    }
+splitting_ends p rest place old new n w none = grind (arith, append-nil, split-nil, after_items-nil)
 
 pub rows_counted : (place depth : ℕ) (fs : List (List ℕ)) → length (rows_at place depth fs) ≡ length fs
 unfolding rows_at
@@ -146,4 +129,23 @@ not_itemized place b old new count status e fault is = subst (IsItemized place b
 
 pub ruleset payload_split = (splitting_none, splitting_fault, some_bytes)
 
-pub ruleset list_split = (not_itemized, strict_not_begun, strict_not_whole, strict_whole)
+pub ruleset list_split = (itemized, payload_fits, not_itemized, strict_not_begun, strict_not_whole, strict_whole)
+
+-- ---- the answer of a whole walk
+
+pub flattened : (lim most : ℕ) (b : List ℕ) (old new : List RlpItem) (old_count n : ℕ) → lim ≡ most → IsWalked row_of b 0 0 lim old 0 new n → n ≤ length new
+    → IsFlattened most b old new old_count n 0
+flattened lim most b old new old_count n same w few =
+    let count : n ≡ length (flat 0 0 w.x) = omega (arith, w.total) in
+    let room : n ≤ length old = omega (arith, few, w.rows.same_len) in
+    filled w.x w.is (omega (arith, w.deep, same)) count room (extends_start old new n (flat 0 0 w.x) w.rows count room) refl
+
+pub lacking : (lim most : ℕ) (b : List ℕ) (old new : List RlpItem) (old_count n : ℕ) → lim ≡ most → IsWalked row_of b 0 0 lim old 0 new n → length new < n
+    → IsFlattened most b old new old_count n 13
+lacking lim most b old new old_count n same w full =
+    no_room w.x w.is (omega (arith, w.deep, same)) (let count : n ≡ length (flat 0 0 w.x) = omega (arith, w.total) in count) (omega (arith, full, w.rows.same_len)) refl
+
+pub faulty : (lim most : ℕ) (b : List ℕ) (old new : List RlpItem) (old_count status : ℕ) (e : TreeFault) → lim ≡ most → tree_fault lim b ≡ Some e
+    → ¬ IsCanonicalWithin lim b → status ≡ tree_status e → IsFlattened most b old new old_count old_count status
+faulty lim most b old new old_count status e same found none is =
+    refused e (subst (λ m. tree_fault m b ≡ Some e) same found) (subst (λ m. ¬ IsCanonicalWithin m b) same none) refl is

@@ -28,11 +28,7 @@ behind-list r is = cond-false (r.is_list == 0) r.depth (r.depth + 1) (ne_eqb r.i
 
 -- a row behind this one is at most one deeper
 pub behind-most : (r : RlpItem) → (r.depth ≤ depth_behind r) × (depth_behind r ≤ r.depth + 1)
-behind-most r =
-    ⊎_elim
-    (λ is. let same = behind-string r is in (omega (arith, same), omega (arith, same)))
-    (λ is. let same = behind-list r is in (omega (arith, same), omega (arith, same)))
-    (cases_eq r.is_list 0)
+behind-most r = grind (arith, behind-string, behind-list, cases_eq)
 
 -- ---- the items of one depth
 
@@ -43,13 +39,11 @@ items_of-deeper b d r rs less = cond-true (ltb r.depth d) _ _ (lt-ltb r.depth d 
 pub items_of-here : (b : List ℕ) (r : RlpItem) (rs : List RlpItem) → items_of b r.depth (r ∷ rs)
     ≡ item_and (item_of b r (items_of b (r.depth + 1) rs)) (items_of b r.depth rs)
 unfolding items_of
-items_of-here b r rs = cond-false (ltb r.depth r.depth) _ _ (le-ltb r.depth r.depth (omega arith))
-    ∙ cond-true (r.depth == r.depth) _ _ (eq-eqb r.depth r.depth refl)
+items_of-here b r rs = grind (arith, cond-false, le-ltb, cond-true, eq-eqb)
 
 pub items_of-behind : (b : List ℕ) (d : ℕ) (r : RlpItem) (rs : List RlpItem) → d < r.depth → items_of b d (r ∷ rs) ≡ items_of b d rs
 unfolding items_of
-items_of-behind b d r rs more = cond-false (ltb r.depth d) _ _ (le-ltb r.depth d (omega (arith, more)))
-    ∙ cond-false (r.depth == d) _ _ (ne_eqb r.depth d (λ same. omega (arith, same, more)))
+items_of-behind b d r rs more = grind (arith, cond-false, le-ltb)
 
 -- what is written for the items of one depth
 abbrev pub level : List ℕ → ℕ → List RlpItem → List ℕ
@@ -80,16 +74,7 @@ level-inside b limit len least most d (r ∷ rs) (row, fit) low = level-deeper b
 pub encoding-front : (b : List ℕ) (limit len : ℕ) (r : RlpItem) (rs : List RlpItem) → AreRows limit len 1 (depth_behind r) rs
     → encoding (item_of b r (items_of b (r.depth + 1) rs)) ≡ front_of b r (length (level b (r.depth + 1) rs)) ++ level b (r.depth + 1) rs
 unfolding encoding
-encoding-front b limit len r rs fit =
-    let inner = level b (r.depth + 1) rs in
-    ⊎_elim
-    (λ is.
-    let none : inner ≡ [] = level-inside b limit len 1 (depth_behind r) (r.depth + 1) rs fit (omega (arith, behind-string r is)) in
-    ap encoding (item-string b r (items_of b (r.depth + 1) rs) is) ∙ sym (append-nil (string_encoding (payload_at b r)))
-    ∙ ap (λ s. string_encoding (payload_at b r) ++ s) (sym none)
-    ∙ ap (λ f. f ++ inner) (sym (front-string b r (length inner) is)))
-    (λ is. ap encoding (item-list b r (items_of b (r.depth + 1) rs) is) ∙ ap (λ f. f ++ inner) (sym (front-list b r (length inner) is)))
-    (cases_eq r.is_list 0)
+encoding-front b limit len r rs fit = grind (arith, level-inside, behind-string, item-string, append-nil, front-string, item-list, front-list, cases_eq)
 
 -- ---- the rows one after another
 
@@ -109,9 +94,7 @@ below-none b (suc n) = ap (λ s. s ++ below b n []) (level-none b n) ∙ below-n
 
 below-behind : (b : List ℕ) (n : ℕ) (r : RlpItem) (rs : List RlpItem) → n ≤ r.depth → below b n (r ∷ rs) ≡ below b n rs
 below-behind b zero r rs few = refl
-below-behind b (suc n) r rs few =
-    ap (λ s. s ++ below b n (r ∷ rs)) (level-behind b n r rs (omega (arith, few)))
-    ∙ ap (λ s. level b n rs ++ s) (below-behind b n r rs (omega (arith, few)))
+below-behind b (suc n) r rs few = grind (arith, level-behind, below-behind b n r rs (omega (arith, few)))
 
 below-down : (b : List ℕ) (n : ℕ) (r : RlpItem) (rs : List RlpItem) → r.depth < n → below b n (r ∷ rs) ≡ below b (suc r.depth) (r ∷ rs)
 below-down b zero r rs less = absurd (omega (arith, less))
@@ -157,16 +140,12 @@ level-within b limit len least most r rs fit =
 items_of-none : (b : List ℕ) (limit len most : ℕ) (rows : List RlpItem) → AreRows limit len 1 most rows → items_of b 0 rows ≡ no_items
 unfolding items_of
 items_of-none b limit len most [] fit = refl
-items_of-none b limit len most (r ∷ rs) (row, fit) =
-    items_of-behind b 0 r rs (omega (arith, row.deep)) ∙ items_of-none b limit len (depth_behind r) rs fit
+items_of-none b limit len most (r ∷ rs) (row, fit) = grind (arith, items_of-behind, items_of-none b limit len (depth_behind r) rs fit)
 
 same_tree : (b : List ℕ) (r : RlpItem) (rs : List RlpItem) → r.depth ≡ 0 → items_of b 0 rs ≡ no_items
     → items_of b 0 (r ∷ rs) ≡ item_and (tree_of b (r ∷ rs)) no_items
 unfolding tree_of
-same_tree b r rs top none =
-    ap (λ k. items_of b k (r ∷ rs)) (sym top) ∙ items_of-here b r rs
-    ∙ ap (λ k. item_and (item_of b r (items_of b (k + 1) rs)) (items_of b k rs)) top
-    ∙ ap (λ xs. item_and (item_of b r (items_of b 1 rs)) xs) none
+same_tree b r rs top none = grind (arith, items_of-here)
 
 one_item : (x : Item) → join_items (item_and x no_items) ++ [] ≡ encoding x
 unfolding encoding
@@ -184,8 +163,4 @@ rows-tree b limit (r ∷ rs) tree =
 -- the last rows are written as a part of all
 pub rows-longer : (b : List ℕ) (xs ys : List RlpItem) → length (rows_encoding b ys) ≤ length (rows_encoding b (xs ++ ys))
 rows-longer b [] ys = omega arith
-rows-longer b (x ∷ xs) ys = omega (
-  arith,
-  rows-longer b xs ys,
-  length-append (front_of b x (length (level b (x.depth + 1) (xs ++ ys)))) (rows_encoding b (xs ++ ys)),
-)
+rows-longer b (x ∷ xs) ys = grind (arith, length-append, rows-longer b xs ys)

@@ -1,9 +1,9 @@
 -- The status numbers of faults in C.
-use Rattle.std.specs.Prelude.{ℕ}
+use Rattle.std.specs.Prelude.{ℕ, ◌≡◌, Bool, List, Result, Ok, Err}
 use Rattle.rlp_reading.specs.{declared.error.DecoderError.DecoderError, declared.flat.TreeFault.TreeFault}
 use Rattle.rlp_reading.specs.declared.flat.TreeFault.TheVariants.{Decoding, TooDeep}
-use Rattle.rlp_reading.specs.Form.{Fault, custom, data_len_with_zero, expected_data, expected_list, fault_of, inconsistent_len, incorrect_list_len, invalid_indirection, invalid_len}
-use Rattle.rlp_reading.specs.Form.{is_too_big, is_too_short, list_len_with_zero, out_of_memory}
+use Rattle.rlp_reading.specs.Form.{Fault, custom, data_len_with_zero, expected_data, expected_list, fault_of, inconsistent_len, incorrect_list_len}
+use Rattle.rlp_reading.specs.{Form.{invalid_indirection, invalid_len, is_too_big, is_too_short, list_len_with_zero, out_of_memory}, Views.View.View}
 
 -- the number of a fault; no fault has the number 0
 abbrev pub fault_number : Fault → ℕ
@@ -28,3 +28,14 @@ fault_status e = fault_number (fault_of e)
 abbrev pub tree_status : TreeFault → ℕ
 tree_status (Decoding e) = fault_status e
 tree_status TooDeep = 14
+
+-- ---- what a function for C returns and leaves in its result parameter
+
+-- The status 0 and the value that was read, or the number of the fault and the old result. No fault has the number 0.
+abbrev pub Answers : {A M : Type 0} → (A → M) → Result M Fault → ℕ → A → A → Type 0
+Answers seen (Ok x) status old new = (status ≡ 0) × (seen new ≡ x)
+Answers seen (Err e) status old new = (status ≡ fault_number e) × (new ≡ old)
+
+-- the view of these bytes, strict or lenient
+abbrev pub view_as : Bool → List ℕ → View
+view_as is_strict b = record { bytes = b; is_strict = is_strict }

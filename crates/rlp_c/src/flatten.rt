@@ -1,7 +1,7 @@
 //! A whole tree as rows, by one walk over its bytes.
 
 ghost use Rattle.std.specs.Prelude.{min};
-ghost use Rattle.rlp_c.specs.Flat.{IsFlattened};
+ghost use Rattle.rlp_c.specs.Rows.{IsFlattened};
 
 use crate::canonical::depth_within;
 use crate::item::RlpItem;

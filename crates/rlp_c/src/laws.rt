@@ -2,7 +2,7 @@
 
 ghost use Rattle.std.specs.Prelude.{ℕ, ◌≡◌, ◌≤◌};
 ghost use Rattle.rlp_format.specs.Format.Encoding.{Item, item_depth, encoding};
-ghost use Rattle.rlp_c.specs.{Flat.flat, Tree.{DescribeTree, tree_of}};
+ghost use Rattle.rlp_c.specs.{Rows.flat, Tree.{DescribeTree, tree_of}};
 
 /// The rows of an item describe the item, so that `rlp_encode` writes what `rlp_flatten` has read.
 pub fn rows_describe_their_item(bytes: &[u8])

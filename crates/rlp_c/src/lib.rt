@@ -5,7 +5,6 @@
 mod canonical;
 mod encode;
 mod flatten;
-mod header;
 mod item;
 mod laws;
 mod records;

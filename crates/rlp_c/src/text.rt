@@ -32,6 +32,7 @@ pub extern "C" fn rlp_text(bytes: &[u8], out: &mut [u8], count: &mut usize) -> u
 }
 
 /// Writes the text of bytes at a place, and returns the place behind it.
+#[tactic(auto, using(crate::proofs::Texts::texts))]
 fn put_text(bytes: &[u8], out: &mut [u8], at: usize) -> usize
     ensures { IsPut out.old at (text bytes.now) out.new result }
 {
@@ -45,6 +46,7 @@ fn put_text(bytes: &[u8], out: &mut [u8], at: usize) -> usize
 }
 
 /// Writes the text of an item.
+#[tactic(auto, using(crate::proofs::Texts::framed_texts))]
 fn put_framed(framed: &Framed<'_>, out: &mut [u8], at: usize) -> usize
     ensures { IsPut out.old at (text framed.now.item.now) out.new result }
 {

@@ -167,9 +167,7 @@ fn write_front(
         return write_before(written_header(LIST, inside).as_slice(), out, end);
     }
     let string = string_of(item, bytes);
-    let Some(start) = write_before(string, out, end) else {
-        return None;
-    };
+    let start = write_before(string, out, end)?;
     if is_low_byte(string) {
         return Some(start);
     }
@@ -185,9 +183,7 @@ fn write_before(bytes: &[u8], out: &mut [u8], end: usize) -> Option<usize>
     ensures written { IfSome result (λ start. end ≤ length out.old → out.new
         ≡ take start out.old ++ (bytes.now ++ drop end out.old)) }
 {
-    let Some(start) = end.checked_sub(bytes.len()) else {
-        return None;
-    };
+    let start = end.checked_sub(bytes.len())?;
     if end <= out.len() {
         out[start..end].copy_from_slice(bytes);
     }

@@ -4,7 +4,7 @@ ghost use Rattle.std.specs.{Prelude.{◌≡◌, Err, MatchResult, Ok, OnOk}, Int
 ghost use Rattle.rlp_reading.specs.{Format.Framing.IsString, Form.{fault_of, map_value, number_of, string_of}};
 ghost use Rattle.rlp_format.specs.Format.Encoding.{big_endian};
 ghost use Rattle.rlp.specs.Codec.{number};
-ghost use Rattle.rlp_c.specs.{Answers.{Answers, view_as}, Rows.{IsRowOfString, payload_at}};
+ghost use Rattle.rlp_c.specs.{Status.{Answers, view_as}, Rows.{IsRowOfString, payload_at}};
 
 use crate::item::RlpItem;
 use crate::status::{RLP_OK, status_of};
@@ -40,7 +40,7 @@ pub extern "C" fn rlp_decode_u64(alloc: Global, bytes: &[u8], strict: bool, out:
 /// Finds the big-endian digits, without leading zeros, of a number of at most `width` bytes: the
 /// row is the one that [`rlp_decode_bytes`] finds. If strict, nothing may follow the number.
 #[unsafe(no_mangle)]
-#[tactic(auto, using(crate::proofs::Statuses::number_within))]
+#[tactic(auto, using(crate::proofs::Texts::number_within))]
 pub extern "C" fn rlp_decode_uint(
     bytes: &[u8],
     strict: bool,
@@ -90,7 +90,7 @@ fn check_number(digits: &[u8], most: usize) -> Result<(), DecoderError>
 /// Finds a byte string: the row is the one that `rlp_header` finds. If strict, nothing may follow
 /// the string.
 #[unsafe(no_mangle)]
-#[tactic(auto, using(crate::proofs::Statuses::number_within))]
+#[tactic(auto, using(crate::proofs::Texts::number_within))]
 pub extern "C" fn rlp_decode_bytes(bytes: &[u8], strict: bool, out: &mut RlpItem) -> u32
     ensures answer { Answers (λ r. payload_at bytes.now r) (string_of (view_as strict bytes.now))
         result out.old out.new }
@@ -106,7 +106,7 @@ pub extern "C" fn rlp_decode_bytes(bytes: &[u8], strict: bool, out: &mut RlpItem
 }
 
 /// The row of the string that the bytes begin with.
-#[tactic(auto, using(crate::proofs::Strings::rows_of_strings))]
+#[tactic(auto, using(crate::proofs::Texts::rows_of_strings))]
 fn string_row(bytes: &[u8], string: &[u8]) -> RlpItem
     requires { IsString bytes.now string.now }
     ensures row { IsRowOfString bytes.now result }

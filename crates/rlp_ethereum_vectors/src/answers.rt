@@ -1,21 +1,19 @@
 //! The calls that rows name.
 
 use crate::kinds::both_ways;
-use crate::{
-    addresses, bounded, fields, hashes, messages, node_records, nodes, places, pooled, proofs,
-    records, requests, signing, uses,
-};
+use crate::{fields, hashes, messages, node_records, nodes, places, reading, transactions, uses};
 use rlp::DecoderError;
 use std::alloc::Global;
 
 /// Returns what a call answers about what is given: a text, or the fault of the bytes. Given are the
-/// digits of bytes, or the text of a node record, or the digits of a proof. The call of a kind answers
-/// `both ways` if the bytes are read as a value that is written as the same bytes, and fail if the
-/// last byte is missing or another follows.
+/// digits of bytes, or the text of a node record, or the digits of a proof, or capabilities. The call
+/// of a kind answers `both ways` if the bytes are read as a value that is written as the same bytes, and
+/// fail if the last byte is missing or another follows.
 pub fn answer(alloc: Global, call: &str, given: &str) -> Result<String, DecoderError> {
-    match call {
-        "proof" => proofs::answer(alloc, given),
-        "node record: of the text" => node_records::of_text(alloc, given),
+    match call.split_once(": ") {
+        None if call == "proof" => nodes::proof(alloc, given),
+        Some(("node record", "of the text")) => node_records::of_text(alloc, given),
+        Some(("offset", name)) => messages::offset(alloc, name, given),
         _ => about_bytes(alloc, call, bytes_of(alloc, given)?.as_slice()),
     }
 }
@@ -33,19 +31,19 @@ fn about_bytes(alloc: Global, call: &str, bytes: &[u8]) -> Result<String, Decode
     let (subject, name) = call.split_once(": ").unwrap_or((call, ""));
     match subject {
         "account" => uses::tell_account(alloc, bytes),
-        "address" => addresses::answer(alloc, name, bytes),
-        "at most" => bounded::answer(alloc, name, bytes),
+        "address" => hashes::address(alloc, name, bytes),
+        "at most" => reading::bounded(alloc, name, bytes),
         "fields" => fields::answer(alloc, name, bytes),
         "hash" => hashes::answer(alloc, name, bytes),
-        "number" => messages::answer(alloc, name, bytes),
+        "number" => messages::number(alloc, name, bytes),
         "node" => nodes::answer(alloc, name, bytes),
         "node record" => node_records::answer(alloc, name, bytes),
         "place" => places::answer(alloc, name, bytes),
-        "pooled" => pooled::answer(alloc, name, bytes),
+        "pooled" => transactions::pooled(alloc, name, bytes),
         "received" => uses::tell_received(alloc, bytes),
-        "payment" => records::answer(alloc),
-        "headers from" => requests::answer(alloc, bytes),
-        "signing" => signing::answer(alloc, name, bytes),
+        "payment" => transactions::made(alloc),
+        "headers from" => messages::headers_from(alloc, bytes),
+        "signing" => transactions::signing(alloc, name, bytes),
         _ => both_ways(alloc, call, bytes),
     }
 }

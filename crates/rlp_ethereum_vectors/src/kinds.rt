@@ -51,76 +51,58 @@ fn is_refused(again: &Again) -> bool {
     }
 }
 
-/// Returns what a value of a kind, which is read from the bytes, is written as.
-fn again(alloc: Global, kind: &str, bytes: &[u8]) -> Again {
-    match kind {
-        "Account" => item::<Account>(alloc, bytes),
-        "AnyReceipt" => item::<AnyReceipt>(alloc, bytes),
-        "AnyReceipt alone" => any_alone::<TypedReceipt>(alloc, bytes),
-        "Block" => item::<Block>(alloc, bytes),
-        "BlockAccessList" => item::<BlockAccessList>(alloc, bytes),
-        "Body" => item::<Body>(alloc, bytes),
-        "DepositReceipt alone" => sent::<DepositReceipt>(alloc, bytes),
-        "Hash" => item::<Hash>(alloc, bytes),
-        "Header" => item::<Header>(alloc, bytes),
-        "Log" => item::<Log>(alloc, bytes),
-        "NodeRecord" => item::<NodeRecord>(alloc, bytes),
-        "Receipt" => item::<Receipt>(alloc, bytes),
-        "TypedReceipt" => item::<TypedReceipt>(alloc, bytes),
-        "TypedReceipt alone" => alone::<TypedReceipt>(alloc, bytes),
-        "Withdrawal" => item::<Withdrawal>(alloc, bytes),
-        _ => transaction_again(alloc, kind, bytes),
-    }
+/// What is written again of an item that has one of these types, of one behind the id of a request, or
+/// of a signed one, or else the other answer.
+macro_rules! item_of_kind {
+    ($alloc:ident, $kind:ident, $bytes:ident;
+        $($item:ident)*; $($content:ident)*; $($payload:ident)*; $other:expr) => {
+        match $kind {
+            $(stringify!($item) => item::<$item>($alloc, $bytes),)*
+            $(stringify!($content) => item::<WithRequestId<$content>>($alloc, $bytes),)*
+            $(stringify!($payload) => item::<Signed<$payload>>($alloc, $bytes),)*
+            _ => $other,
+        }
+    };
 }
 
-/// Returns what a transaction is written as, a part of one, or what is signed of it.
-fn transaction_again(alloc: Global, kind: &str, bytes: &[u8]) -> Again {
+/// Returns what a value of a kind, which is read from the bytes, is written as. An item of a type has
+/// the name of the type.
+fn again(alloc: Global, kind: &str, bytes: &[u8]) -> Again {
+    item_of_kind!(alloc, kind, bytes;
+        AccessList Account AnyReceipt AnyTransaction Block BlockAccessList BlockRangeUpdate Body
+        Branch BranchChild Child DepositTransaction Disconnect Extension ForkId Hash HashOrNumber
+        Header Hello Leaf Log NewBlock NewBlockHashes NewPooledTransactionHashes NodeRecord Ping Pong
+        PooledTransaction Receipt Status68 Status69 Transaction Transactions
+        TrieNode TypedReceipt UnsignedLegacyTransaction Withdrawal;
+        BlockBodies BlockHeaders GetBlockBodies GetBlockHeaders GetPooledTransactions GetReceipts
+        PooledTransactions Receipts Receipts69;
+        AccessListTransaction FeeMarketTransaction;
+        alone_again(alloc, kind, bytes))
+}
+
+/// Returns what a message is written as, a value that is sent alone, or what is signed of one.
+fn alone_again(alloc: Global, kind: &str, bytes: &[u8]) -> Again {
     match kind {
-        "AccessList" => item::<AccessList>(alloc, bytes),
-        "AccessListTransaction" => item::<Signed<AccessListTransaction>>(alloc, bytes),
-        "AccessListTransaction alone" => signed::<AccessListTransaction>(alloc, bytes),
-        "AnyTransaction" => item::<AnyTransaction>(alloc, bytes),
-        "AnyTransaction alone" => any_alone::<Transaction>(alloc, bytes),
-        "DepositTransaction" => item::<DepositTransaction>(alloc, bytes),
-        "DepositTransaction alone" => sent::<DepositTransaction>(alloc, bytes),
-        "FeeMarketTransaction" => item::<Signed<FeeMarketTransaction>>(alloc, bytes),
-        "FeeMarketTransaction alone" => signed::<FeeMarketTransaction>(alloc, bytes),
         "LegacyTransaction" => item::<SignedLegacyTransaction>(alloc, bytes),
-        "PooledTransaction" => item::<PooledTransaction>(alloc, bytes),
+        "AnyReceipt alone" => any_alone::<TypedReceipt>(alloc, bytes),
+        "DepositReceipt alone" => sent::<DepositReceipt>(alloc, bytes),
+        "TypedReceipt alone" => alone::<TypedReceipt>(alloc, bytes),
+        "AccessListTransaction alone" => signed::<AccessListTransaction>(alloc, bytes),
+        "AnyTransaction alone" => any_alone::<Transaction>(alloc, bytes),
+        "DepositTransaction alone" => sent::<DepositTransaction>(alloc, bytes),
+        "FeeMarketTransaction alone" => signed::<FeeMarketTransaction>(alloc, bytes),
         "PooledTransaction alone" => alone::<PooledTransaction>(alloc, bytes),
-        "Transaction" => item::<Transaction>(alloc, bytes),
         "Transaction alone" => alone::<Transaction>(alloc, bytes),
+        "UnsignedTransaction alone" => alone::<UnsignedTransaction>(alloc, bytes),
         "with proofs" => item::<BlobTransactionWithProofs>(alloc, bytes),
         "with proofs, alone" => sent::<BlobTransactionWithProofs>(alloc, bytes),
         "with cell proofs" => item::<BlobTransactionWithCellProofs>(alloc, bytes),
         "with cell proofs, alone" => sent::<BlobTransactionWithCellProofs>(alloc, bytes),
-        _ => unsigned_again(alloc, kind, bytes),
-    }
-}
-
-/// Returns what a transaction before it is signed is written as, or a node of the trie.
-fn unsigned_again(alloc: Global, kind: &str, bytes: &[u8]) -> Again {
-    match kind {
-        "UnsignedLegacyTransaction" => item::<UnsignedLegacyTransaction>(alloc, bytes),
-        "UnsignedTransaction alone" => alone::<UnsignedTransaction>(alloc, bytes),
         "payload of type 1" => payload::<AccessListTransaction>(alloc, bytes),
         "payload of type 2" => payload::<FeeMarketTransaction>(alloc, bytes),
         "payload of type 3" => payload::<BlobTransaction>(alloc, bytes),
         "payload of type 4" => payload::<SetCodeTransaction>(alloc, bytes),
         "payload of an authorization" => payload::<Authorization>(alloc, bytes),
-        "Branch" => item::<Branch>(alloc, bytes),
-        "BranchChild" => item::<BranchChild>(alloc, bytes),
-        "Child" => item::<Child>(alloc, bytes),
-        "Extension" => item::<Extension>(alloc, bytes),
-        "Leaf" => item::<Leaf>(alloc, bytes),
-        "TrieNode" => item::<TrieNode>(alloc, bytes),
-        _ => message_again(alloc, kind, bytes),
-    }
-}
-
-/// Returns what a message is written as.
-fn message_again(alloc: Global, kind: &str, bytes: &[u8]) -> Again {
-    match kind {
         "eth/68" => message::<Eth68Message>(alloc, 0x10, bytes),
         "eth/69" => message::<Eth69Message>(alloc, 0x10, bytes),
         "p2p" => message::<P2pMessage>(alloc, 0, bytes),
@@ -129,35 +111,6 @@ fn message_again(alloc: Global, kind: &str, bytes: &[u8]) -> Again {
             let most = MessageBounds { bytes: 4, items: 2 };
             Ok(P2pMessage::from_message_at_most(alloc, 0, bytes, most)?.to_message(alloc, 0)?)
         }
-        _ => body_again(alloc, kind, bytes),
-    }
-}
-
-/// Returns what the body of a message, or a part of one, is written as.
-fn body_again(alloc: Global, kind: &str, bytes: &[u8]) -> Again {
-    match kind {
-        "BlockBodies" => item::<WithRequestId<BlockBodies>>(alloc, bytes),
-        "BlockHeaders" => item::<WithRequestId<BlockHeaders>>(alloc, bytes),
-        "BlockRangeUpdate" => item::<BlockRangeUpdate>(alloc, bytes),
-        "Disconnect" => item::<Disconnect>(alloc, bytes),
-        "ForkId" => item::<ForkId>(alloc, bytes),
-        "GetBlockBodies" => item::<WithRequestId<GetBlockBodies>>(alloc, bytes),
-        "GetBlockHeaders" => item::<WithRequestId<GetBlockHeaders>>(alloc, bytes),
-        "GetPooledTransactions" => item::<WithRequestId<GetPooledTransactions>>(alloc, bytes),
-        "GetReceipts" => item::<WithRequestId<GetReceipts>>(alloc, bytes),
-        "HashOrNumber" => item::<HashOrNumber>(alloc, bytes),
-        "Hello" => item::<Hello>(alloc, bytes),
-        "NewBlock" => item::<NewBlock>(alloc, bytes),
-        "NewBlockHashes" => item::<NewBlockHashes>(alloc, bytes),
-        "NewPooledTransactionHashes" => item::<NewPooledTransactionHashes>(alloc, bytes),
-        "Ping" => item::<Ping>(alloc, bytes),
-        "Pong" => item::<Pong>(alloc, bytes),
-        "PooledTransactions" => item::<WithRequestId<PooledTransactions>>(alloc, bytes),
-        "Receipts" => item::<WithRequestId<Receipts>>(alloc, bytes),
-        "Receipts69" => item::<WithRequestId<Receipts69>>(alloc, bytes),
-        "Status68" => item::<Status68>(alloc, bytes),
-        "Status69" => item::<Status69>(alloc, bytes),
-        "Transactions" => item::<Transactions>(alloc, bytes),
         _ => Err(DecoderError::Custom("no such call")),
     }
 }

@@ -3,9 +3,7 @@
 //! program in `rlp_tool_vectors` reads the rows and calls [`answer`].
 #![tactic(auto)]
 
-mod addresses;
 mod answers;
-mod bounded;
 mod fields;
 mod hashes;
 mod kinds;
@@ -13,13 +11,9 @@ mod messages;
 mod node_records;
 mod nodes;
 mod places;
-mod pooled;
-mod proofs;
 mod reading;
-mod records;
-mod requests;
-mod signing;
+mod transactions;
 mod uses;
 
 pub use answers::answer;
-pub use bounded::at_most;
+pub use reading::at_most;

@@ -1,10 +1,14 @@
-//! Ways to read bytes as a value and to write the value again.
+//! Ways to read bytes as a value and to write the value again, and reading with a bound on the number
+//! of items.
 
 use bytes::BytesMut;
-use rlp::{Decodable, DecoderError, Encodable};
+use rlp::{Decodable, DecoderError, Encodable, StrictRead};
+use rlp_blocks::Body;
+use rlp_headers::Withdrawal;
 use rlp_messages::Message;
-use rlp_records::{Eip2718, Enveloped, KnownOrOther};
-use rlp_transactions::{Signed, Tagged, TypedTransaction};
+use rlp_records::{Eip2718, Enveloped, KnownOrOther, decode_at_most};
+use rlp_transactions::{AnyTransaction, Signed, Tagged, Transaction, TypedTransaction};
+use rlp_vectors::rows::{cut, number};
 use std::alloc::Global;
 
 /// What a value that was read is written as, or the fault of the bytes.
@@ -66,4 +70,30 @@ pub(crate) fn sent<T: Enveloped>(alloc: Global, bytes: &[u8]) -> Again {
 /// Reads a message whose id is its number after this offset.
 pub(crate) fn message<M: Message>(alloc: Global, offset: u8, bytes: &[u8]) -> Again {
     Ok(M::from_message(alloc, offset, bytes)?.to_message(alloc, offset)?)
+}
+
+/// Reads a value of a type with at most a number of items, which stands before the name of the type.
+/// Allocates nothing else.
+pub fn at_most(alloc: Global, asked: &str, bytes: &[u8]) -> Result<(), DecoderError> {
+    let (most, kind) = cut(asked);
+    match kind {
+        "AnyTransaction" => read::<AnyTransaction>(alloc, bytes, number(most)),
+        "Body" => read::<Body>(alloc, bytes, number(most)),
+        "Transaction" => read::<Transaction>(alloc, bytes, number(most)),
+        _ => read::<Withdrawal>(alloc, bytes, number(most)),
+    }
+}
+
+/// Reads a value of this type.
+fn read<R: StrictRead>(alloc: Global, bytes: &[u8], most: usize) -> Result<(), DecoderError> {
+    match decode_at_most::<R>(alloc, bytes, most) {
+        Ok(_) => Ok(()),
+        Err(fault) => Err(fault),
+    }
+}
+
+/// Returns `Ok` if a value of a type is read with at most a number of items.
+pub(crate) fn bounded(alloc: Global, asked: &str, bytes: &[u8]) -> Result<String, DecoderError> {
+    at_most(alloc, asked, bytes)?;
+    Ok(String::from_str(alloc, "Ok")?)
 }

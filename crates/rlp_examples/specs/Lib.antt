@@ -1,6 +1,7 @@
 pub mod Inner
 pub mod Message
 pub mod Nest
+pub mod NestLaws
 pub mod Odd
 pub mod Pair
 pub mod Parcel

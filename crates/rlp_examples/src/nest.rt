@@ -2,7 +2,7 @@
 
 ghost use Rattle.std.specs.{Prelude.{[], ◌∷◌, ⊤, All, map}, Vec.vec_items};
 ghost use Rattle.rlp.specs.{Format.Encoding.list_of, Codec.codec_of, Laws.form_of};
-ghost use Rattle.rlp_examples.specs.Nest.{nest, nest_read_back, nest_reading};
+ghost use Rattle.rlp_examples.specs.{Nest.{nest, nest_reading}, NestLaws.nest_read_back};
 
 use rlp::{
     Decodable, DecodePlaced, DecoderError, Encodable, ListField, ListOf, Rlp, RlpStream, RoundTrip,

@@ -2,7 +2,7 @@
 use Rattle.std.proofs.{Common.{◌≡◌, Ok, Err, ap, ◌∙◌, codes}, lemmas.Bool.{cond-true, cond-false, false_from_ne_true}}
 use Rattle.std.specs.{Prelude.Vec, declared.alloc.Global.Global}
 use Rattle.rlp.specs.{Form.{and_then, custom}, Views.View.View}
-use Rattle.rlp_records.specs.Tested.{passing}
+use Rattle.rlp_records.specs.TestedForm.{passing}
 use Rattle.rlp_headers.specs.AccessOrder.{AreAccountsInOrder, accounts, accounts_in_order, block_access_list}
 use Rattle.rlp_headers.specs.declared.block_access_list.changes.AccountChanges.{AccountChanges}
 

@@ -2,7 +2,7 @@
 use Rattle.std.proofs.{Common.{◌∙◌, ap, ne_eqb}, lemmas.Bool.cond-false}
 use Rattle.std.specs.Prelude.{ℕ, ◌==◌, ◌∷◌, ◌≡◌, ◌≢◌, Err, List, Some, [], codes, length, refl, suc, zero}
 use Rattle.rlp.specs.Form.{custom, map_value}
-use Rattle.rlp_headers.specs.Receipt.{is_root, outcome_of, status_kind}
+use Rattle.rlp_headers.specs.{StatusKindLaws.is_root, StatusKinds.{outcome_of, status_kind}}
 
 -- a string that isn't empty and isn't the byte 1 tells no outcome
 no_outcome : (d : List ℕ) → d ≢ [] → d ≢ 1 ∷ [] → outcome_of d ≡ Err (custom (codes "unknown receipt status"))

@@ -2,7 +2,7 @@
 use Rattle.std.specs.{Prelude.{ℕ, Bool, true, ◌&&◌, codes, nat_lt, IsTrue, List, [], ◌∷◌, map, Vec}, Cmp.Lexicographic.slice_cmp}
 use Rattle.std.specs.{Ordering.{is_lt, nat_cmp}, Vec.vec_items, declared.alloc.Global.Global}
 use Rattle.rlp.specs.Codec.{Codec, list_type}
-use Rattle.rlp_records.specs.Tested.{Passes, tested}
+use Rattle.rlp_records.specs.{Tested.tested, TestedForm.Passes}
 use Rattle.rlp_headers.specs.{Changes.{account_changes, slot_changes}, declared.block_access_list.changes.AccountChanges.AccountChanges}
 
 -- the lists in each value are in order, and each value comes before the next

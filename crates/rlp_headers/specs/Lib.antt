@@ -6,5 +6,7 @@ pub mod Forks
 pub mod Header
 pub mod Log
 pub mod Receipt
+pub mod StatusKindLaws
+pub mod StatusKinds
 pub mod TypedReceipt
 pub mod Withdrawal

@@ -3,7 +3,7 @@
 ghost use Rattle.std.specs.Prelude.{⊤, ◌≡◌, Err, IfErr, IfOk, Ok};
 ghost use Rattle.rlp.specs.Form.{fault_of};
 ghost use Rattle.rlp_reading.specs.Kinds.{read_kind};
-ghost use Rattle.rlp_headers.specs.Receipt.{bloom, receipt, receipt_status, status_kind};
+ghost use Rattle.rlp_headers.specs.{Receipt.{bloom, receipt, receipt_status}, StatusKinds.status_kind};
 
 use crate::Log;
 use rlp::{DecoderError, Encodable, ListField, ListOf, Record, Rlp, RlpStream};

@@ -15,15 +15,10 @@ abbrev pub number_after : ℕ → List ℕ → Option ℕ
 number_after n text = cond (list_all is_ascii_digit text && nat_lt (digits_value_after 10 n text) (2 ^ 64)) (Some (digits_value_after 10 n text)) None
 
 both_true : (a b : Bool) (n m : ℕ) → cond (a && b) (Some n) None ≡ Some m → (a ≡ true) × (b ≡ true) × (n ≡ m)
-both_true true true n m e = (refl, refl, cc)
-both_true true false n m e = absurd (let never : ⊥ = cc in never)
-both_true false b n m e = absurd (let never : ⊥ = cc in never)
+both_true a b n m e = grind arith
 
 not_both : (a b rest more : Bool) (n m : ℕ) → cond (a && b) (Some n) None ≡ None → (b ≡ false → more ≡ false) → cond ((a && rest) && more) (Some m) None ≡ None
-not_both true true rest more n m e f = absurd (let never : ⊥ = cc in never)
-not_both true false true more n m e f = ap (λ (b : Bool). cond b (Some m) None) (f refl)
-not_both true false false more n m e f = refl
-not_both false b rest more n m e f = refl
+not_both a b rest more n m e f = grind arith
 
 digits_value_after-ge : (n : ℕ) (text : List ℕ) → n ≤ digits_value_after 10 n text
 digits_value_after-ge n [] = omega arith
@@ -33,11 +28,7 @@ too_large : (n m : ℕ) → n ≤ m → nat_lt n (2 ^ 64) ≡ false → nat_lt m
 too_large n m h e = grind (arith, nat_tests)
 
 pub number_after-none : (n c : ℕ) (rest text : List ℕ) → rest ≡ c ∷ text → with_digit n c ≡ None → number_after n rest ≡ None
-number_after-none n c rest text is e =
-    let k = n * 10 + digit_value c in
-    ap (number_after n) is ∙ not_both (is_ascii_digit c) (nat_lt k (2 ^ 64)) (list_all is_ascii_digit text)
-    (nat_lt (digits_value_after 10 k text) (2 ^ 64)) k (digits_value_after 10 k text) e
-    (too_large k (digits_value_after 10 k text) (digits_value_after-ge k text))
+number_after-none n c rest text is e = grind (arith, not_both, too_large, digits_value_after-ge)
 
 number_after-nil : (n : ℕ) → n < 2 ^ 64 → number_after n [] ≡ Some n
 number_after-nil n h =
@@ -52,11 +43,7 @@ pub number_after-end : (n : ℕ) (text : List ℕ) → n < 2 ^ 64 → length tex
 number_after-end n text small h = ap (number_after n) (no_digits text h) ∙ number_after-nil n small
 
 small : (a b : Bool) (k m : ℕ) → (b ≡ true → k < 2 ^ 64) → cond (a && b) (Some k) None ≡ Some m → m < 2 ^ 64
-small a b k m h e =
-    let both = both_true a b k m e in
-    let is : k ≡ m = both.2 in
-    let fits : k < 2 ^ 64 = h both.1 in
-    omega arith
+small a b k m h e = grind (arith, both_true)
 
 -- a number with one more digit is below 2^64
 pub small_digit : (n c m : ℕ) → with_digit n c ≡ Some m → m < 2 ^ 64
@@ -72,15 +59,12 @@ pair_read high low x y i h l = rw (ap (digit_or_error high i) h, ap (digit_or_er
 pub decoded : (digits out : List ℕ) (i n : ℕ) → length digits ≤ 2 * i → i ≡ n
     → decode_pairs 0 digits ≡ prepend (take i out) (decode_pairs (2 * i) (drop (2 * i) digits)) → decode_pairs 0 digits ≡ Ok (take n out)
 unfolding decode_pairs
-decoded digits out i n none is so_far =
-    so_far ∙ ap (prepend (take i out)) (ap (decode_pairs (2 * i)) (drop_all (2 * i) digits none)) ∙ ap Ok (append-nil (take i out))
-    ∙ ap (λ (k : ℕ). Ok (take k out)) is
+decoded digits out i n none is so_far = grind (arith, prepend, drop_all, append-nil)
 
 -- the result of reading no digits
 pub read-nothing : (digits : List ℕ) → true ≡ nat_eq (length digits) 0 → result_ok (decode_of digits) ≡ Some []
 unfolding decode_pairs
-read-nothing [] none = refl
-read-nothing (c ∷ digits) none = absurd (let no : ⊥ = grind (arith, nat_tests) in no)
+read-nothing digits e = grind (arith, nat_tests)
 
 -- digits of which two write a byte write some bytes
 pub read-some : (digits : List ℕ) → length digits % 2 ≡ 0 → false ≡ nat_eq (length digits) 0 → IsTrue (list_all is_hex_digit digits)
@@ -114,15 +98,9 @@ printed-none old bytes = sym (append-nil old)
 -- the digits of the first n bytes, and then of k more
 pub printed-more : (old before after bytes rest front : List ℕ) (n k : ℕ) → before ≡ old ++ encode_lower (take n bytes) → rest ≡ drop n bytes
     → front ≡ take k rest → after ≡ before ++ encode_lower front → after ≡ old ++ encode_lower (take (n + k) bytes)
-printed-more old before after bytes rest front n k so_far left is grown =
-    grown ∙ ap (λ (t : List ℕ). t ++ encode_lower front) so_far ∙ append_assoc old (encode_lower (take n bytes)) (encode_lower front)
-    ∙ ap (λ (t : List ℕ). old ++ t) (digits_append (take n bytes) front
-    ∙ ap encode_lower (ap (λ (t : List ℕ). take n bytes ++ t) (is ∙ ap (take k) left) ∙ sym (take-add n k bytes)))
+printed-more old before after bytes rest front n k so_far left is grown = grind (arith, append_assoc, digits_append, take-add)
 
 -- the digits of the first n bytes, and then of the rest
 pub printed-all : (old before after bytes rest : List ℕ) (n : ℕ) → before ≡ old ++ encode_lower (take n bytes) → rest ≡ drop n bytes
     → after ≡ before ++ encode_lower rest → after ≡ old ++ encode_lower bytes
-printed-all old before after bytes rest n so_far left grown =
-    grown ∙ ap (λ (t : List ℕ). t ++ encode_lower rest) so_far ∙ append_assoc old (encode_lower (take n bytes)) (encode_lower rest)
-    ∙ ap (λ (t : List ℕ). old ++ t) (digits_append (take n bytes) rest
-    ∙ ap encode_lower (ap (λ (t : List ℕ). take n bytes ++ t) left ∙ take-append-drop n bytes))
+printed-all old before after bytes rest n so_far left grown = grind (arith, append_assoc, digits_append, take-append-drop)

@@ -1,8 +1,7 @@
 -- Lines of a text that grows at its end.
-use Rattle.std.proofs.Common.{ℕ, Option, ◌≡◌, ◌≢◌, ◌<◌, ◌≤◌, ◌==◌, subst, length-append, nat_lt, cond, Some, None, Bool, true, false, List, [], ◌∷◌}
-use Rattle.std.proofs.Common.{◌++◌, length, take, get_or, refl, sym, ap, ◌∙◌, append_assoc, append-nil, arith, length-take}
-use Rattle.std.proofs.{Math.Seq.take-append_seam, lemmas.List.get_or-take}
-use Rattle.std.proofs.lemmas.List.Splits.{slice_split-cons_yes, slice_split-cons_no, slice_split_none, length-slice_split}
+use Rattle.std.proofs.Common.{ℕ, Option, ◌≡◌, ◌≢◌, ◌<◌, ◌≤◌, ◌==◌, length-append, cond, Some, None, Bool, true, false, List, [], ◌∷◌, ◌++◌, length}
+use Rattle.std.proofs.{Common.{take, get_or, refl, sym, ap, ◌∙◌, append_assoc, append-nil, arith, length-take}, Math.Seq.take-append_seam}
+use Rattle.std.proofs.{lemmas.List.get_or-take, lemmas.List.Splits.{slice_split-cons_yes, slice_split-cons_no, slice_split_none, length-slice_split}}
 use Rattle.std.proofs.{lemmas.List.Elements.All-from_get_or, lemmas.Bool.Decides.nat_tests, lemmas.List.Quantifiers.position-Some}
 use Rattle.std.proofs.lemmas.List.Sums.{fails_before_first, position_or_len_is}
 use Rattle.memchr.specs.Find.{IsFirstByte, is_byte}
@@ -10,8 +9,7 @@ use Rattle.std.specs.List.{onto_first, position, position_or_len}
 use Rattle.rlp_lines.specs.{Lines.{pieces, all_but_last, last_of, ended_lines, last_piece, line_of_last, lines}, Progress.IsOnePiece}
 
 is-false : (b : Bool) → (b ≡ true → ⊥) → b ≡ false
-is-false true other = absurd (other refl)
-is-false false other = refl
+is-false b e = grind arith
 
 -- pieces, the first of which continues another piece
 abbrev onto : List ℕ → List (List ℕ) → List (List ℕ)
@@ -23,18 +21,13 @@ abbrev joined : List (List ℕ) → List (List ℕ) → List (List ℕ)
 joined ps qs = all_but_last ps ++ onto (last_of ps) qs
 
 joined-nil : (qs : List (List ℕ)) → 0 < length qs → joined ([] ∷ []) qs ≡ qs
-joined-nil [] h = absurd (omega arith)
-joined-nil (q ∷ qs) h = refl
+joined-nil qs e = grind arith
 
 joined-cons : (ps qs : List (List ℕ)) → 0 < length ps → joined ([] ∷ ps) qs ≡ [] ∷ joined ps qs
-joined-cons [] qs h = absurd (omega arith)
-joined-cons (p ∷ ps) qs h = refl
+joined-cons ps qs e = grind arith
 
 joined-onto_first : (b : ℕ) (ps qs : List (List ℕ)) → 0 < length ps → joined (onto_first b ps) qs ≡ onto_first b (joined ps qs)
-joined-onto_first b [] qs h = absurd (omega arith)
-joined-onto_first b (p ∷ []) [] h = refl
-joined-onto_first b (p ∷ []) (q ∷ qs) h = refl
-joined-onto_first b (p ∷ r ∷ ps) qs h = refl
+joined-onto_first b ps qs e = grind arith
 
 some_piece : (t : List ℕ) → 0 < length (pieces t)
 unfolding pieces
@@ -79,8 +72,7 @@ last_of-append (p ∷ []) (q ∷ qs) h = refl
 last_of-append (p ∷ r ∷ ps) (q ∷ qs) h = last_of-append (r ∷ ps) (q ∷ qs) h
 
 length-onto : (begun : List ℕ) (qs : List (List ℕ)) → 0 < length (onto begun qs)
-length-onto begun [] = omega arith
-length-onto begun (q ∷ qs) = omega arith
+length-onto begun qs = grind arith
 
 -- bytes without a newline
 pieces-run : (t run : List ℕ) → IsOnePiece run → pieces (t ++ run) ≡ ended_lines t ++ (last_piece t ++ run) ∷ []
@@ -89,8 +81,7 @@ pieces-run t run h = pieces-append t run ∙ ap (joined (pieces t)) h
 
 pub ended_lines-run : (t run : List ℕ) → IsOnePiece run → ended_lines (t ++ run) ≡ ended_lines t
 unfolding ended_lines
-ended_lines-run t run h =
-    ap all_but_last (pieces-run t run h) ∙ all_but_last-append (ended_lines t) ((last_piece t ++ run) ∷ []) (omega arith) ∙ append-nil (ended_lines t)
+ended_lines-run t run h = grind (arith, pieces-run, all_but_last-append, append-nil)
 
 pub last_piece-run : (t run : List ℕ) → IsOnePiece run → last_piece (t ++ run) ≡ last_piece t ++ run
 unfolding last_piece
@@ -111,9 +102,7 @@ last_piece-end t = ap last_of (pieces-end t) ∙ last_of-append (ended_lines t) 
 
 -- bytes without a newline, and then a newline
 pub ended_lines-line : (t run : List ℕ) → IsOnePiece run → ended_lines (t ++ run ++ 10 ∷ []) ≡ ended_lines t ++ (last_piece t ++ run) ∷ []
-ended_lines-line t run h =
-    ended_lines-end (t ++ run) ∙ ap (λ ls. ls ++ last_piece (t ++ run) ∷ []) (ended_lines-run t run h)
-    ∙ ap (λ l. ended_lines t ++ l ∷ []) (last_piece-run t run h)
+ended_lines-line t run h = grind (arith, ended_lines-end, ended_lines-run, last_piece-run)
 
 pub last_piece-line : (t run : List ℕ) → last_piece (t ++ run ++ 10 ∷ []) ≡ []
 last_piece-line t run = last_piece-end (t ++ run)
@@ -142,45 +131,30 @@ abbrev lines_of : List (List ℕ) → List (List ℕ)
 lines_of ps = all_but_last ps ++ line_of_last (last_of ps)
 
 lines_of-append : (ps qs : List (List ℕ)) → 0 < length qs → lines_of (ps ++ qs) ≡ ps ++ lines_of qs
-lines_of-append ps qs h =
-    ap (λ l. l ++ line_of_last (last_of (ps ++ qs))) (all_but_last-append ps qs h)
-    ∙ ap (λ l. (ps ++ all_but_last qs) ++ line_of_last l) (last_of-append ps qs h) ∙ append_assoc ps (all_but_last qs) (line_of_last (last_of qs))
+lines_of-append ps qs h = grind (arith, all_but_last-append, last_of-append, append_assoc)
 
 length-line_of_last : (piece : List ℕ) → piece ≢ [] → 0 < length (line_of_last piece)
-length-line_of_last [] some = absurd (some refl)
-length-line_of_last (byte ∷ rest) some = omega arith
+length-line_of_last piece e = grind arith
 
 line_of_longer : (begun : List ℕ) (b : ℕ) (piece : List ℕ) → 0 < length (line_of_last (begun ++ b ∷ piece))
 line_of_longer [] b piece = omega arith
 line_of_longer (x ∷ begun) b piece = omega arith
 
 line_after_newline : (begun : List ℕ) (ps : List (List ℕ)) → 0 < length ps → 0 < length (lines_of (onto begun ([] ∷ ps)))
-line_after_newline begun [] h = absurd (omega arith)
-line_after_newline begun (p ∷ ps) h = omega arith
+line_after_newline begun ps e = grind arith
 
 line_after_byte : (begun : List ℕ) (b : ℕ) (ps : List (List ℕ)) → 0 < length ps → 0 < length (lines_of (onto begun (onto_first b ps)))
-line_after_byte begun b [] h = absurd (omega arith)
-line_after_byte begun b (p ∷ []) h = line_of_longer begun b p
-line_after_byte begun b (p ∷ q ∷ ps) h = omega arith
+line_after_byte begun b ps e = grind (arith, line_of_longer)
 
 -- a piece that a byte follows is in a line
 line_of_more : (begun : List ℕ) (b : ℕ) (x : List ℕ) → 0 < length (lines_of (onto begun (pieces (b ∷ x))))
-line_of_more begun b x =
-    let P : List (List ℕ) → Type 0 = λ ps. 0 < length (lines_of (onto begun ps)) in
-    elim (b == 10) as (λ test. (b == 10) ≡ test → 0 < length (lines_of (onto begun (pieces (b ∷ x))))) [
-      | true ↦ λ e. subst P (sym (pieces-cons_yes b x e)) (line_after_newline begun (pieces x) (some_piece x))
-      | false ↦ λ e. subst P (sym (pieces-cons_no b x e)) (line_after_byte begun b (pieces x) (some_piece x))
-    ] refl
+line_of_more begun b x = grind (arith, pieces-cons_yes, line_after_newline, some_piece, pieces-cons_no, line_after_byte)
 
 -- with bytes after a text, there is one more line than the ended ones
 pub length-lines-more : (t x : List ℕ) → x ≢ [] → length (ended_lines t) < length (lines (t ++ x))
 unfolding ended_lines last_piece
 length-lines-more t [] some = absurd (some refl)
-length-lines-more t (b ∷ x) some =
-    let rest = onto (last_of (pieces t)) (pieces (b ∷ x)) in
-    let whole : lines (t ++ b ∷ x) ≡ all_but_last (pieces t) ++ lines_of rest = ap lines_of (pieces-append t (b ∷ x))
-    ∙ lines_of-append (all_but_last (pieces t)) rest (length-onto (last_of (pieces t)) (pieces (b ∷ x))) in
-    omega (arith, ap length whole, length-append (all_but_last (pieces t)) (lines_of rest), line_of_more (last_of (pieces t)) b x)
+length-lines-more t (b ∷ x) some = grind (arith, pieces-append, lines_of-append, length-onto, length-append, line_of_more)
 
 -- with a line that has begun, there is one more line than the ended ones
 pub length-lines-begun : (t : List ℕ) → last_piece t ≢ [] → length (ended_lines t) < length (lines t)
@@ -201,20 +175,15 @@ one_piece-take xs at e =
     one_piece (take at xs) (λ k l. let inside : k < at = omega (arith, length-take at xs) in rw (get_or-take at xs k 0 inside) (found.2 k inside))
 
 position-None : (test : Bool) (at : ℕ) → cond test (Some at) None ≡ None → test ≡ false
-position-None true at e = cc
-position-None false at e = refl
+position-None test at e = grind arith
 
 -- bytes in which a newline is found aren't empty
 pub some_byte : (xs : List ℕ) (at : ℕ) → position (λ byte. byte == 10) xs ≡ Some at → xs ≢ []
-some_byte [] at e = let found = position-Some (λ byte. byte == 10) [] at 0 e in absurd (omega (arith, found.0))
-some_byte (x ∷ xs) at e = λ none. cc
+some_byte xs at e = grind (arith, position-Some)
 
 -- bytes without a newline
 pub one_piece-whole : (xs : List ℕ) → position (λ byte. byte == 10) xs ≡ None → IsOnePiece xs
-one_piece-whole xs e =
-    let end = position_or_len (λ byte. byte == 10) xs in
-    let past : nat_lt end (length xs) ≡ false = position-None (nat_lt end (length xs)) end e in
-    one_piece xs (λ k l. let before : k < end = grind (arith, nat_tests) in fails_before_first (λ byte. byte == 10) xs k 0 before)
+one_piece-whole xs e = grind (arith, position-None, one_piece, nat_tests, fails_before_first)
 
 pub ended_lines-nil : ended_lines [] ≡ []
 unfolding ended_lines

@@ -1,7 +1,7 @@
 -- Steps of the loop over the input.
-use Rattle.std.proofs.Common.{ℕ, ◌≡◌, ◌<◌, ◌≤◌, Bool, true, false, ◌||◌, List, [], ◌∷◌, ◌++◌, length, take, drop, get_or, ◌+◌, ◌-◌, ◌==◌, arith}
-use Rattle.std.proofs.Common.{◌≢◌, Option, Some, None, Result, Ok, Err, OnOk, OnErr, IfErr, inl, inr, refl, sym, ap, ◌∙◌, append_assoc, append-nil}
-use Rattle.std.proofs.{Common.{subst, take-append-drop}, Math.Bool.or-false, Math.Seq.take-append_seam}
+use Rattle.std.proofs.Common.{ℕ, ◌≡◌, ◌<◌, ◌≤◌, Bool, true, false, ◌||◌, List, [], ◌∷◌, ◌++◌, length, take, drop, get_or, ◌+◌, ◌-◌, ◌==◌, arith, ◌≢◌}
+use Rattle.std.proofs.Common.{Option, Some, None, Result, Ok, Err, OnOk, OnErr, IfErr, inl, inr, sym, ap, ◌∙◌, append_assoc, append-nil, subst}
+use Rattle.std.proofs.{Common.take-append-drop, Math.Bool.or-false, Math.Seq.take-append_seam}
 use Rattle.std.proofs.{KnownBytes.{Appends-nil, Appends-trans, Appends-kept, Consumes-nil, Consumes-trans}, lemmas.List.{take_rest, drop_more}}
 use Rattle.std.proofs.{lemmas.List.Quantifiers.position-Some, lemmas.List.Concat.flat_map-append, lemmas.List.Folds.list_any-append}
 use Rattle.std.specs.{Io.KnownBytes.{Appends, Consumes, Keeps, IsAtEnd}, List.position}
@@ -21,11 +21,7 @@ pub record IsWriting (start now : Option (List ℕ)) (bytes rest : List ℕ) : T
 
 pub IsWriting-more : {start old : Option (List ℕ)} {bytes rest : List ℕ} (new : Option (List ℕ)) (count : ℕ) → IsWriting start old bytes rest
     → Appends old new (take count rest) → IsWriting start new bytes (take (length rest - count) (drop count rest))
-IsWriting-more {start} {old} {bytes} {rest} new count before wrote = rw take_rest (record {
-  done = before.done ++ take count rest;
-  parts = append_assoc before.done (take count rest) (drop count rest) ∙ ap (λ w. before.done ++ w) (take-append-drop count rest) ∙ before.parts;
-  wrote = Appends-trans start old new before.done (take count rest) before.wrote wrote;
-})
+IsWriting-more {start} {old} {bytes} {rest} new count before wrote = grind (arith, take_rest, append_assoc, take-append-drop, Appends-trans)
 
 -- none of the bytes was taken
 Keeps-nil : (old new : Option (List ℕ)) → Appends old new [] → Keeps old new
@@ -49,8 +45,7 @@ AppendsPart-front start new front rest bytes wrote parts = record {
 
 pub IsWriting-part : {start old : Option (List ℕ)} {bytes rest : List ℕ} (new : Option (List ℕ)) → IsWriting start old bytes rest → Keeps old new
     → AppendsPart start new bytes
-IsWriting-part {start} {old} {bytes} {rest} new writing kept =
-    AppendsPart-front start new writing.done rest bytes (Appends-kept start old new writing.done writing.wrote kept) writing.parts
+IsWriting-part {start} {old} {bytes} {rest} new writing kept = grind (arith, AppendsPart-front, Appends-kept)
 
 pub AppendsPart-whole : (start old new : Option (List ℕ)) (bytes : List ℕ) → Appends start old bytes → Keeps old new → AppendsPart start new bytes
 AppendsPart-whole start old new bytes wrote kept = AppendsPart-front start new bytes [] bytes (Appends-kept start old new bytes wrote kept) (append-nil bytes)
@@ -83,16 +78,14 @@ unfolding replies_to
 replies_to-none answer begun e = ap (λ l. replies_to answer (line_of_last l)) e
 
 pub replies_to-last : (answer : List ℕ → List ℕ) (begun : List ℕ) → begun ≢ [] → replies_to answer (line_of_last begun) ≡ reply answer begun
-replies_to-last answer [] some = absurd (some refl)
-replies_to-last answer (byte ∷ rest) some = replies_to-one answer (byte ∷ rest)
+replies_to-last answer begun e = grind (arith, replies_to-one)
 
 -- an empty line that has begun isn't at fault
 pub has_fault-none : (answer : List ℕ → List ℕ) (begun : List ℕ) (b : Bool) → begun ≡ [] → b ≡ (b || has_fault answer (line_of_last begun))
 has_fault-none answer begun b e = sym (ap (λ l. b || has_fault answer (line_of_last l)) e ∙ or-false b)
 
 pub has_fault-last : (answer : List ℕ → List ℕ) (begun : List ℕ) → begun ≢ [] → has_fault answer (line_of_last begun) ≡ is_fault answer begun
-has_fault-last answer [] some = absurd (some refl)
-has_fault-last answer (byte ∷ rest) some = or-false (is_fault answer (byte ∷ rest))
+has_fault-last answer begun e = grind (arith, or-false)
 
 pub ruleset last_line = (replies_to-none, replies_to-last, has_fault-none, has_fault-last, append-nil)
 
@@ -102,11 +95,7 @@ module _ (longest : ℕ) (answer : List ℕ → List ℕ) where
   pub IsAfter-run : {text written waiting : List ℕ} {line line' : Line} (run : List ℕ) → IsAfter longest answer text written waiting line
       → IsOnePiece run → IsLine longest line' (last_piece text ++ run) → line'.faulty ≡ line.faulty
       → IsAfter longest answer (text ++ run) written waiting line'
-  IsAfter-run {text} {line' = line'} run before one kept same = record {
-    answered = before.answered ∙ ap (replies_to answer) (sym (ended_lines-run text run one));
-    begun = subst (IsLine longest line') (sym (last_piece-run text run one)) kept;
-    noted = same ∙ before.noted ∙ ap (has_fault answer) (sym (ended_lines-run text run one));
-  }
+  IsAfter-run {text} {line' = line'} run before one kept same = grind (arith, ended_lines-run, last_piece-run)
 
   -- bytes without a newline came, and then a newline
   pub IsAfter-line : {text written waiting waiting' : List ℕ} {line line' : Line} (run : List ℕ) → IsAfter longest answer text written waiting line
@@ -114,18 +103,7 @@ module _ (longest : ℕ) (answer : List ℕ → List ℕ) where
       → line'.faulty ≡ (line.faulty || is_fault answer (last_piece text ++ run))
       → IsAfter longest answer (text ++ run ++ 10 ∷ []) written waiting' line'
   IsAfter-line {text} {written} {waiting} {line' = line'} run before one said kept told =
-      let new = last_piece text ++ run in
-      record {
-        answered = ap (λ w. written ++ w) said ∙ sym (append_assoc written waiting (reply answer new)) ∙ ap (λ w. w ++ reply answer new) before.answered
-            ∙ ap (λ w. replies_to answer (ended_lines text) ++ w) (sym (replies_to-one answer new))
-            ∙ sym (replies_to-append answer (ended_lines text) (new ∷ []))
-            ∙ ap (replies_to answer) (sym (ended_lines-line text run one));
-        begun = subst (IsLine longest line') (sym (last_piece-line text run)) kept;
-        noted = told ∙ ap (λ b. b || is_fault answer new) before.noted
-            ∙ ap (λ b. has_fault answer (ended_lines text) || b) (sym (or-false (is_fault answer new)))
-            ∙ sym (list_any-append (is_fault answer) (ended_lines text) (new ∷ []))
-            ∙ ap (has_fault answer) (sym (ended_lines-line text run one));
-      }
+      grind (arith, append_assoc, replies_to-one, replies_to-append, ended_lines-line, last_piece-line, or-false, list_any-append)
 
   -- all of some bytes but a rest came after any text
   pub record IsFeeding (waiting : List ℕ) (line : Line) (waiting' : List ℕ) (line' : Line) (bytes rest : List ℕ) : Type 0 where
@@ -184,11 +162,7 @@ module _ (longest : ℕ) (answer : List ℕ → List ℕ) where
   -- no reply waits
   pub IsAfter-served : {start now : Option (List ℕ)} {text waiting : List ℕ} {line : Line} → IsServed longest answer start now text line → waiting ≡ []
       → IsAfter longest answer text (replies_to answer (ended_lines text)) waiting line
-  IsAfter-served {text = text} served none = record {
-    answered = ap (λ w. replies_to answer (ended_lines text) ++ w) none ∙ append-nil (replies_to answer (ended_lines text));
-    begun = served.begun;
-    noted = served.noted;
-  }
+  IsAfter-served {text = text} served none = grind (arith, append-nil)
 
   -- the replies that waited were written
   pub IsServed-written : (result : Result (Unit {0}) RunFault) (new : Option (List ℕ)) (bytes : List ℕ) {start old : Option (List ℕ)}
@@ -196,12 +170,7 @@ module _ (longest : ℕ) (answer : List ℕ → List ℕ) where
       → IsAfter longest answer text' (replies_to answer (ended_lines text)) waiting line' → bytes ≡ waiting → OnOk result (Appends old new bytes)
       → OnOk result (IsServed longest answer start new text' line')
   IsServed-written (Err fault) new bytes served after all wrote = tt
-  IsServed-written (Ok unit) new bytes {start} {old} {text} served after all wrote = record {
-    wrote = subst (Appends start new) (ap (λ w. replies_to answer (ended_lines text) ++ w) all ∙ after.answered)
-        (Appends-trans start old new (replies_to answer (ended_lines text)) bytes served.wrote wrote);
-    begun = after.begun;
-    noted = after.noted;
-  }
+  IsServed-written (Ok unit) new bytes {start} {old} {text} served after all wrote = grind (arith, Appends-trans)
 
   -- a writer that failed has a beginning of the replies
   IsStop-front : (result : Result (Unit {0}) RunFault) (start old new : Option (List ℕ)) (failed : Bool) (earlier text front bytes rest : List ℕ)
@@ -224,11 +193,7 @@ module _ (longest : ℕ) (answer : List ℕ → List ℕ) where
       {text text' waiting : List ℕ} {line line' : Line} → IsServed longest answer start old text line
       → IsAfter longest answer text' (replies_to answer (ended_lines text)) waiting line' → bytes ≡ waiting → OnErr result (AppendsPart old new bytes)
       → OnErr result (failed ≡ true) → IfErr result (λ fault. fault ≡ Write) → IfErr result (λ fault. IsStop answer fault start new text text' failed)
-  IsStop-written result new failed bytes {start} {old} {text} {text'} served after all =
-      let front = replies_to answer (ended_lines text) in
-      let rest = replies_to answer (unended_line text') in
-      IsStop-front result start old new failed text text' front bytes rest served.wrote
-      (ap (λ w. (front ++ w) ++ rest) all ∙ ap (λ w. w ++ rest) after.answered ∙ sym (replies_to-append answer (ended_lines text') (unended_line text')))
+  IsStop-written result new failed bytes {start} {old} {text} {text'} served after all = grind (arith, IsStop-front, replies_to-append)
 
   -- the replies to some first lines begin those to all
   replies_to-take : (count : ℕ) (text : List ℕ) → replies_to answer (take count (lines text)) ++ replies_to answer (drop count (lines text)) ≡ replies
@@ -252,13 +217,7 @@ module _ (longest : ℕ) (answer : List ℕ → List ℕ) where
   pub AppendsBefore-written : (start old new : Option (List ℕ)) (text' bytes waiting : List ℕ) {text : List ℕ} {line : Line}
       → IsServed longest answer start old text line → AreRepliesBefore answer text text' (replies_to answer (ended_lines text) ++ waiting) → bytes ≡ waiting
       → Appends old new bytes → AppendsBefore answer start new text text'
-  AppendsBefore-written start old new text' bytes waiting {text} served some all wrote =
-      let front = replies_to answer (ended_lines text) in
-      record {
-        bytes = front ++ waiting;
-        replies = some;
-        wrote = subst (Appends start new) (ap (λ w. front ++ w) all) (Appends-trans start old new front bytes served.wrote wrote);
-      }
+  AppendsBefore-written start old new text' bytes waiting {text} served some all wrote = grind (arith, Appends-trans)
 
   -- nothing of the last line was written
   pub AppendsBefore-served : (start now : Option (List ℕ)) (text : List ℕ) {line : Line} → IsServed longest answer start now text line
@@ -276,8 +235,7 @@ module _ (longest : ℕ) (answer : List ℕ → List ℕ) where
 
   -- the replies to a text are those to its ended lines and then that to its last line
   replies-parts : (text bytes : List ℕ) → bytes ≡ replies_to answer (unended_line text) → replies_to answer (ended_lines text) ++ bytes ≡ replies answer text
-  replies-parts text bytes last = ap (λ w. replies_to answer (ended_lines text) ++ w) last
-      ∙ sym (replies_to-append answer (ended_lines text) (unended_line text))
+  replies-parts text bytes last = grind (arith, replies_to-append)
 
   -- the writer failed in the reply to the last line
   pub IsStop-last : (result : Result (Unit {0}) RunFault) (new : Option (List ℕ)) (failed : Bool) (bytes : List ℕ) {start old : Option (List ℕ)}
@@ -299,17 +257,12 @@ module _ (longest : ℕ) (answer : List ℕ → List ℕ) where
   -- whether a line was at fault is noted after the last line
   pub noted-last : {start old : Option (List ℕ)} {text : List ℕ} {line : Line} (faulty : Bool) → IsServed longest answer start old text line
       → faulty ≡ (line.faulty || has_fault answer (unended_line text)) → faulty ≡ has_fault answer (lines text)
-  noted-last {text = text} faulty served told = told ∙ ap (λ b. b || has_fault answer (unended_line text)) served.noted
-      ∙ sym (list_any-append (is_fault answer) (ended_lines text) (unended_line text))
+  noted-last {text = text} faulty served told = grind (arith, list_any-append)
 
   -- nothing was read
   pub IsServed-begin : (start : Option (List ℕ)) (line : Line) → IsLine longest line [] → line.faulty ≡ false → IsServed longest answer start start [] line
   unfolding replies_to
-  IsServed-begin start line kept none = record {
-    wrote = subst (Appends start start) (sym (ap (replies_to answer) ended_lines-nil)) (Appends-nil start);
-    begun = subst (IsLine longest line) (sym last_piece-nil) kept;
-    noted = none ∙ sym (ap (has_fault answer) ended_lines-nil);
-  }
+  IsServed-begin start line kept none = grind (arith, ended_lines-nil, Appends-nil, last_piece-nil)
 
   -- some bytes of the input were taken, and served
   pub record IsRunning (in0 in1 out0 out1 : Option (List ℕ)) (line : Line) : Type 0 where
@@ -324,8 +277,7 @@ module _ (longest : ℕ) (answer : List ℕ → List ℕ) where
   pub IsRunning-more : {in0 in1 out0 out1 : Option (List ℕ)} {line line' : Line} (in2 out2 : Option (List ℕ)) (more : List ℕ)
       (running : IsRunning in0 in1 out0 out1 line) → Consumes in1 in2 more → IsServed longest answer out0 out2 (running.took ++ more) line'
       → IsRunning in0 in2 out0 out2 line'
-  IsRunning-more {in0} {in1} in2 out2 more running read served =
-      record { took = running.took ++ more; read = Consumes-trans in0 in1 in2 running.took more running.read read; served = served }
+  IsRunning-more {in0} {in1} in2 out2 more running read served = grind (arith, Consumes-trans)
 
   -- a run that memory or the writer stopped
   pub RunLeaves-stop : {R W : Type 0} (T : Type 0) (remaining : R → Option (List ℕ)) (contents : W → Option (List ℕ)) (in0 in2 : Watched R) (out0 out2 : Watched W)
@@ -334,24 +286,8 @@ module _ (longest : ℕ) (answer : List ℕ → List ℕ) where
       → length more ≤ longest_read → text ≡ running.took ++ more
       → IsStop answer fault (contents out0.inner) (contents out2.inner) running.took text out2.failed
       → RunLeaves {T = T} answer remaining contents in0 in2 out0 out2 (Err fault)
-  RunLeaves-stop T remaining contents in0 in2 out0 out2 fault {in1} text more running read one_read whole (inl refused) =
-      subst (λ (f : RunFault). RunLeaves {T = T} answer remaining contents in0 in2 out0 out2 (Err f)) (sym refused.0) (record {
-        earlier = running.took;
-        last = more;
-        read = Consumes-trans (remaining in0.inner) in1 (remaining in2.inner) running.took more running.read read;
-        one_read = one_read;
-        answered = subst (AppendsBefore answer (contents out0.inner) (contents out2.inner) running.took) whole refused.1;
-      })
-  RunLeaves-stop T remaining contents in0 in2 out0 out2 fault {in1} text more running read one_read whole (inr broken) =
-      subst (λ (f : RunFault). RunLeaves {T = T} answer remaining contents in0 in2 out0 out2 (Err f)) (sym broken.0) (
-        record {
-          took = text;
-          read = subst (Consumes (remaining in0.inner) (remaining in2.inner)) (sym whole)
-              (Consumes-trans (remaining in0.inner) in1 (remaining in2.inner) running.took more running.read read);
-          wrote = broken.1;
-        },
-        broken.2,
-      )
+  RunLeaves-stop T remaining contents in0 in2 out0 out2 fault {in1} text more running read one_read whole (inl refused) = grind (arith, Consumes-trans)
+  RunLeaves-stop T remaining contents in0 in2 out0 out2 fault {in1} text more running read one_read whole (inr broken) = grind (arith, Consumes-trans)
 
   -- a run whose input gives no more bytes
   pub RunLeaves-end : {R W T : Type 0} (remaining : R → Option (List ℕ)) (contents : W → Option (List ℕ)) (in0 in2 : Watched R) (out0 out2 : Watched W)
@@ -359,33 +295,10 @@ module _ (longest : ℕ) (answer : List ℕ → List ℕ) where
       (running : IsRunning (remaining in0.inner) in1 (contents out0.inner) out1 line) → Consumes in1 (remaining in2.inner) []
       → IsAtEnd (remaining in2.inner) → in2.failed ≡ false → Appends (contents out0.inner) (contents out2.inner) (replies answer running.took)
       → out2.failed ≡ false → out2.flushed ≡ true → RunLeaves answer remaining contents in0 in2 out0 out2 (Ok value)
-  RunLeaves-end remaining contents in0 in2 out0 out2 value {in1} running read end reader wrote writer flushed = (
-    record {
-      took = running.took;
-      read = subst (Consumes (remaining in0.inner) (remaining in2.inner)) (append-nil running.took)
-          (Consumes-trans (remaining in0.inner) in1 (remaining in2.inner) running.took [] running.read read);
-      ended = end;
-      wrote = wrote;
-    },
-    reader,
-    writer,
-    flushed,
-  )
+  RunLeaves-end remaining contents in0 in2 out0 out2 value {in1} running read end reader wrote writer flushed = grind (arith, append-nil, Consumes-trans)
 
   -- memory or the writer stopped the answers to a text
   pub TextLeaves-stop : {W : Type 0} (contents : W → Option (List ℕ)) (out0 out2 : Watched W) (fault : RunFault) (earlier text : List ℕ)
       → IsStop answer fault (contents out0.inner) (contents out2.inner) earlier text out2.failed → TextLeaves answer text contents out0 out2 (Err fault)
-  TextLeaves-stop contents out0 out2 fault earlier text (inl refused) =
-      let before = refused.1 in
-      subst (λ (f : RunFault). TextLeaves answer text contents out0 out2 (Err f)) (sym refused.0) (record {
-        bytes = before.bytes;
-        replies = record {
-          refused = before.replies.refused;
-          unended = subst (λ (l : List (List ℕ)). length l ≤ before.replies.refused) (sym ended_lines-nil) (omega arith);
-          is_line = before.replies.is_line;
-          replies = before.replies.replies;
-        };
-        wrote = before.wrote;
-      })
-  TextLeaves-stop contents out0 out2 fault earlier text (inr broken) =
-      subst (λ (f : RunFault). TextLeaves answer text contents out0 out2 (Err f)) (sym broken.0) (broken.1, broken.2)
+  TextLeaves-stop contents out0 out2 fault earlier text (inl refused) = grind (arith, ended_lines-nil)
+  TextLeaves-stop contents out0 out2 fault earlier text (inr broken) = grind arith

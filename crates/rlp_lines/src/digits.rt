@@ -47,9 +47,7 @@ fn put_digit(value: usize, byte: u8) -> Option<usize>
     if !byte.is_ascii_digit() {
         return None;
     }
-    let Some(tens) = value.checked_mul(10) else {
-        return None;
-    };
+    let tens = value.checked_mul(10)?;
     tens.checked_add(usize::from(byte - b'0'))
 }
 

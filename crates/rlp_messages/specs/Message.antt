@@ -26,11 +26,6 @@ pub record Bodies (B : Type 0) : Type 1 where
   pub numbers : List ℕ
   pub small : (x : B) → cases.cases.tag x < 0x100
 
--- the number of a body is below 2^8, if it is the first body or a later one
-pub first_small : {A B : Type 0} (tag : ℕ) (more : B → ℕ) → tag < 0x100 → ((y : B) → more y < 0x100) → (s : A ⊎ B) → sum_tag tag more s < 0x100
-first_small tag more low small (inl x) = low
-first_small tag more low small (inr y) = small y
-
 -- the last body, by its number. `refl` proves that the number is below 2^8.
 abbrev pub last_message : {A : Type 0} (number : ℕ) → nat_lt number 0x100 ≡ true → Codec A → Bodies A
 last_message number low c = record {
@@ -44,7 +39,7 @@ abbrev pub and_message : {A B : Type 0} (number : ℕ) → nat_lt number 0x100 �
 and_message number low c more = record {
   cases = and_case number c more.cases;
   numbers = number ∷ more.numbers;
-  small = first_small number more.cases.cases.tag (ltb-true number 0x100 low) more.small;
+  small = λ s. elim s as (λ s. sum_tag number more.cases.cases.tag s < 0x100) [ inl x ↦ ltb-true number 0x100 low | inr y ↦ more.small y ];
 }
 
 -- the messages of a capability: the table of their bodies, and which body a message has

@@ -1,6 +1,6 @@
 -- What the bodies of node records use: why keys and bytes are refused, and that an encoding tells the record.
-use Rattle.std.proofs.Common.{◌≡◌, ◌≤◌, ◌<◌, ℕ, List, length, sym, ap, ◌∙◌, Result, Ok, Err, ltb, if◌then◌else◌, codes, is_some}
-use Rattle.std.proofs.lemmas.Bool.{cond-true, cond-false, false_from_ne_true, lt-ltb}
+use Rattle.std.proofs.Common.{arith, ◌≡◌, ◌≤◌, ◌<◌, ℕ, List, length, sym, ap, ◌∙◌, Result, Ok, Err, ltb, if◌then◌else◌, codes, is_some}
+use Rattle.std.proofs.lemmas.{Bool.{cond-true, cond-false, false_from_ne_true, lt-ltb}, Bool.Decides.nat_tests}
 use Rattle.std.specs.Vec.{vec_items}
 use Rattle.rlp.specs.{Format.Encoding.encoding, Views.View.strict_view_of, Form.{Fault, and_then, custom, is_too_big}}
 use Rattle.rlp_records.proofs.Alone.{result_same}
@@ -17,16 +17,11 @@ not_rising pairs not = cond-false (keys_rise (keys_of pairs)) _ _ (false_from_ne
 -- keys in order, without `id`
 pub no_id : (pairs : List NodePair) → AreInOrder pairs → ¬ HasId pairs → test_keys (keys_of pairs) ≡ Err (custom (codes "key id is missing"))
 unfolding AreInOrder HasId
-no_id pairs rising not =
-    cond-true (keys_rise (keys_of pairs)) _ _ rising
-    ∙ cond-false (has_key (codes "id") (keys_of pairs)) _ _ (sym (key_found (codes "id") pairs) ∙ false_from_ne_true (is_some (value_among (codes "id") pairs)) not)
+no_id pairs rising not = grind (arith, key_found (codes "id") pairs)
 
 -- fields with the keys of a record and too long an encoding
 pub fields_long : (f : NodeFields) → AreRecordKeys (vec_items f.pairs) → longest_record < length (encoding (node_fields.item f)) → test_fields f ≡ Err is_too_big
-fields_long f keys long =
-    ap (λ r. and_then r (λ t. if ltb longest_record (length (encoding (node_fields.item f))) then Err is_too_big else Ok t))
-    (keys_pass (vec_items f.pairs) keys.0 keys.1)
-    ∙ cond-true (ltb longest_record (length (encoding (node_fields.item f)))) _ _ (lt-ltb _ _ long)
+fields_long f keys long = grind (arith, nat_tests, keys_pass (vec_items f.pairs) keys.0 keys.1)
 
 -- bytes that are too many
 pub read_long : (b : List ℕ) → longest_record < length b → (read_record b).result ≡ Err is_too_big

@@ -13,35 +13,19 @@ use Rattle.rlp_node_record.specs.{declared.node_fields.NodeFields.NodeFields, de
 
 -- ---- the test of the keys
 
-some_key : (b : Bool) (x : List ℕ) (o : Option (List ℕ)) → is_some (if b then Some x else o) ≡ (b || is_some o)
-some_key true x o = refl
-some_key false x o = refl
-
 -- a key has a value among pairs if it is one of their keys
 pub key_found : (key : List ℕ) (pairs : List NodePair) → is_some (value_among key pairs) ≡ has_key key (keys_of pairs)
 key_found key [] = refl
-key_found key (pair ∷ pairs) =
-    some_key (bytes_eq (vec_items pair.key) key) pair.value (value_among key pairs)
-    ∙ ap (λ found. bytes_eq (vec_items pair.key) key || found) (key_found key pairs)
+key_found key (pair ∷ pairs) = grind (arith, key_found key pairs)
 
 -- the keys of a node record
 pub keys_pass : (pairs : List NodePair) → AreInOrder pairs → HasId pairs → test_keys (keys_of pairs) ≡ Ok tt
 unfolding AreInOrder HasId
-keys_pass pairs rising identified =
-    cond-true (keys_rise (keys_of pairs)) _ _ rising
-    ∙ cond-true (has_key (codes "id") (keys_of pairs)) _ _ (sym (key_found (codes "id") pairs) ∙ identified)
+keys_pass pairs rising identified = grind (arith, key_found (codes "id") pairs)
 
-passed_by : (pairs : List NodePair) (t : ⊤) (rising identified : Bool) → keys_rise (keys_of pairs) ≡ rising → has_key (codes "id") (keys_of pairs) ≡ identified
-    → test_keys (keys_of pairs) ≡ Ok t → AreRecordKeys pairs
+keys_passed : (pairs : List NodePair) (t : ⊤) → test_keys (keys_of pairs) ≡ Ok t → AreRecordKeys pairs
 unfolding AreInOrder HasId
-passed_by pairs t false identified rises found is =
-    let r : test_keys (keys_of pairs) ≡ Err (custom (codes "keys are not in order")) = cond-false (keys_rise (keys_of pairs)) _ _ rises in
-    absurd (let no : ⊥ = cc in no)
-passed_by pairs t true false rises found is =
-    let r : test_keys (keys_of pairs) ≡ Err (custom (codes "key id is missing")) =
-    cond-true (keys_rise (keys_of pairs)) _ _ rises ∙ cond-false (has_key (codes "id") (keys_of pairs)) _ _ found in
-    absurd (let no : ⊥ = cc in no)
-passed_by pairs t true true rises found is = (rises, key_found (codes "id") pairs ∙ found)
+keys_passed pairs t is = grind (arith, key_found (codes "id") pairs)
 
 -- the keys of a record that is seen
 seen_keys : (pairs : List NodePair) → map (λ (p : List ℕ × (List ℕ × ⊤)). p.0) (map (λ (p : NodePair). (vec_items p.key, (p.value, tt))) pairs) ≡ keys_of pairs
@@ -97,9 +81,7 @@ only_by b f false bytes long is =
     let h = node_fields.reads_strictly.exact.only b f bytes (omega (arith, few)) (g.is ∙ ap Ok m.then) in
     let passed : test_keys (keys_of (vec_items f.pairs)) ≡ Ok m.value =
     ap test_keys (sym (record_keys f) ∙ ap keys_seen (sym m.then)) ∙ m.is in
-    let keys : AreRecordKeys (vec_items f.pairs) = passed_by (vec_items f.pairs) m.value (keys_rise (keys_of (vec_items f.pairs)))
-    (has_key (codes "id") (keys_of (vec_items f.pairs))) refl refl passed in
-    (record_made b f h.0 h.1 keys bytes few, h.1)
+    (record_made b f h.0 h.1 (keys_passed (vec_items f.pairs) m.value passed) bytes few, h.1)
 
 pub record_only : (b : List ℕ) (f : NodeFields) → AreBytes b → (read_record b).result ≡ Ok (node_fields.reading.seen f)
     → IsNodeRecord f × (b ≡ encoding (node_fields.item f))

@@ -1,24 +1,22 @@
 -- What follows from the laws, in the words of `Gives` and `Faults`.
-use Rattle.std.proofs.Common.{Bool, ◌≡◌, ◌↔◌, ◌⊎◌, ⊎_elim, ℕ, ◌^◌, ◌<◌, true, false, IsTrue, List, [], ◌∷◌, ◌++◌, length, map, sym, ap, ◌∙◌, subst}
+use Rattle.std.proofs.Common.{Bool, ◌≡◌, ◌↔◌, ◌⊎◌, ℕ, ◌^◌, ◌<◌, true, false, List, [], ◌∷◌, ◌++◌, length, map, sym, ap, ◌∙◌, subst}
 use Rattle.std.proofs.{Common.{Result, Ok, Err, IfOk, IfErr, IsOkAnd, append-nil}, lemmas.List.{length-map, map-append}}
 use Rattle.std.specs.{List.All}
+use Rattle.std.proofs.Common.{arith}
 use Rattle.rlp_reading.specs.{declared.error.DecoderError.DecoderError, declared.error.DecoderError.TheVariants.OutOfMemory}
 use Rattle.rlp_reading.specs.{Values.RoundTrip.{AlwaysReadsBack, AlwaysReadsStrictly}, Values.ValueReading.GivesValue}
 use Rattle.rlp_reading.specs.{Views.View.{Holds, View, item_at, strict_view_of, view_of}}
-use Rattle.rlp_reading.specs.Form.{Form, Fault, Faults, Gives, Reading, and_then, fault_of, list_reading, reading_at, seen_fault}
+use Rattle.rlp_reading.specs.Form.{Form, Faults, Gives, Reading, and_then, fault_of, list_reading, reading_at, seen_fault}
 use Rattle.rlp_reading.specs.Laws.{viewed, GivesOnly, IsLawful, IsReadBack, IsSeen, ReadsBack}
 use Rattle.rlp_format.specs.{Format.Encoding.{list_of, AreBytes, BeginsWith, IsSized, encoding}, Values.Value.AreAlike}
 use Rattle.rlp_reading.specs.Values.RoundTrip as words
-use Rattle.rlp_reading.proofs.{FieldLaws.all_first, Lemmas.WholeLists.held_at, ListLaws.{each_told, items_sized, list_back, list_type_only, seen_alike}}
+use Rattle.rlp_reading.proofs.{FieldLaws.all_first, Lemmas.WholeLists.held_at, ListLaws.{each_told, items_sized, list_back, list_type_only}}
 
 -- ---- one reading
 
-same_value : {M : Type 0} (x y : M) → (let r : Result M Fault = Ok x in r) ≡ Ok y → x ≡ y
-same_value x y is = cc
-
 -- contracts see two values that one view gives alike
 pub one_value : {A : Type 0} (r : Reading A) (v : View) (x y : A) → Gives r v x → Gives r v y → r.seen x ≡ r.seen y
-one_value r v x y given also = same_value _ _ (sym given ∙ also)
+one_value r v x y given also = grind arith
 
 -- two errors that one view has are the same fault
 pub one_fault : {A : Type 0} (r : Reading A) (v : View) (e f : DecoderError) → Faults r v e → Faults r v f → fault_of e ≡ fault_of f
@@ -29,30 +27,16 @@ pub not_both : {A : Type 0} (r : Reading A) (v : View) (x : A) (e : DecoderError
 not_both r v x e given bad = let same = sym given ∙ bad in cc
 
 module _ {A : Type 0} (c : Form A) where
-  alike_by : IsSeen c → (v : View) (x : A) → c.Fits x → Gives c.reading v x → (w : A) → Gives c.reading v w → c.Fits w × AreAlike c.item w x
-  alike_by law v x fit given w also = seen_alike c law x w (one_value c.reading v x w given also) fit
-
   -- ---- the law of `RoundTrip`
 
   pub gives_back : IsReadBack c → AlwaysReadsBack c.Fits c.item (Gives c.reading) (Faults c.reading)
-  gives_back law b v fits fit begins =
-      let given = law.back.back b v fits fit begins in
-      record {
-        alike = λ w. (
-          alike_by law.told (view_of b) v fit given w,
-          λ (fit, same). law.back.back b w fits fit (subst (λ i. BeginsWith b (encoding i)) (sym same) begins),
-        );
-        no_fault = λ e. not_both c.reading (view_of b) v e given;
-      }
+  gives_back law b v fits fit begins = grind arith
 
   -- ---- the law of `Scalar`
 
   pub gives_exactly : IsReadBack c → GivesOnly false c → (b : List ℕ) (v : A) → AreBytes b → length b < 2 ^ 64
       → Gives c.reading (view_of b) v ↔ GivesValue c.Fits c.item (view_of b) v
-  gives_exactly law exact b v bytes fits = (
-    λ given. let h = exact.only b v bytes fits given in record { fits = h.0; begins = h.1 },
-    λ g. law.back.back b v fits g.fits g.begins,
-  )
+  gives_exactly law exact b v bytes fits = grind arith
 
   -- ---- the law of `StrictRead`
 
@@ -72,20 +56,13 @@ module _ {A : Type 0} (c : Form A) where
 
   -- ---- for bodies that read a value
 
-  -- what a body that reads a value returns
-  pub record Answers (v : View) (r : Result A DecoderError) : Type 0 where
-    pub value : IfOk r (λ x. Gives c.reading v x)
-    pub fault : IfErr r (λ e. Faults c.reading v e ⊎ ((e ≡ OutOfMemory) × IsTrue c.reading.takes_memory))
-
   pub answers_alike : IsSeen c → (v : View) (x : A) (r : Result A DecoderError) → c.Fits x → Gives c.reading v x → IfOk r (λ w. Gives c.reading v w)
       → IfOk r (λ w. c.Fits w × AreAlike c.item w x)
-  answers_alike law v x (Ok w) fit given also = alike_by law v x fit given w also
-  answers_alike law v x (Err e) fit given also = tt
+  answers_alike law v x r fit given also = grind arith
 
   pub answers_memory : (v : View) (x : A) (r : Result A DecoderError) (T : Type 0) → Gives c.reading v x → IfErr r (λ e. Faults c.reading v e ⊎ ((e ≡ OutOfMemory) × T))
       → IfErr r (λ e. (e ≡ OutOfMemory) × T)
-  answers_memory v x (Ok w) T given fault = tt
-  answers_memory v x (Err e) T given fault = ⊎_elim (λ bad. absurd (not_both c.reading v x e given bad)) (λ memory. memory) fault
+  answers_memory v x r T given fault = grind arith
 
   pub answers_begin : GivesOnly false c → (b : List ℕ) (x : A) (r : Result A DecoderError) → AreBytes b → length b < 2 ^ 64
       → IfOk r (λ w. Gives c.reading (view_of b) w) → IsOkAnd r (λ w. AreAlike c.item w x) → BeginsWith b (encoding (c.item x))
@@ -94,13 +71,11 @@ module _ {A : Type 0} (c : Form A) where
 
   pub answers_whole : GivesOnly true c → (b : List ℕ) (r : Result A DecoderError) → AreBytes b → length b < 2 ^ 64
       → IfOk r (λ w. Gives c.reading (strict_view_of b) w) → IfOk r (λ w. c.Fits w × (b ≡ encoding (c.item w)))
-  answers_whole law b (Ok w) bytes fits given = law.only b w bytes fits given
-  answers_whole law b (Err e) bytes fits given = tt
+  answers_whole law b r bytes fits given = grind arith
 
   pub answers_only : (b : List ℕ) (x : A) (r : Result A DecoderError) → IfOk r (λ w. c.Fits w × (b ≡ encoding (c.item w)))
       → IsOkAnd r (λ w. AreAlike c.item w x) → b ≡ encoding (c.item x)
-  answers_only b x (Ok w) whole same = whole.1 ∙ ap encoding same
-  answers_only b x (Err e) whole same = absurd same
+  answers_only b x r whole same = grind arith
 
 -- ---- lists of values
 
@@ -113,14 +88,12 @@ module _ {A : Type 0} (c : Form A) {is_strict : Bool} (back : ReadsBack is_stric
   -- and no other values: those that are read have the same items, each in the same place
   pub list_alike : {B : Type 0} (values : B → List A) (r : Result B DecoderError) → IsSeen c → IfOk r (λ w. Gives (list_reading values c.reading) (viewed is_strict b) w)
       → IfOk r (λ w. All c.Fits (values w) × (map c.item (values w) ≡ map c.item vs))
-  list_alike values (Ok w) told given = each_told c told vs (values w) (same_value _ _ (sym lists_back ∙ given)) fit
-  list_alike values (Err e) told given = tt
+  list_alike values r told given = grind (arith, each_told, lists_back)
 
   -- reading the list fails only with `OutOfMemory`
   pub list_memory : {B : Type 0} (r : Result B DecoderError) → IfErr r (λ e. Faults (list_reading (λ xs. xs) c.reading) (viewed is_strict b) e ⊎ (e ≡ OutOfMemory))
       → IfErr r (λ e. e ≡ OutOfMemory)
-  list_memory (Ok w) fault = tt
-  list_memory (Err e) fault = ⊎_elim (λ bad. absurd (let same = sym lists_back ∙ bad in let no : ⊥ = cc in no)) (λ memory. memory) fault
+  list_memory r fault = grind (arith, lists_back)
 
 module _ {A : Type 0} (c : Form A) where
   -- item i of the encoding of a list gives the values that fit and are alike to value i, and has no fault
@@ -152,5 +125,4 @@ module _ {A : Type 0} (c : Form A) where
   pub strict_list_only : {B : Type 0} (values : B → List A) (b : List ℕ) (vs : List A) (r : Result B DecoderError)
       → IfOk r (λ w. All c.Fits (values w) × (b ≡ encoding (list_of (map c.item (values w)))))
       → IsOkAnd r (λ w. map c.item (values w) ≡ map c.item vs) → b ≡ encoding (list_of (map c.item vs))
-  strict_list_only values b vs (Ok w) whole same = whole.1 ∙ ap (λ xs. encoding (list_of xs)) same
-  strict_list_only values b vs (Err e) whole same = absurd same
+  strict_list_only values b vs r whole same = grind arith

@@ -1,12 +1,13 @@
 -- Groups of fields at the end of a struct.
 use Rattle.std.proofs.Common.{◌≡◌, ℕ, ◌+◌, ◌*◌, ◌%◌, ◌<◌, List, [], ◌∷◌, ◌++◌, length, sym, ap, ◌∙◌, arith, length-append, Bool, Err, IfOk, Ok, Result}
 use Rattle.std.proofs.Common.{append-nil, append_assoc, eq-eqb, false, map, refl, subst, suc, true, zero, ◌==◌, ◌^◌, ◌≤◌}
-use Rattle.std.proofs.{Math.Nat.{mod-eq_of_lt, mul-add-mod_self_right, suc-mul}, lemmas.List.{length-map, map-append}}
+use Rattle.std.proofs.{Math.Nat.{mod-eq_of_lt, suc-mul}, lemmas.List.{length-map, map-append}}
 use Rattle.std.proofs.lemmas.List.Elements.{All-from_recursion, recursion_from_All}
 use Rattle.std.specs.List.{AllByRecursion}
+use Rattle.std.proofs.lemmas.Grind.{common_steps}
 use Rattle.rlp_format.specs.{Format.Encoding.{Item, IsSized, encoding}, Values.Value.all_items}
 use Rattle.rlp_reading.specs.Views.View.{View}
-use Rattle.rlp_reading.specs.Form.{Answer, Fault, FieldsForm, FieldsReading, Path, Taken, and_then, go_on, group_fields, groups, map_taken, map_value}
+use Rattle.rlp_reading.specs.Form.{Answer, Fault, FieldsForm, FieldsReading, Path, Taken, go_on, group_fields, groups, map_taken, map_value}
 use Rattle.rlp_reading.specs.Form.{most_groups, take_each}
 use Rattle.rlp_reading.specs.Laws.{AreLawful, AreSeen, IsStrictPart, TakePossible, TakeWidth, TakesBack, TakesOnly, viewed, views_of}
 use Rattle.rlp_reading.proofs.{ListLaws.{goes_on, is_mapped, lists_fit}, FieldLaws.{all_first, ok_same, both_left, views_append}}
@@ -15,19 +16,13 @@ module _ {G : Type 0} (width : ℕ) (items_of : G → List Item) (counted : (g :
   -- the number of items of groups
   pub groups_counted : (gs : List G) → length (all_items items_of gs) ≡ length gs * width
   groups_counted [] = omega arith
-  groups_counted (g ∷ gs) =
-      let more : length (all_items items_of gs) ≡ length gs * width = groups_counted gs in
-      let one : length (items_of g) ≡ width = counted g in
-      let both : length (items_of g ++ all_items items_of gs) ≡ length gs * width + width =
-      omega (arith, length-append (items_of g) (all_items items_of gs)) in
-      both ∙ sym (suc-mul (length gs) width)
+  groups_counted (g ∷ gs) = grind (arith, length-append, suc-mul, groups_counted gs)
 
 -- ---- groups at the end
 
 -- groups that have items are at most as many as the items
 pub as_many : (width n : ℕ) → 0 < width → most_groups width n ≡ n
-as_many zero n some = absurd (omega arith)
-as_many (suc width) n some = refl
+as_many width n some = grind arith
 
 -- groups that are all of the items are a whole number of groups
 module _ {A : Type 0} (r : FieldsReading A) (law : TakeWidth r) (some : 0 < r.width) where
@@ -38,9 +33,7 @@ module _ {A : Type 0} (r : FieldsReading A) (law : TakeWidth r) (some : 0 < r.wi
   no_items = eq-eqb _ _ (mod-eq_of_lt some)
 
   one_before : (n m : ℕ) → n ≡ r.width + m → (m % r.width == 0) ≡ true → (n % r.width == 0) ≡ true
-  one_before n m many whole =
-      let more : n ≡ 1 * r.width + m = omega (arith, many) in
-      ap (λ k. k == 0) (ap (λ k. k % r.width) more ∙ mul-add-mod_self_right 1 r.width m) ∙ whole
+  one_before n m many whole = grind arith
 
   whole_groups_by : (turns : ℕ) (vs : List View) → IfOk (take_each r.read turns vs).result (λ t. Whole (length vs) t.1)
   whole_groups_by zero vs = λ none. ap (λ ws. length ws % r.width == 0) none ∙ no_items
@@ -60,11 +53,7 @@ groups_possible values r law = record { all = λ vs. by r.width refl vs }
 
 module _ {A P : Type 0} (values : P → List A) (f : FieldsForm A) (fixed : f.reading.is_fixed ≡ true) (some : (0 == f.reading.width) ≡ false) where
   not_zero : 0 < f.reading.width
-  not_zero = by f.reading.width some
-    where
-      by : (n : ℕ) → (0 == n) ≡ false → 0 < n
-      by zero is = absurd (let no : ⊥ = cc in no)
-      by (suc n) is = omega arith
+  not_zero = grind arith
 
   abbrev each : ℕ → List View → Result (List f.reading.M × List View) (List View × Fault)
   each turns vs = (take_each f.reading.read turns vs).result
@@ -76,15 +65,13 @@ module _ {A P : Type 0} (values : P → List A) (f : FieldsForm A) (fixed : f.re
       → (f.reading.read (views_of is_strict xs ++ ys)).result ≡ Ok (f.reading.seen x, ys)
       → each (suc turns) (views_of is_strict xs ++ ys) ≡ before (f.reading.seen x) (each turns ys)
   one_more is_strict x [] turns ys many is = absurd (omega arith)
-  one_more is_strict x (i ∷ xs) turns ys many is =
-      ap (λ r. and_then {A = f.reading.M × List View} r (λ t. before t.0 (each turns t.1))) is
+  one_more is_strict x (i ∷ xs) turns ys many is = grind arith
 
   each_back : (is_strict : Bool) → TakesBack is_strict f → (xs : List A) (turns : ℕ) → AllByRecursion f.Fits xs → AllByRecursion IsSized (all_items f.items xs)
       → length (all_items f.items xs) ≤ turns → each turns (views_of is_strict (all_items f.items xs)) ≡ Ok (map f.reading.seen xs, [])
   each_back is_strict law [] zero all sized enough = refl
   each_back is_strict law [] (suc turns) all sized enough = refl
-  each_back is_strict law (x ∷ xs) zero all sized enough =
-      absurd (omega (arith, length-append (f.items x) (all_items f.items xs), law.wide x fixed, not_zero))
+  each_back is_strict law (x ∷ xs) zero all sized enough = grind (arith, length-append, not_zero)
   each_back is_strict law (x ∷ xs) (suc turns) (fit, all) sized enough =
       let both = all_first IsSized (f.items x) (all_items f.items xs) sized in
       let wide : length (f.items x) ≡ f.reading.width = law.wide x fixed in
@@ -99,10 +86,9 @@ module _ {A P : Type 0} (values : P → List A) (f : FieldsForm A) (fixed : f.re
   -- some groups are a whole number of groups
   groups_right : (is_strict : Bool) → TakesBack is_strict f → (xs : List A) → (length (all_items f.items xs) % f.reading.width == 0) ≡ true
   groups_right is_strict law xs =
-      let w = f.reading.width in
       let many : length (all_items f.items xs) ≡ length xs * f.reading.width + 0 =
       omega (arith, groups_counted f.reading.width f.items (λ x. law.wide x fixed) xs) in
-      eq-eqb _ _ (ap (λ n. n % w) many ∙ mul-add-mod_self_right (length xs) f.reading.width 0 ∙ mod-eq_of_lt not_zero)
+      grind arith
 
   pub groups_back : (is_strict : Bool) → TakesBack is_strict f → TakesBack is_strict (groups values f)
   groups_back is_strict law = record {
@@ -131,15 +117,9 @@ module _ {A P : Type 0} (values : P → List A) (f : FieldsForm A) (fixed : f.re
   each_more law vs rest [] parts m left first ms known same = absurd (let no : ⊥ = cc in no)
   each_more law vs rest (x ∷ xs) parts m left first ms known same =
       let head : m ≡ f.reading.seen x = cc in
-      let tail : ms ≡ map f.reading.seen xs = cc in
       let h = law.only x vs left parts (first ∙ ap (λ y. Ok (y, left)) head) in
       let both = all_first IsStrictPart (views_of true (f.items x)) left (subst (AllByRecursion IsStrictPart) h.1 parts) in
-      let hs = known xs both.1 tail in (
-        (h.0, hs.0),
-        h.1 ∙ ap (λ ws. views_of true (f.items x) ++ ws) hs.1
-            ∙ sym (append_assoc (views_of true (f.items x)) (views_of true (all_items f.items xs)) rest)
-            ∙ ap (λ ws. ws ++ rest) (sym (views_append true (f.items x) (all_items f.items xs))),
-      )
+      grind (arith, all_first, append_assoc, views_append)
 
   none_more : (xs : List A) (vs rest : List View) → (let r : Result (List f.reading.M × List View) (List View × Fault) = Ok ([], vs) in r) ≡ Ok (map f.reading.seen xs, rest)
       → AllByRecursion f.Fits xs × (vs ≡ views_of true (all_items f.items xs) ++ rest)
@@ -179,8 +159,7 @@ module _ {A P : Type 0} (values : P → List A) (f : FieldsForm A) (fixed : f.re
 -- what follows a value is the same, if it is the same for the value that there is
 same_after : {A B E : Type 0} (r : Result A E) (q : Path) (f g : A → Answer B E) → IfOk r (λ x. f x ≡ g x)
     → go_on (record { result = r; path = q }) f ≡ go_on (record { result = r; path = q }) g
-same_after (Ok x) q f g same = ap (λ (a : Answer _ _). record { result = a.result; path = a.path }) same
-same_after (Err e) q f g same = refl
+same_after r q f g same = grind arith
 
 module _ {A : Type 0} (r : FieldsReading A) (law : TakeWidth r) (some : 0 < r.width) where
   abbrev groups_from : List View → Result (List r.M × List View) (List View × Fault)
@@ -190,8 +169,7 @@ module _ {A : Type 0} (r : FieldsReading A) (law : TakeWidth r) (some : 0 < r.wi
       → ((left : List View) → length left ≤ length vs → take_each r.read turns left ≡ take_each r.read others left)
       → IfOk x (λ t. length (v ∷ vs) ≡ r.width + length t.1)
       → IfOk x (λ t. map_taken (λ xs. t.0 ∷ xs) (take_each r.read turns t.1) ≡ map_taken (λ xs. t.0 ∷ xs) (take_each r.read others t.1))
-  after_one turns others (Ok t) v vs same many = ap (λ a. map_taken (λ xs. t.0 ∷ xs) a) (same t.1 (omega (arith, many, some)))
-  after_one turns others (Err e) v vs same many = tt
+  after_one turns others x v vs same many = grind arith
 
   -- turns that are as many as the views are enough
   enough_turns : (turns others : ℕ) (vs : List View) → length vs ≤ turns → length vs ≤ others → take_each r.read turns vs ≡ take_each r.read others vs
@@ -202,46 +180,29 @@ module _ {A : Type 0} (r : FieldsReading A) (law : TakeWidth r) (some : 0 < r.wi
       (after_one turns others (r.read (v ∷ vs)).result v vs (λ left many. enough_turns turns others left (omega (arith, many, few)) (omega (arith, many, less))) (law.taken (v ∷ vs)))
   enough_turns turns others vs few less = refl
 
-  -- what a group leaves is less than what it was taken from
-  pub less_left : (vs left : List View) (m : r.M) → (r.read vs).result ≡ Ok (m, left) → length left < length vs
-  less_left vs left m is =
-      let many : IfOk (let x : Result (r.M × List View) (List View × Fault) = Ok (m, left) in x) (λ t. length vs ≡ r.width + length t.1) =
-      subst (λ x. IfOk x (λ t. length vs ≡ r.width + length t.1)) is (law.taken vs) in
-      omega (arith, many, some)
-
   -- one group is taken, and then the groups from what it leaves
   pub one_group : (vs left : List View) (m : r.M) → (r.read vs).result ≡ Ok (m, left)
       → groups_from vs ≡ map_value (λ (t : List r.M × List View). (m ∷ t.0, t.1)) (groups_from left)
-  one_group [] left m is = absurd (omega (arith, less_left [] left m is))
-  one_group (v ∷ vs) left m is =
-      let less = less_left (v ∷ vs) left m is in
-      ap (λ x. and_then x (λ (t : r.M × List View). map_value (λ (u : List r.M × List View). (t.0 ∷ u.0, u.1)) (take_each r.read (length vs) t.1).result)) is
-      ∙ ap (λ (a : Taken (List r.M)). map_value (λ (t : List r.M × List View). (m ∷ t.0, t.1)) a.result) (enough_turns (length vs) (length left) left (omega (arith, less)) (omega arith))
+  one_group vs left m is = grind (arith, enough_turns)
 
 -- a group fails where there is a view
 pub group_fails : {M : Type 0} (read : List View → Taken M) (vs : List View) (e : List View × Fault) → ¬ (vs ≡ []) → (read vs).result ≡ Err e
     → (take_each read (length vs) vs).result ≡ Err e
-group_fails read [] e more is = absurd (more refl)
-group_fails {M} read (v ∷ vs) e more is =
-    ap (λ r. and_then r (λ (t : M × List View). map_value (λ (u : List M × List View). (t.0 ∷ u.0, u.1)) (take_each read (length vs) t.1).result)) is
+group_fails read vs e more is = grind (arith, common_steps)
 
 -- there is no group where there is no view
 pub no_group : {M : Type 0} (read : List View → Taken M) (vs : List View) → vs ≡ [] → (take_each read (length vs) vs).result ≡ Ok ([], vs)
-no_group read [] none = refl
-no_group read (v ∷ vs) none = absurd (let no : ⊥ = cc in no)
+no_group read vs none = grind arith
 
 -- groups that have no items are not read
 pub none_read : {M : Type 0} (read : List View → Taken M) (width : ℕ) (vs : List View) → width ≡ 0 → (take_each read (most_groups width (length vs)) vs).result ≡ Ok ([], vs)
-none_read read zero vs none = refl
-none_read read (suc width) vs none = absurd (omega arith)
+none_read read width vs none = grind arith
 
 -- one more group, after those that were read
 pub one_pushed : {A M : Type 0} (seen : A → M) (xs : List A) (x : A) (r : Result (List M × List View) (List View × Fault))
     → map_value {B = List M × List View} (λ t. (map seen xs ++ t.0, t.1)) (map_value {B = List M × List View} (λ t. (seen x ∷ t.0, t.1)) r)
     ≡ map_value {B = List M × List View} (λ t. (map seen (xs ++ x ∷ []) ++ t.0, t.1)) r
-one_pushed seen xs x (Err e) = refl
-one_pushed seen xs x (Ok t) =
-    ap (λ zs. Ok (zs, t.1)) (sym (append_assoc (map seen xs) (seen x ∷ []) t.0) ∙ ap (λ zs. zs ++ t.0) (sym (map-append seen xs (x ∷ []))))
+one_pushed seen xs x r = grind (arith, append_assoc, map-append)
 
 pub ruleset take_groups = (group_fails, no_group, none_read, one_pushed)
 

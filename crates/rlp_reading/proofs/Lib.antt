@@ -24,3 +24,5 @@ pub mod Corollaries
 pub mod Readings
 -- where readings have faults
 pub mod PathLaws
+-- text that is written in pieces
+pub mod Pieces

@@ -5,7 +5,7 @@ use Rattle.std.proofs.{lemmas.List.Elements.{All-from_recursion, recursion_from_
 use Rattle.std.specs.List.{All, AllByRecursion}
 use Rattle.rlp_reading.specs.{declared.error.DecoderError.DecoderError, Format.Framing.{items}}
 use Rattle.rlp_reading.specs.Views.View.{View, Holds, item_count, item_views, items_fault, strict_view_of}
-use Rattle.rlp_reading.specs.Form.{Form, Fault, and_then, held_type, items_of, list_of_views, list_type, map_fault, map_value, option, read_each, read_option}
+use Rattle.rlp_reading.specs.Form.{Form, Fault, and_then, held_type, items_of, list_of_views, list_type, map_value, option, read_each, read_option}
 use Rattle.rlp_reading.specs.{Form.{fault_of, seen_fault}, Laws.{ReadsBack, GivesOnly, IsLawful, IsReadBack, IsSeen, IsStrictPart, viewed, views_of}}
 use Rattle.rlp_format.specs.{Format.Encoding.{Item, list_of, AreBytes, encoding, join, IsSized}, Values.Value.option_item}
 use Rattle.rlp_format.proofs.Lemmas.Encodings.{encoding_list, front_sized, small_payload}
@@ -27,8 +27,7 @@ items_held is_strict b xs fits holds =
 -- a view that holds a list, when read as a list of values, has the views of the items of the list
 pub list_held : (is_strict : Bool) (b : List ℕ) (xs : List Item) → length b < 2 ^ 64 → Holds is_strict b (encoding (list_of xs))
     → list_of_views (viewed is_strict b) ≡ Ok (views_of is_strict xs)
-list_held false b xs fits holds = ap Ok (held_views (viewed false b) xs fits holds)
-list_held true b xs fits holds = items_held true b xs fits holds
+list_held is_strict b xs fits holds = grind (arith, items_held)
 
 -- each item of a list that a view holds is sized
 joined_sized : (xs : List Item) → length (join xs) < 2 ^ 64 → AllByRecursion IsSized xs
@@ -38,13 +37,11 @@ joined_sized (x ∷ xs) small =
 
 pub items_sized : (is_strict : Bool) (b : List ℕ) (xs : List Item) → length b < 2 ^ 64 → Holds is_strict b (encoding (list_of xs))
     → AllByRecursion IsSized xs
-items_sized is_strict b xs fits holds =
-    joined_sized xs (small_payload 0xc0 (join xs) (encoding (list_of xs)) (encoding_list xs) (held_sized is_strict b (list_of xs) fits holds))
+items_sized is_strict b xs fits holds = grind (arith, joined_sized, small_payload, encoding_list, held_sized)
 
 -- a view holds its own bytes
 pub held_itself : (is_strict : Bool) (b : List ℕ) → Holds is_strict b b
-held_itself false b = ([], sym (append-nil b))
-held_itself true b = refl
+held_itself is_strict b = grind (arith, append-nil)
 
 -- The views are the items of a strict view of b, and b is the encoding of a list if the views are the views of the items of the list.
 pub record AreItems (b : List ℕ) (vs : List View) : Type 0 where
@@ -58,9 +55,8 @@ strict_parts (f ∷ fs) (part, parts) = (record { is = refl; held = part.held; s
 bytes_of_views : (fs : List (List ℕ)) (xs : List Item) → map strict_view_of fs ≡ views_of true xs → fs ≡ map encoding xs
 bytes_of_views [] [] same = refl
 bytes_of_views (f ∷ fs) (x ∷ xs) same =
-    let heads : strict_view_of f ≡ strict_view_of (encoding x) = cc in
     let tails : map strict_view_of fs ≡ views_of true xs = cc in
-    ap (λ v. v.bytes ∷ fs) heads ∙ ap (λ gs. encoding x ∷ gs) (bytes_of_views fs xs tails)
+    grind (arith, bytes_of_views fs xs tails)
 bytes_of_views fs xs same = absurd (let no : ⊥ = cc in no)
 
 items_by : (b : List ℕ) (vs : List View) (r : Result ℕ DecoderError) → AreBytes b → length b < 2 ^ 64 → item_count (strict_view_of b) ≡ r
@@ -84,8 +80,7 @@ pub record GoesOn {A B E : Type 0} (r : Result A E) (f : A → Result B E) (y : 
   pub then : f value ≡ Ok y
 
 pub goes_on : {A B E : Type 0} (r : Result A E) (f : A → Result B E) (y : B) → and_then r f ≡ Ok y → GoesOn r f y
-goes_on (Ok x) f y is = record { value = x; is = refl; then = is }
-goes_on (Err e) f y is = absurd (let no : ⊥ = cc in no)
+goes_on r f y is = grind arith
 
 pub record IsMapped {A B E : Type 0} (r : Result A E) (f : A → B) (y : B) : Type 0 where
   pub value : A
@@ -93,8 +88,7 @@ pub record IsMapped {A B E : Type 0} (r : Result A E) (f : A → B) (y : B) : Ty
   pub then : f value ≡ y
 
 pub is_mapped : {A B E : Type 0} (r : Result A E) (f : A → B) (y : B) → map_value f r ≡ Ok y → IsMapped r f y
-is_mapped (Ok x) f y is = record { value = x; is = refl; then = let same : f x ≡ y = cc in same }
-is_mapped (Err e) f y is = absurd (let no : ⊥ = cc in no)
+is_mapped r f y is = grind arith
 
 -- ---- for bodies of `decode`
 
@@ -109,18 +103,11 @@ items_faulty v e fault = ap (λ r. map_value (λ (n : ℕ). item_views v) (seen_
 -- one more value, after those that were read
 pub pushed : {A M : Type 0} (seen : A → M) (xs : List A) (x : A) (r : Result (List M) Fault)
     → map_value (λ ys. map seen xs ++ ys) (map_value (λ ys. seen x ∷ ys) r) ≡ map_value (λ ys. map seen (xs ++ x ∷ []) ++ ys) r
-pushed seen xs x (Err e) = refl
-pushed seen xs x (Ok ys) =
-    ap Ok (sym (append_assoc (map seen xs) (seen x ∷ []) ys) ∙ ap (λ zs. zs ++ ys) (sym (map-append seen xs (x ∷ []))))
+pushed seen xs x r = grind (arith, append_assoc, map-append)
 
 -- all values were read
 pub all_pushed : {M : Type 0} (xs : List M) → (let r : Result (List M) Fault = Ok (xs ++ []) in r) ≡ Ok xs
 all_pushed xs = ap Ok (append-nil xs)
-
--- a result with another fault has the same value
-pub not_faulty : {A E F : Type 0} (f : E → F) (r : Result A E) (x : A) → map_fault f r ≡ Ok x → r ≡ Ok x
-not_faulty f (Ok y) x is = let same : y ≡ x = cc in ap Ok same
-not_faulty f (Err e) x is = absurd (let no : ⊥ = cc in no)
 
 -- ---- values that contracts see alike
 
@@ -128,16 +115,10 @@ not_faulty f (Err e) x is = absurd (let no : ⊥ = cc in no)
 pub same_written : {A M I : Type 0} (seen : A → M) (item : A → I) (of : M → I) → ((x : A) → of (seen x) ≡ item x) → (x y : A) → seen x ≡ seen y → item x ≡ item y
 same_written seen item of is x y same = sym (is x) ∙ ap of same ∙ is y
 
--- if contracts see two values alike and one of the two fits, both fit and have the same item
-pub seen_alike : {A : Type 0} (c : Form A) → IsSeen c → (x y : A) → c.reading.seen x ≡ c.reading.seen y → c.Fits x → c.Fits y × (c.item y ≡ c.item x)
-seen_alike c law x y same fit = (law.fits x y same fit, same_written c.reading.seen c.item c.reading.item law.written y x (sym same))
-
 module _ {A M : Type 0} (seen : A → M) (Fits : A → Type 0) (law : (x y : A) → seen x ≡ seen y → Fits x → Fits y) where
   -- if contracts see two options alike and one of the two fits, both fit
   pub options_fit : (o u : Option A) → option_map seen o ≡ option_map seen u → IfSome o Fits → IfSome u Fits
-  options_fit o None same fit = tt
-  options_fit None (Some y) same fit = absurd (let no : ⊥ = cc in no)
-  options_fit (Some x) (Some y) same fit = law x y (let one : seen x ≡ seen y = cc in one) fit
+  options_fit o u same fit = grind arith
 
   each_fits : (xs ys : List A) → map seen xs ≡ map seen ys → AllByRecursion Fits xs → AllByRecursion Fits ys
   each_fits xs [] same all = tt
@@ -172,9 +153,7 @@ module _ {A : Type 0} (c : Form A) where
   -- a strict item that gives a value is its encoding
   pub item_only : GivesOnly true c → (v : View) (x : A) → IsStrictPart v → (c.reading.read v).result ≡ Ok (c.reading.seen x)
       → c.Fits x × (v ≡ viewed true (encoding (c.item x)))
-  item_only law v x strict is =
-      let h = law.only v.bytes x strict.held strict.short (ap read (sym strict.is) ∙ is) in
-      (h.0, strict.is ∙ ap strict_view_of h.1)
+  item_only law v x strict is = grind arith
 
   abbrev read_whole : List View → Result (List c.reading.M) Fault
   read_whole vs = read_all (length vs) vs
@@ -195,8 +174,7 @@ module _ {A : Type 0} (c : Form A) where
       → (read_option c.reading.read vs).result ≡ Ok (option_map c.reading.seen o) → IfSome o c.Fits × ((b : List ℕ) → AreItems b vs → b ≡ encoding (option_item c.item o))
   option_by law [] None parts is = (tt, λ b are. are.whole [] refl)
   option_by law [] (Some x) parts is = absurd (let no : ⊥ = cc in no)
-  option_by law (v ∷ []) None parts is =
-      let m = is_mapped (read v) Some None is in let no : Some m.value ≡ None = m.then in absurd (let none : ⊥ = cc in none)
+  option_by law (v ∷ []) None parts is = grind (arith, is_mapped)
   option_by law (v ∷ []) (Some x) (part, parts) is =
       let m = is_mapped (read v) Some (Some (seen x)) is in
       let value : m.value ≡ seen x = let same : Some m.value ≡ Some (seen x) = m.then in cc in
@@ -215,17 +193,13 @@ module _ {A : Type 0} (c : Form A) where
 
   pub option_written : ((x : A) → c.reading.item (c.reading.seen x) ≡ c.item x) → (o : Option A)
       → option_item c.reading.item (option_map c.reading.seen o) ≡ option_item c.item o
-  option_written written None = refl
-  option_written written (Some x) = ap (λ i. list_of (i ∷ [])) (written x)
-
-  pub option_told : IsSeen c → IsSeen (option c)
-  option_told law = record { fits = options_fit seen c.Fits law.fits; written = option_written law.written }
+  option_written written o = grind arith
 
   pub option_read_back : IsReadBack c → IsReadBack (option c)
-  option_read_back law = record { told = option_told law.told; back = option_back false law.back }
+  option_read_back law = grind (arith, option_back, options_fit, option_written)
 
   pub option_lawful : IsLawful c → IsLawful (option c)
-  option_lawful law = record { told = option_told law.told; back = λ is_strict. option_back is_strict (law.back is_strict); exact = option_only law.exact }
+  option_lawful law = grind (arith, option_back, option_only, options_fit, option_written)
 
   -- ---- lists of values
 
@@ -233,8 +207,7 @@ module _ {A : Type 0} (c : Form A) where
       → (read_each c.reading.read n (views_of is_strict (map c.item xs))).result ≡ Ok (map c.reading.seen xs)
   each_back is_strict law n [] all sized = refl
   each_back is_strict law n (x ∷ xs) (fit, all) (one, sized) =
-      ap (λ r. and_then r (λ y. map_value (λ ys. y ∷ ys) (read_all n (views_of is_strict (map c.item xs))))) (item_back is_strict law x one fit)
-      ∙ ap (map_value (λ ys. seen x ∷ ys)) (each_back is_strict law n xs all sized)
+      grind (arith, item_back, each_back is_strict law n xs all sized)
 
   -- what is known of others goes on with one more
   each_more : GivesOnly true c → (n : ℕ) (v : View) (vs : List View) (xs : List A) → IsStrictPart v
@@ -244,10 +217,8 @@ module _ {A : Type 0} (c : Form A) where
   each_more law n v vs [] part known y ys one others same = absurd (let no : ⊥ = cc in no)
   each_more law n v vs (x ∷ xs) part known y ys one others same =
       let head : y ≡ seen x = cc in
-      let tail : ys ≡ map seen xs = cc in
       let h = item_only law v x part (one ∙ ap Ok head) in
-      let hs = known xs (others ∙ ap Ok tail) in
-      ((h.0, hs.0), ap (λ w. w ∷ vs) h.1 ∙ ap (λ ws. viewed true (encoding (c.item x)) ∷ ws) hs.1)
+      grind (arith, item_only)
 
   each_only : GivesOnly true c → (n : ℕ) (vs : List View) (xs : List A) → AllByRecursion IsStrictPart vs
       → (read_each c.reading.read n vs).result ≡ Ok (map c.reading.seen xs) → AllByRecursion c.Fits xs × (vs ≡ views_of true (map c.item xs))
@@ -275,11 +246,7 @@ module _ {A : Type 0} (c : Form A) where
     }
 
     pub list_back : (is_strict : Bool) → ReadsBack is_strict c → ReadsBack is_strict (list_type values c)
-    list_back is_strict law = record {
-      back = λ b x fits fit holds.
-          ap (λ r. and_then r read_whole) (list_held is_strict b (map c.item (values x)) fits holds)
-          ∙ each_back is_strict law (length (views_of is_strict (map c.item (values x)))) (values x) (recursion_from_All c.Fits (values x) fit) (items_sized is_strict b (map c.item (values x)) fits holds);
-    }
+    list_back is_strict law = grind (arith, list_held, each_back, recursion_from_All, items_sized)
 
     pub list_type_only : GivesOnly true c → GivesOnly true (list_type values c)
     list_type_only law = record {

@@ -1,12 +1,12 @@
 -- Each view gives one value or has one fault.
-use Rattle.std.proofs.Common.{◌≡◌, ℕ, zero, suc, ◌^◌, ◌<◌, ◌⊎◌, inl, inr, List, [], ◌∷◌, Bool, length, map, refl, sym, ap, subst, ◌∙◌, Option, Some, None, option_map, Result, Ok, Err}
-use Rattle.rlp_format.specs.{Format.Encoding.{Item, list_of, AreBytes}, Values.Value.option_item}
+use Rattle.std.proofs.Common.{◌≡◌, ℕ, zero, suc, ◌^◌, ◌<◌, ◌⊎◌, inl, inr, List, [], ◌∷◌, Bool, length, map, refl, sym, ap, ◌∙◌, Option, Some, None, option_map, Result, Ok, Err}
+use Rattle.rlp_format.specs.{Format.Encoding.{Item, AreBytes}, Values.Value.option_item}
 use Rattle.rlp_reading.specs.declared.error.DecoderError.{DecoderError}
 use Rattle.rlp_reading.specs.declared.error.DecoderError.TheVariants.{RlpIsTooBig, RlpIsTooShort, RlpExpectedToBeList, RlpExpectedToBeData}
 use Rattle.rlp_reading.specs.declared.error.DecoderError.TheVariants.{RlpIncorrectListLen, RlpDataLenWithZeroPrefix, RlpListLenWithZeroPrefix}
 use Rattle.rlp_reading.specs.declared.error.DecoderError.TheVariants.{RlpInvalidIndirection, RlpInconsistentLengthAndData, RlpInvalidLength, Custom}
 use Rattle.rlp_reading.specs.{declared.error.DecoderError.TheVariants.OutOfMemory, Format.Framing.items, Values.StructReading.HoldsOrHasOneFault}
-use Rattle.rlp_reading.specs.{Values.ValueReading.{HasOneReading, IsSameFault}, Views.Text.error_name}
+use Rattle.rlp_reading.specs.{Values.ValueReading.{HasOneReading, IsSameFault}}
 use Rattle.rlp_reading.specs.Views.View.{View, item_at, item_count, item_views}
 use Rattle.rlp_reading.specs.Form.{Fault, Faults, Form, Gives, Reading, and_then, custom, data_len_with_zero, expected_data, expected_list, fault_of}
 use Rattle.rlp_reading.specs.Form.{inconsistent_len, incorrect_list_len, invalid_indirection, invalid_len, is_too_big, is_too_short, items_of, list_len_with_zero}
@@ -15,6 +15,7 @@ use Rattle.rlp_reading.specs.{Form.{byte_array, byte_string, number, option, raw
 use Rattle.rlp_reading.proofs.{Lemmas.Numbered.item_at-slice_get, Lemmas.WholeLists.{IsPart, item_parts}, Corollaries.{not_both, one_fault, one_value}}
 use Rattle.rlp_reading.proofs.ListLaws.{option_written, same_written}
 use Rattle.std.specs.List.{AllByRecursion, slice_get}
+use Rattle.std.proofs.Common.{arith}
 
 -- ---- faults
 
@@ -33,16 +34,8 @@ fault_some invalid_len = (RlpInvalidLength, refl)
 fault_some (custom text) = (Custom (record { ref_ptr = (0, 0); now = text }), refl)
 fault_some out_of_memory = (OutOfMemory, refl)
 
--- the name of a fault
-abbrev fault_name : Fault → List ℕ
-fault_name f = error_name (fault_some f).0
-
-named : (e : DecoderError) → error_name e ≡ fault_name (fault_of e)
-named (Custom text) = refl
-named e = refl
-
 same_fault : (e f : DecoderError) → fault_of e ≡ fault_of f → IsSameFault e f
-same_fault e f same = named e ∙ ap fault_name same ∙ sym (named f)
+same_fault e f same = grind arith
 
 -- ---- one answer
 
@@ -110,16 +103,12 @@ option_whole c whole = record { some = option_some c whole; written = option_wri
 -- ---- options
 
 lone_by : (v w : View) (r : Result ℕ DecoderError) → map_value (λ (n : ℕ). item_views v) (seen_fault r) ≡ Ok (w ∷ []) → item_views v ≡ w ∷ []
-lone_by v w (Ok n) is = let same : item_views v ≡ w ∷ [] = cc in same
-lone_by v w (Err e) is = absurd (let no : ⊥ = cc in no)
+lone_by v w r is = grind arith
 
 got_by : (strict : Bool) (fs : List (List ℕ)) (w : View) (i : ℕ) → AllByRecursion IsPart fs
     → slice_get (map (λ b. record { bytes = b; is_strict = strict }) fs) i ≡ Some w → AreBytes w.bytes × (length w.bytes < 2 ^ 64)
 got_by strict [] w i parts is = absurd (let no : ⊥ = cc in no)
-got_by strict (f ∷ fs) w zero (part, parts) is =
-    let same : record { bytes = f; is_strict = strict } ≡ w = cc in
-    let bytes : f ≡ w.bytes = ap (λ (w : View). w.bytes) same in
-    (subst AreBytes bytes part.held, subst (λ b. length b < 2 ^ 64) bytes part.short)
+got_by strict (f ∷ fs) w zero (part, parts) is = grind arith
 got_by strict (f ∷ fs) w (suc i) (part, parts) is = got_by strict fs w i parts is
 
 -- an item by its number of a view that is bytes is bytes
@@ -149,8 +138,7 @@ module _ {A : Type 0} (item : A → Item) (r : Reading A)
       of_item (inr (e, bad)) = inr (e, ap (map_value Some) bad)
 
   some_taken : (a : Result r.M Fault) (x : A) → map_value Some a ≡ Ok (Some (r.seen x)) → a ≡ Ok (r.seen x)
-  some_taken (Ok m) x is = let same : Some m ≡ Some (r.seen x) = cc in let inner : m ≡ r.seen x = cc in ap Ok inner
-  some_taken (Err f) x is = absurd (let no : ⊥ = cc in no)
+  some_taken a x is = grind arith
 
   alike_options : (v : View) → AreBytes v.bytes → length v.bytes < 2 ^ 64 → (a : Result (List View) Fault) → items_of v ≡ a → (o u : Option A)
       → and_then a read_some ≡ Ok (option_map r.seen o) → and_then a read_some ≡ Ok (option_map r.seen u) → option_item item o ≡ option_item item u
@@ -159,19 +147,13 @@ module _ {A : Type 0} (item : A → Item) (r : Reading A)
   alike_options v bytes short a is (Some x) None given also = absurd (let same = sym given ∙ also in let no : ⊥ = cc in no)
   alike_options v bytes short (Ok (w ∷ [])) is (Some x) (Some y) given also =
       let part = lone_item v w bytes short is in
-      ap (λ i. list_of (i ∷ []))
-      ((law w part.0 part.1).one_value x y (some_taken (r.read w).result x given) (some_taken (r.read w).result y also))
+      grind (arith, lone_item, some_taken)
   alike_options v bytes short a is (Some x) (Some y) given also = absurd (let no : ⊥ = cc in no)
 
   -- options of a type that gives one value or has one fault do so too
   pub option_one : (v : View) → AreBytes v.bytes → length v.bytes < 2 ^ 64
       → HasOneReading (option_item item) (Gives (option_reading r) v) (Faults (option_reading r) v)
-  option_one v bytes short = record {
-    some = some_option v bytes short (items_of v) refl;
-    one_value = alike_options v bytes short (items_of v) refl;
-    one_fault = λ e f bad also. same_fault e f (one_fault (option_reading r) v e f bad also);
-    not_both = not_both (option_reading r) v;
-  }
+  option_one v bytes short = grind (arith, some_option, alike_options)
 
   -- ---- items by number
 

@@ -3,7 +3,7 @@ use Rattle.std.proofs.Common.{Bool, Err, List, Ok, Result, [], ap, append-nil, a
 use Rattle.std.proofs.{lemmas.Bool.lt-leb, lemmas.List.length-map}
 use Rattle.rlp_format.specs.Format.Encoding.{encoding, list_of}
 use Rattle.rlp_reading.specs.Views.View.{View, strict_view_of}
-use Rattle.rlp_reading.specs.Form.{Answer, Fault, FieldsForm, Path, Taken, and_then, go_on, here, if_possible, in_list, items_of, map_fault, map_value, path_by, path_in, read_struct, struct_of, all_taken, take_all, incorrect_list_len}
+use Rattle.rlp_reading.specs.Form.{Answer, Fault, FieldsForm, Path, Taken, and_then, go_on, here, if_possible, in_list, items_of, map_fault, map_value, read_struct, struct_of, all_taken, take_all, incorrect_list_len}
 use Rattle.rlp_reading.specs.Laws.{AreLawful, AreSeen, GivesOnly, IsLawful, IsSeen, ReadsBack, TakesBack, TakesOnly, viewed, views_of}
 use Rattle.rlp_reading.proofs.{ListLaws.{goes_on, items_held, items_only, items_sized}}
 
@@ -21,22 +21,9 @@ module _ {M : Type 0} (accepts : ℕ → Bool) (read : List View → Taken M) (v
   abbrev struct_answer : Answer M Fault
   struct_answer = go_on (here (items_of v)) (read_struct accepts read)
 
-  -- a struct is read from the items of a view
-  by_items : (a : Answer M Fault) → items_of v ≡ Ok vs → read_struct accepts read vs ≡ a → (struct_answer.result ≡ a.result) × (struct_answer.path ≡ a.path)
-  by_items a items is = (
-    ap (λ r. and_then r (λ vs. (read_struct accepts read vs).result)) items ∙ ap (λ a. a.result) is,
-    ap (λ r. path_by r [] (λ vs. (read_struct accepts read vs).path)) items ∙ ap (λ a. a.path) is,
-  )
-
-  -- the number of items is possible
-  by_number : items_of v ≡ Ok vs → accepts (length vs) ≡ true
-      → let a = in_list (length vs) (take_all read vs) in (struct_answer.result ≡ a.result) × (struct_answer.path ≡ a.path)
-  by_number items right =
-      by_items (in_list (length vs) (take_all read vs)) items (ap (λ b. if_possible b (in_list (length vs) (take_all read vs))) right)
-
   -- the fields are all that the items give
   pub struct_given : (m : M) → items_of v ≡ Ok vs → accepts (length vs) ≡ true → (read vs).result ≡ Ok (m, []) → struct_answer.result ≡ Ok m
-  struct_given m items right is = (by_number items right).0 ∙ ap (λ r. outcome (ended r)) is
+  struct_given m items right is = grind arith
 
   -- Why a struct isn't read: the fault, and the path.
   pub record StructFails (path : Path) (e : Fault) : Type 0 where
@@ -45,16 +32,12 @@ module _ {M : Type 0} (accepts : ℕ → Bool) (read : List View → Taken M) (v
 
   -- the number of items is wrong
   pub other_number : items_of v ≡ Ok vs → accepts (length vs) ≡ false → StructFails [] incorrect_list_len
-  other_number items wrong =
-      let h = by_items (here (Err incorrect_list_len)) items (ap (λ b. if_possible b (in_list (length vs) (take_all read vs))) wrong) in
-      record { fault = h.0; at = h.1 }
+  other_number items wrong = grind arith
 
   -- the number of items is possible, and the fields aren't what the items give
   pub this_number : (e : List View × Fault) → items_of v ≡ Ok vs → accepts (length vs) ≡ true → (take_all read vs).result ≡ Err e
       → StructFails ((length vs - 1 - length e.0) ∷ (take_all read vs).path) e.1
-  this_number e items right fails =
-      let h = by_number items right in
-      record { fault = h.0 ∙ ap outcome fails; at = h.1 ∙ ap (λ r. path_in (length vs) r (take_all read vs).path) fails }
+  this_number e items right fails = grind arith
 
 -- a list of fewer than 2^64 items isn't as wide as this
 pub too_wide : (w n : ℕ) (b : Bool) → 2 ^ 64 ≤ w → n < 2 ^ 64 → (leb w n && b) ≡ false
@@ -79,8 +62,7 @@ module _ {P : Type 0} (f : FieldsForm P) where
 
   all_of : (right : Bool) (n : ℕ) (r : Result (f.reading.M × List View) (List View × Fault)) (path : Path) (m : f.reading.M)
       → (if_possible right (in_list n (record { result = ended r; path = path }))).result ≡ Ok m → r ≡ Ok (m, [])
-  all_of true n (Ok (x, [])) path m is = let same : x ≡ m = cc in ap (λ y. Ok (y, [])) same
-  all_of right n r path m is = absurd (let no : ⊥ = cc in no)
+  all_of right n r path m is = grind arith
 
   pub struct_only : TakesOnly f → GivesOnly true (struct_of f)
   struct_only law = record {

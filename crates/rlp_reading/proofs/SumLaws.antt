@@ -1,10 +1,10 @@
 -- Values of several types are read back, and strictly from nothing else.
 use Rattle.std.proofs.Common.{◌≡◌, ℕ, ◌^◌, ◌<◌, ◌⊎◌, inl, inr, ◌==◌, Bool, true, false, List, [], ◌∷◌, length, refl, sym, ap, ◌∙◌, subst}
-use Rattle.std.proofs.{Common.{arith, Result, Ok, Err, eq-eqb}, lemmas.Bool.{cond-true, cond-false}}
+use Rattle.std.proofs.{Common.{arith, Result, Ok, eq-eqb}, lemmas.Bool.{cond-true, cond-false}}
 use Rattle.std.proofs.{lemmas.Bool.eqb-true, lemmas.List.Elements.{All-from_recursion, recursion_from_All}}
 use Rattle.rlp_reading.specs.{Format.Framing.{begins_as_list}}
 use Rattle.rlp_reading.specs.{Views.View.{View, Holds, strict_view_of}, Values.Sums.{OnSum, sum_item}}
-use Rattle.rlp_reading.specs.Form.{Answer, Form, Fault, and_then, custom, items_of, map_value, number}
+use Rattle.rlp_reading.specs.Form.{Answer, Form, Fault, and_then, items_of, map_value, number}
 use Rattle.rlp_reading.specs.Sums.{CasesForm, Unless, and_case, envelope, envelope_of, enveloped, last_case, list_or_string, read_either, read_first, read_last, read_tagged, seen_envelope, sum_map, tagged_list}
 use Rattle.rlp_reading.specs.Laws.{CasesAreLawful, ReadsBack, GivesOnly, IsLawful, IsStrictPart, viewed, views_of}
 use Rattle.rlp_format.specs.Format.Encoding.{Item, is_list, AreBytes, encoding}
@@ -26,78 +26,43 @@ whole {M} same = ap (λ (a : Answer M Fault). a.result) same
 -- ---- a value that was put on one side
 
 left_taken : {M N : Type 0} (r : Result M Fault) (y : M) → map_value {B = M ⊎ N} inl r ≡ Ok (inl y) → r ≡ Ok y
-left_taken (Ok x) y is = cc
-left_taken (Err e) y is = absurd (let no : ⊥ = cc in no)
+left_taken r y is = grind arith
 
 right_taken : {M N : Type 0} (r : Result N Fault) (y : N) → map_value {B = M ⊎ N} inr r ≡ Ok (inr y) → r ≡ Ok y
-right_taken (Ok x) y is = cc
-right_taken (Err e) y is = absurd (let no : ⊥ = cc in no)
+right_taken r y is = grind arith
 
 not_left : {M N : Type 0} (r : Result M Fault) (y : N) → map_value {B = M ⊎ N} inl r ≡ Ok (inr y) → ⊥
-not_left (Ok x) y is = cc
-not_left (Err e) y is = cc
+not_left r y is = grind arith
 
 not_right : {M N : Type 0} (r : Result N Fault) (y : M) → map_value {B = M ⊎ N} inr r ≡ Ok (inl y) → ⊥
-not_right (Ok x) y is = cc
-not_right (Err e) y is = cc
+not_right r y is = grind arith
 
 module _ {A B M N : Type 0} (seen : A → M) (other : B → N) where
   -- if contracts see two values of a sum alike and one of the two fits, both fit
   pub sums_fit : (Fits : A → Type 0) (Also : B → Type 0) → ((x y : A) → seen x ≡ seen y → Fits x → Fits y) → ((x y : B) → other x ≡ other y → Also x → Also y)
       → (s t : A ⊎ B) → sum_map seen other s ≡ sum_map seen other t → OnSum Fits Also s → OnSum Fits Also t
-  sums_fit Fits Also left right (inl x) (inl y) same fit = left x y (let one : seen x ≡ seen y = cc in one) fit
-  sums_fit Fits Also left right (inr x) (inr y) same fit = right x y (let one : other x ≡ other y = cc in one) fit
-  sums_fit Fits Also left right s t same fit = absurd (let no : ⊥ = cc in no)
+  sums_fit Fits Also left right s t same fit = grind arith
 
   -- a sum is written as contracts see it if the values of both types are
   pub sums_written : (item : A → Item) (also : B → Item) (of : M → Item) (by : N → Item) → ((x : A) → of (seen x) ≡ item x) → ((y : B) → by (other y) ≡ also y)
       → (s : A ⊎ B) → sum_item of by (sum_map seen other s) ≡ sum_item item also s
-  sums_written item also of by left right (inl x) = left x
-  sums_written item also of by left right (inr y) = right y
+  sums_written item also of by left right s = grind arith
 
 module _ {A B : Type 0} (c : Form A) (d : Form B) (lists : (x : A) → is_list (c.item x) ≡ true) (strings : (y : B) → is_list (d.item y) ≡ false) where
   either_back_by : (is_strict : Bool) → ReadsBack is_strict c → ReadsBack is_strict d → (b : List ℕ) (s : A ⊎ B) → length b < 2 ^ 64 → OnSum c.Fits d.Fits s
       → Holds is_strict b (encoding (sum_item c.item d.item s))
       → (read_either c.reading.read d.reading.read (viewed is_strict b)).result ≡ Ok (sum_map c.reading.seen d.reading.seen s)
-  either_back_by is_strict law other b (inl x) fits fit holds =
-      whole (cond-true (begins_as_list b) _ _ (held_kind is_strict b (c.item x) fits holds ∙ lists x))
-      ∙ ap (map_value inl) (law.back b x fits fit holds)
-  either_back_by is_strict law other b (inr y) fits fit holds =
-      whole (cond-false (begins_as_list b) _ _ (held_kind is_strict b (d.item y) fits holds ∙ strings y))
-      ∙ ap (map_value inr) (other.back b y fits fit holds)
-
-  either_only_by : GivesOnly true c → GivesOnly true d → (b : List ℕ) (s : A ⊎ B) (kind : Bool) → AreBytes b → length b < 2 ^ 64 → begins_as_list b ≡ kind
-      → (read_either c.reading.read d.reading.read (strict_view_of b)).result ≡ Ok (sum_map c.reading.seen d.reading.seen s)
-      → OnSum c.Fits d.Fits s × (b ≡ encoding (sum_item c.item d.item s))
-  either_only_by law other b (inl x) true bytes fits kind is =
-      law.only b x bytes fits (left_taken (c.reading.read (strict_view_of b)).result (c.reading.seen x) (sym (whole (cond-true (begins_as_list b) _ _ kind)) ∙ is))
-  either_only_by law other b (inl x) false bytes fits kind is =
-      absurd (not_right (d.reading.read (strict_view_of b)).result (c.reading.seen x) (sym (whole (cond-false (begins_as_list b) _ _ kind)) ∙ is))
-  either_only_by law other b (inr y) true bytes fits kind is =
-      absurd (not_left (c.reading.read (strict_view_of b)).result (d.reading.seen y) (sym (whole (cond-true (begins_as_list b) _ _ kind)) ∙ is))
-  either_only_by law other b (inr y) false bytes fits kind is =
-      other.only b y bytes fits (right_taken (d.reading.read (strict_view_of b)).result (d.reading.seen y) (sym (whole (cond-false (begins_as_list b) _ _ kind)) ∙ is))
+  either_back_by is_strict law other b s fits fit holds = grind (arith, held_kind)
 
   pub either_lawful : IsLawful c → IsLawful d → IsLawful (list_or_string c d)
-  either_lawful law other = record {
-    told = record {
-      fits = sums_fit c.reading.seen d.reading.seen c.Fits d.Fits law.told.fits other.told.fits;
-      written = sums_written c.reading.seen d.reading.seen c.item d.item c.reading.item d.reading.item law.told.written other.told.written;
-    };
-    back = λ is_strict. record { back = either_back_by is_strict (law.back is_strict) (other.back is_strict) };
-    exact = record { only = λ b s bytes fits is. either_only_by law.exact other.exact b s (begins_as_list b) bytes fits refl is };
-  }
+  either_lawful law other = grind (arith, either_back_by)
 
 -- ---- tags
 
 module _ {A : Type 0} (unknown : List ℕ) (tag : ℕ) (c : Form A) where
   last_only_by : GivesOnly true c → (k : ℕ) (b : List ℕ) (x : A) (same : Bool) → AreBytes b → length b < 2 ^ 64 → (k == tag) ≡ same
       → (read_last unknown tag c.reading.read k (strict_view_of b)).result ≡ Ok (c.reading.seen x) → c.Fits x × (k ≡ tag) × (b ≡ encoding (c.item x))
-  last_only_by law k b x true bytes fits same is =
-      let h = law.only b x bytes fits (sym (whole (cond-true (k == tag) _ _ same)) ∙ is) in (h.0, eqb-true k tag same, h.1)
-  last_only_by law k b x false bytes fits same is =
-      let r : (read_last unknown tag c.reading.read k (strict_view_of b)).result ≡ Err (custom unknown) = whole (cond-false (k == tag) _ _ same) in
-      absurd (let no : ⊥ = cc in no)
+  last_only_by law k b x equal bytes fits same is = grind arith
 
   pub last_case_lawful : IsLawful c → CasesAreLawful (last_case unknown tag c)
   last_case_lawful law = record {
@@ -127,27 +92,18 @@ module _ {A B : Type 0} (tag : ℕ) (c : Form A) (more : CasesForm B) where
   first_only law others k b (inl x) true bytes fits same is =
       let h = law.exact.only b x bytes fits (left_taken (c.reading.read (strict_view_of b)).result (c.reading.seen x) (sym (whole (cond-true (k == tag) _ _ same)) ∙ is)) in
       (h.0, eqb-true k tag same, h.1)
-  first_only law others k b (inl x) false bytes fits same is =
-      absurd (not_right (more.read k (strict_view_of b)).result (c.reading.seen x) (sym (whole (cond-false (k == tag) _ _ same)) ∙ is))
-  first_only law others k b (inr y) true bytes fits same is =
-      absurd (not_left (c.reading.read (strict_view_of b)).result (more.seen y) (sym (whole (cond-true (k == tag) _ _ same)) ∙ is))
+  first_only law others k b (inl x) false bytes fits same is = grind (arith, not_right, whole, cond-false)
+  first_only law others k b (inr y) true bytes fits same is = grind (arith, not_left, whole, cond-true)
   first_only law others k b (inr y) false bytes fits same is =
       let h = others.only k b y bytes fits (right_taken (more.read k (strict_view_of b)).result (more.seen y) (sym (whole (cond-false (k == tag) _ _ same)) ∙ is)) in
       let other : (more.tag y == tag) ≡ false = ap (λ n. n == tag) (sym h.1) ∙ same in
       (subst (λ b. Unless b (more.Fits y)) (sym other) h.0, h.1, h.2)
 
-  unless_fits : (s : Bool) (F G : Type 0) → (F → G) → Unless s F → Unless s G
-  unless_fits true F G f fit = absurd fit
-  unless_fits false F G f fit = f fit
-
   other_fits : CasesAreLawful more → (x y : B) → more.seen x ≡ more.seen y → Unless (more.tag x == tag) (more.Fits x) → Unless (more.tag y == tag) (more.Fits y)
-  other_fits others x y same fit =
-      subst (λ n. Unless (n == tag) (more.Fits y)) (same_written more.seen more.tag more.seen_tag others.tagged x y same)
-      (unless_fits (more.tag x == tag) (more.Fits x) (more.Fits y) (others.fits x y same) fit)
+  other_fits others x y same fit = grind arith
 
   first_tagged : CasesAreLawful more → (s : A ⊎ B) → (and_case tag c more).seen_tag (sum_map c.reading.seen more.seen s) ≡ (and_case tag c more).tag s
-  first_tagged others (inl x) = refl
-  first_tagged others (inr y) = others.tagged y
+  first_tagged others s = grind arith
 
   pub and_case_lawful : IsLawful c → CasesAreLawful more → CasesAreLawful (and_case tag c more)
   and_case_lawful law others = record {
@@ -173,12 +129,7 @@ module _ {A : Type 0} (cases : CasesForm A) (law : CasesAreLawful cases) where
   opened d = (envelope_of cases.read d).result
 
   pub envelope_strings : ReadsStrings cases.Fits (envelope cases) cases.seen (seen_envelope cases) opened
-  envelope_strings = record {
-    back = λ x fit short. law.back true (encoding (cases.item x)) x (omega arith) fit refl;
-    only = envelope_only;
-    fits = law.fits;
-    same = λ x. let tag = law.tagged x in let item = law.written x in cc;
-  }
+  envelope_strings = grind (arith, envelope_only)
 
   pub enveloped_lawful : IsLawful (enveloped cases)
   enveloped_lawful =
@@ -200,22 +151,13 @@ module _ {A : Type 0} (width : ℕ) (cases : CasesForm A) (law : CasesAreLawful 
   tagged_only_by (v ∷ w ∷ []) x (one, (two, parts)) is =
       let g = goes_on ((number width).reading.read v).result (λ tag. (cases.read tag w).result) (cases.seen x) is in
       let h = item_only (number width) (number_lawful width).exact v g.value one g.is in
-      let hs = law.only g.value w.bytes x two.held two.short (ap (λ w. (cases.read g.value w).result) (sym two.is) ∙ g.then) in (
-        (subst (FitsBytes width) hs.1 h.0, hs.0),
-        ap (λ v. v ∷ w ∷ []) (h.1 ∙ ap (λ n. viewed true (encoding (number_item n))) hs.1)
-            ∙ ap (λ w. viewed true (encoding (number_item (cases.tag x))) ∷ w ∷ []) (two.is ∙ ap strict_view_of hs.2),
-      )
+      let hs = law.only g.value w.bytes x two.held two.short (ap (λ w. (cases.read g.value w).result) (sym two.is) ∙ g.then) in
+      grind (arith, goes_on, item_only, number_lawful)
   tagged_only_by vs x parts is = absurd (let no : ⊥ = cc in no)
 
   pub tagged_lawful : IsLawful (tagged_list width cases)
   tagged_lawful = record {
-    told = record {
-      fits = λ x y same fit. (
-        subst (FitsBytes width) (same_written cases.seen cases.tag cases.seen_tag law.tagged x y same) fit.0,
-        law.fits x y same fit.1,
-      );
-      written = λ x. let tag = law.tagged x in let item = law.written x in cc;
-    };
+    told = grind (arith, same_written);
     back = λ is_strict. record {
       back = λ b x fits fit holds.
           let sized = items_sized is_strict b (number_item (cases.tag x) ∷ cases.item x ∷ []) fits holds in

@@ -7,6 +7,7 @@ use crate::framed::Framed;
 use crate::items::ItemReader;
 
 /// Whether the depth of an item is at most `limit`. It goes no deeper than `limit` lists.
+#[tactic(auto, using(crate::proofs::Lemmas::Texts::nested))]
 pub fn is_nested_within(framed: &Framed<'_>, limit: usize) -> bool
     ensures { IsTrue result ↔ (depth framed.now.item.now ≤ limit) }
 {

@@ -89,6 +89,7 @@ impl fmt::Display for DecoderError {
 
     ghost styled_output = { λ e _. Some (error_name e) };
 
+    #[tactic(auto, using(crate::proofs::Pieces::pieces))]
     fn fmt<W: fmt::Write>(&self, f: &mut fmt::Formatter<W>) -> fmt::Result {
         match self.name() {
             Ok(name) => f.write_str(name),

@@ -47,6 +47,7 @@ pub fn begins_as_list(bytes: &[u8]) -> bool
 /// Returns the item that the bytes begin with and the bytes that follow it, or the fault of the
 /// bytes. It reads the item's header once.
 #[inline(always)]
+#[tactic(auto, using(crate::proofs::Lemmas::Fronts::first_items))]
 pub fn first_framed<'a>(bytes: &'a [u8]) -> Result<(Framed<'a>, &'a [u8]), DecoderError>
     ensures header { MatchResult result (λ r. framing bytes.now ≡ Ok r.0.header)
         (λ e. framing bytes.now ≡ Err e) }
@@ -78,6 +79,7 @@ pub fn first_framed<'a>(bytes: &'a [u8]) -> Result<(Framed<'a>, &'a [u8]), Decod
 /// that follow it. The first byte of the string tells where the string ends. `None` says nothing
 /// about the bytes.
 #[inline(always)]
+#[tactic(auto, using(rlp_format::proofs::Lemmas::Digits::bytes_held, crate::proofs::Lemmas::Frames::split_short))]
 pub(crate) fn short_framed<'a>(bytes: &'a [u8]) -> Option<(&'a [u8], &'a [u8])>
     ensures parts { IfSome result (λ r. split bytes.now ≡ r.0.now ∷ split r.1.now) }
     ensures whole { IfSome result (λ r. bytes.now ≡ r.0.now ++ r.1.now) }
@@ -95,7 +97,7 @@ pub(crate) fn short_framed<'a>(bytes: &'a [u8]) -> Option<(&'a [u8], &'a [u8])>
 
 /// Returns the header of framed bytes, or the fault of bytes that aren't framed.
 #[inline(always)]
-#[tactic(auto, unfolding(crate::specs::Format::Framing::framing))]
+#[tactic(auto, using(crate::proofs::Lemmas::Frames::header_some, crate::proofs::Lemmas::Frames::header_within), unfolding(crate::specs::Format::Framing::framing))]
 pub fn framing_of(bytes: &[u8]) -> Result<PayloadInfo, DecoderError>
     ensures exact { result ≡ framing bytes.now }
     ensures within { IfOk result (λ p. (0 < total_len p) × (total_len p ≤ length bytes.now)) }

@@ -29,6 +29,7 @@ impl PayloadInfo {
     /// `RlpDataLenWithZeroPrefix` or `RlpListLenWithZeroPrefix` if the length of a string or list
     /// begins with a zero byte, and with `RlpInvalidIndirection` if a length up to 55 isn't written
     /// in the first byte.
+    #[tactic(auto, using(rlp_format::proofs::Lemmas::Digits::bytes_held, crate::proofs::Lemmas::Reading::header_reads))]
     pub fn from(header_bytes: &[u8]) -> Result<PayloadInfo, DecoderError>
         ensures read { ReadsHeader header_bytes.now result }
         ensures exact { result ≡ header header_bytes.now }
@@ -56,7 +57,7 @@ impl PayloadInfo {
 
 /// Reads the header by the table of first bytes. Only the proof of this function unfolds `header`.
 #[inline(always)]
-#[tactic(auto, unfolding(crate::specs::Format::Framing::header))]
+#[tactic(auto, using(crate::proofs::Lemmas::Strings::first_headers), unfolding(crate::specs::Format::Framing::header))]
 fn header_by_first_byte(bytes: &[u8]) -> Result<PayloadInfo, DecoderError>
     ensures { result ≡ header bytes.now }
 {

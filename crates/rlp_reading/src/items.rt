@@ -92,7 +92,7 @@ impl<'a> ItemReader<'a> {
 
     /// Goes on to the items of the next list, by its header. If there is no framed list, it returns
     /// `false` and nothing is left.
-    #[tactic(auto, unfolding(crate::specs::Format::Framing::payload))]
+    #[tactic(auto, using(crate::proofs::Lemmas::Numbered::entered), unfolding(crate::specs::Format::Framing::payload))]
     pub fn enter_list(&mut self) -> bool
         ensures rest { self.new.rest ≡ payload self.old.rest }
         ensures framed { IsTrue result → (begins_as_list self.old.rest ≡ true)
@@ -134,6 +134,7 @@ pub fn count_items(payload: &[u8]) -> usize
 
 /// The number of items in a payload that has nothing but items, or the fault of the bytes that
 /// follow the items.
+#[tactic(auto, using(crate::proofs::Lemmas::Numbered::none_left))]
 pub fn try_count_items(payload: &[u8]) -> Result<usize, DecoderError>
     ensures fault { MatchResult result (λ _. fault_of_some (after_items payload.now) ≡ None)
         (λ e. fault_of_some (after_items payload.now) ≡ Some e) }

@@ -7,6 +7,7 @@ use crate::error::DecoderError;
 use rlp_format::digits::number_of;
 
 /// The string that the bytes begin with, without its header.
+#[tactic(auto, using(rlp_format::proofs::Lemmas::Digits::bytes_held, crate::proofs::Lemmas::Strings::string_reads))]
 pub fn string_in(bytes: &[u8]) -> Result<&[u8], DecoderError>
     ensures exact { MatchResult result (λ d. read_string bytes.now ≡ Ok d.now)
         (λ e. read_string bytes.now ≡ Err e) }
@@ -16,7 +17,7 @@ pub fn string_in(bytes: &[u8]) -> Result<&[u8], DecoderError>
 }
 
 /// The string, by the table of first bytes. Only the proof of this function unfolds `read_string`.
-#[tactic(auto, unfolding(crate::specs::Format::Framing::read_string))]
+#[tactic(auto, using(crate::proofs::Lemmas::Strings::first_strings), unfolding(crate::specs::Format::Framing::read_string))]
 fn string_by_first_byte(bytes: &[u8]) -> Result<&[u8], DecoderError>
     ensures { MatchResult result (λ d. read_string bytes.now ≡ Ok d.now)
         (λ e. read_string bytes.now ≡ Err e) }

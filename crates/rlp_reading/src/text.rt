@@ -15,6 +15,7 @@ use std::str::from_utf8;
 const AT_ONCE: usize = 64;
 
 /// Writes the text of bytes.
+#[tactic(auto, using(crate::proofs::Pieces::all_pieces))]
 pub fn write_text<W: fmt::Write>(f: &mut fmt::Formatter<W>, bytes: &[u8]) -> fmt::Result
     ensures { WritesStyledOnOk W.write_str_gives f.old result (text bytes.now) f.new }
 {
@@ -28,6 +29,7 @@ pub fn write_text<W: fmt::Write>(f: &mut fmt::Formatter<W>, bytes: &[u8]) -> fmt
 }
 
 /// Writes the text of framed bytes.
+#[tactic(auto, using(crate::proofs::Pieces::list_pieces))]
 fn write_framed<W: fmt::Write>(f: &mut fmt::Formatter<W>, framed: &Framed<'_>) -> fmt::Result
     ensures { WritesStyledOnOk W.write_str_gives f.old result (text framed.now.item.now) f.new }
 {
@@ -46,6 +48,7 @@ fn write_framed<W: fmt::Write>(f: &mut fmt::Formatter<W>, framed: &Framed<'_>) -
 }
 
 /// Writes the text of a string.
+#[tactic(auto, using(crate::proofs::Pieces::pieces))]
 fn write_string<W: fmt::Write>(f: &mut fmt::Formatter<W>, value: &[u8]) -> fmt::Result
     ensures { WritesStyledOnOk W.write_str_gives f.old result
         (codes "\"0x" ++ encode_lower value.now ++ codes "\"") f.new }
@@ -79,6 +82,7 @@ fn write_byte<W: fmt::Write>(f: &mut fmt::Formatter<W>, byte: u8) -> fmt::Result
 }
 
 /// Writes each byte as two digits.
+#[tactic(auto, using(crate::proofs::Pieces::digit_pieces))]
 fn write_hex<W: fmt::Write>(f: &mut fmt::Formatter<W>, bytes: &[u8]) -> fmt::Result
     ensures { WritesStyledOnOk W.write_str_gives f.old result (encode_lower bytes.now) f.new }
 {

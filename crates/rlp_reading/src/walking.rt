@@ -20,6 +20,7 @@ const EMPTY_STRING: FlatItem = FlatItem {
 };
 
 /// Whether the bytes are exactly the encoding of an item of depth at most `max_depth`.
+#[tactic(auto, using(crate::proofs::Trees::Canonical::confirmed, crate::proofs::Trees::Canonical::refuted))]
 pub fn is_canonical(bytes: &[u8], max_depth: usize) -> bool
     ensures { IsTrue result ↔ IsCanonicalWithin max_depth bytes.now }
 {
@@ -34,6 +35,7 @@ pub fn is_canonical(bytes: &[u8], max_depth: usize) -> bool
 ///
 /// It walks over the bytes twice: once for the fault and the number of items, and once to fill a
 /// vector, for which it allocates once.
+#[tactic(auto, using(crate::proofs::Trees::Walks::flattenings))]
 pub fn flatten(alloc: Global, bytes: &[u8], max_depth: usize) -> Result<Vec<FlatItem>, TreeFault>
     ensures items { IfOk result (λ v. IsFlat max_depth bytes.now v.items) }
     ensures fault { IfErr result (λ e. IsFlatFault max_depth bytes.now e) }
@@ -54,6 +56,7 @@ pub fn flatten(alloc: Global, bytes: &[u8], max_depth: usize) -> Result<Vec<Flat
 
 /// Writes the rows of the tree whose encoding the bytes are, and returns their number, or the first
 /// fault of the bytes. A row that has no room isn't written.
+#[tactic(auto, using(crate::proofs::Trees::Walks::whole_walks))]
 pub fn walk_whole<R: FlatRow>(
     bytes: &[u8],
     max_depth: usize,
@@ -73,6 +76,7 @@ pub fn walk_whole<R: FlatRow>(
 
 /// Writes the rows of an item behind the first `count` rows, and returns the new number of rows, or
 /// the item's first fault within `left` lists. A row that has no room isn't written.
+#[tactic(auto, using(crate::proofs::Trees::Walks::walks))]
 fn walk<R: FlatRow>(
     framed: &Framed<'_>,
     place: usize,
@@ -133,6 +137,7 @@ fn walk<R: FlatRow>(
 
 /// Writes the row of a string, as [`walk`] does.
 #[inline(always)]
+#[tactic(auto, using(crate::proofs::Trees::Walks::walked_strings))]
 fn put_string<R: FlatRow>(
     framed: &Framed<'_>,
     place: usize,
@@ -168,6 +173,7 @@ fn put_string<R: FlatRow>(
 
 /// Writes a row at its number, if there is room.
 #[inline(always)]
+#[tactic(auto, using(crate::proofs::Trees::Canonical::puts))]
 pub fn put<R: Copy>(out: &mut [R], count: usize, row: R)
     ensures { Extends out.old count (row ∷ []) out.new }
 {

@@ -1,6 +1,6 @@
 -- For bodies that read a value after a byte that says what it is.
-use Rattle.std.proofs.Common.{◌≡◌, ◌≢◌, ◌≤◌, ◌-◌, ◌^◌, ◌<◌, ℕ, Bool, true, false, List, [], ◌∷◌, ◌==◌, length, take, drop, take_all, get_or, refl, sym, ap, ◌∙◌}
-use Rattle.std.proofs.{Common.{◌⊎◌, inl, inr, arith, eq-eqb, Result, Ok, Err, IfOk, IfErr, IsOkAnd}, lemmas.Bool.{cond-true, cond-false, eqb-true}}
+use Rattle.std.proofs.Common.{◌≡◌, ◌≢◌, ◌≤◌, ◌-◌, ◌^◌, ◌<◌, ℕ, true, List, [], ◌∷◌, ◌==◌, length, take, drop, take_all, get_or, refl, sym, ap, ◌∙◌}
+use Rattle.std.proofs.{Common.{◌⊎◌, inl, inr, arith, eq-eqb, Result, Ok, Err, IfOk, IfErr, IsOkAnd}, lemmas.Bool.Decides.nat_tests}
 use Rattle.rlp.specs.{DecoderError.DecoderError, Format.Encoding.{Item, encoding, AreBytes}, Values.Value.AreAlike, Views.View.{View, strict_view_of}}
 use Rattle.rlp_reading.specs.{Form.{Answer, Fault, Form, custom, fault_of}, Laws.IsLawful, Sums.last_case}
 use Rattle.rlp_reading.proofs.{StringLaws.ReadsStrings, SumLaws.{envelope_strings, last_case_lawful}}
@@ -9,23 +9,17 @@ use Rattle.rlp_records.specs.Envelope.{read_after}
 module _ {M : Type 0} (kind : ℕ) (other : List ℕ) (read : View → Answer M Fault) where
   -- bytes whose first is the byte give what the rest gives
   pub after_kind : (d payload : List ℕ) → d ≡ kind ∷ payload → (read_after kind other read d).result ≡ (read (strict_view_of payload)).result
-  after_kind d payload is =
-      ap (λ d. (read_after kind other read d).result) is ∙ ap (λ (a : Answer M Fault). a.result) (cond-true (kind == kind) _ _ (eq-eqb kind kind refl))
-
-  after_other_by : (first : ℕ) (payload : List ℕ) (same : Bool) → (first == kind) ≡ same → ((rest : List ℕ) → first ∷ payload ≢ kind ∷ rest)
-      → (read_after kind other read (first ∷ payload)).result ≡ Err (custom other)
-  after_other_by first payload true same differ = absurd (differ payload (ap (λ k. k ∷ payload) (eqb-true first kind same)))
-  after_other_by first payload false same differ = ap (λ (a : Answer M Fault). a.result) (cond-false (first == kind) _ _ same)
+  after_kind d payload is = ap (λ d. (read_after kind other read d).result) is ∙ (let same : (kind == kind) ≡ true = eq-eqb kind kind refl in grind arith)
 
   -- bytes that are empty or begin with another byte give a custom fault
   pub after_other : (d : List ℕ) → ((payload : List ℕ) → d ≢ kind ∷ payload) → (read_after kind other read d).result ≡ Err (custom other)
   after_other [] differ = refl
-  after_other (first ∷ payload) differ = after_other_by first payload (first == kind) refl differ
+  after_other (first ∷ payload) differ = grind (arith, nat_tests, differ payload)
 
 -- bytes whose first is the byte, and the rest of them
 pub with_first : (kind : ℕ) (d : List ℕ) → 1 ≤ length d → get_or d 0 0 ≡ kind → d ≡ kind ∷ take (length d - 1) (drop 1 d)
 with_first kind [] some first = absurd (omega arith)
-with_first kind (b ∷ d) some first = ap (λ k. k ∷ d) first ∙ ap (λ p. kind ∷ p) (sym (take_all (length (b ∷ d) - 1) d (omega arith)))
+with_first kind (b ∷ d) some first = grind (arith, take_all (length d) d)
 
 module _ {A : Type 0} (kind : ℕ) (other : List ℕ) (c : Form A) (law : IsLawful c) where
   after_only : (d : List ℕ) (x : A) → AreBytes d → length d < 2 ^ 64 → (read_after kind other c.reading.read d).result ≡ Ok (c.reading.seen x)

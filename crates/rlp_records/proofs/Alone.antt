@@ -1,5 +1,5 @@
 -- Values of several types by themselves, as in EIP-2718: the bytes of a value are read back, and no other bytes are read.
-use Rattle.std.proofs.Common.{◌≡◌, ℕ, ◌^◌, ◌<◌, ◌⊎◌, inl, inr, Bool, true, false, List, [], length, refl, sym, ap, ◌∙◌, append-nil, Result, Ok, Err}
+use Rattle.std.proofs.Common.{◌≡◌, ℕ, ◌^◌, ◌<◌, ◌⊎◌, inl, inr, true, List, [], length, refl, sym, ap, ◌∙◌, append-nil, arith, Result, Ok}
 use Rattle.std.proofs.lemmas.Bool.{cond-true, cond-false, lt-leb}
 use Rattle.rlp.specs.{Format.Encoding.{Item, is_list, list, string, encoding, AreBytes}, Format.Framing.begins_as_list, Values.Sums.{OnSum, sum_item}}
 use Rattle.rlp_reading.proofs.{Lemmas.Views.list_first, StringLaws.ReadsStrings, SumLaws.{envelope_strings, sums_fit, sums_written}}
@@ -24,20 +24,16 @@ result_same {M} same = ap (λ (a : Answer M Fault). a.result) same
 -- ---- a value that was put on one side
 
 pub left_only : {M N : Type 0} (r : Result M Fault) (x : M) → map_value {B = M ⊎ N} inl r ≡ Ok (inl x) → r ≡ Ok x
-left_only (Ok y) x is = cc
-left_only (Err e) x is = absurd (let no : ⊥ = cc in no)
+left_only r x is = grind arith
 
 pub right_only : {M N : Type 0} (r : Result N Fault) (y : N) → map_value {B = M ⊎ N} inr r ≡ Ok (inr y) → r ≡ Ok y
-right_only (Ok x) y is = cc
-right_only (Err e) y is = absurd (let no : ⊥ = cc in no)
+right_only r y is = grind arith
 
 pub not_left : {M N : Type 0} (r : Result M Fault) (y : N) → map_value {B = M ⊎ N} inl r ≡ Ok (inr y) → ⊥
-not_left (Ok x) y is = cc
-not_left (Err e) y is = cc
+not_left r y is = grind arith
 
 pub not_right : {M N : Type 0} (r : Result N Fault) (x : M) → map_value {B = M ⊎ N} inr r ≡ Ok (inl x) → ⊥
-not_right (Ok y) x is = cc
-not_right (Err e) x is = cc
+not_right r x is = grind arith
 
 -- ---- values of the sum
 
@@ -70,21 +66,16 @@ module _ {A B : Type 0} (c : Form A) (cases : CasesForm B) where
         result_same (cond-false (begins_as_list (envelope cases y)) _ _ (lt-leb 0xc0 (cases.tag y) (low y)))
         ∙ ap (map_value inr) ((envelope_strings cases others).back y fit short)
 
-    alone_only : (d : List ℕ) (s : A ⊎ B) (kind : Bool) → AreBytes d → length d < 2 ^ 64 → begins_as_list d ≡ kind → alone d ≡ Ok (seen_alone s)
-        → FitsAlone s × (d ≡ sum_alone s)
-    alone_only d (inl x) true held short kind is =
-        let h = law.exact.only d x held short (left_only _ _ (sym (result_same (cond-true (begins_as_list d) _ _ kind)) ∙ is)) in
-        (h.0, h.1 ∙ sym (list_alone (c.item x) (lists x)))
-    alone_only d (inl x) false held short kind is = absurd (not_right _ _ (sym (result_same (cond-false (begins_as_list d) _ _ kind)) ∙ is))
-    alone_only d (inr y) true held short kind is = absurd (not_left _ _ (sym (result_same (cond-true (begins_as_list d) _ _ kind)) ∙ is))
-    alone_only d (inr y) false held short kind is =
-        (envelope_strings cases others).only d y held short (right_only _ _ (sym (result_same (cond-false (begins_as_list d) _ _ kind)) ∙ is))
+    alone_only : (d : List ℕ) (s : A ⊎ B) → AreBytes d → length d < 2 ^ 64 → alone d ≡ Ok (seen_alone s) → FitsAlone s × (d ≡ sum_alone s)
+    alone_only d (inl x) held short is =
+        grind (arith, law.exact.only d x held short, left_only, not_right, list_alone (c.item x) (lists x))
+    alone_only d (inr y) held short is = grind (arith, (envelope_strings cases others).only d y held short, right_only, not_left)
 
     -- the bytes of a value are read back, and no other bytes are read
     pub alone_strings : ReadsStrings FitsAlone sum_alone seen_alone written_alone alone
     alone_strings = record {
       back = alone_back;
-      only = λ d s held short is. alone_only d s (begins_as_list d) held short refl is;
+      only = alone_only;
       fits = sums_fit c.reading.seen cases.seen c.Fits cases.Fits law.told.fits others.fits;
       same = λ s. ap bytes_alone
           (sums_written c.reading.seen cases.seen c.item (λ y. string (envelope cases y)) c.reading.item (λ m. string (seen_envelope cases m)) law.told.written

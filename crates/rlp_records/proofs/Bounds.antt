@@ -1,7 +1,7 @@
 -- What the walk over bytes, and the count of what is in their envelopes, say of the items in them.
 use Rattle.std.specs.Prelude.{codes}
-use Rattle.std.proofs.Common.{◌≡◌, ℕ, ◌+◌, ◌-◌, ◌^◌, ◌<◌, ◌≤◌, ◌⊎◌, inl, inr, Bool, true, false, ltb, Option, None, Some, List, length, refl, sym, ap, subst, ◌∙◌}
-use Rattle.std.proofs.{Common.{arith, le-ltb, lt-ltb, Result, Ok, Err, IfOk, IfErr}, lemmas.Bool.{cond-false, cond-true}}
+use Rattle.std.proofs.Common.{◌≡◌, ℕ, ◌+◌, ◌-◌, ◌^◌, ◌<◌, ◌≤◌, ◌⊎◌, inl, inr, true, false, None, Some, List, length, sym, ap, subst, ◌∙◌}
+use Rattle.std.proofs.{Common.{arith, Result, Ok, Err, IfOk, IfErr}, lemmas.Bool.{cond-false, cond-true}, lemmas.Bool.Decides.nat_tests}
 use Rattle.std.proofs.lemmas.Slice.Eq.{bytes_eq-Decides}
 use Rattle.rlp.specs.{DecoderError.DecoderError, DecoderError.TheVariants.OutOfMemory, Format.Encoding.{Item, encoding}}
 use Rattle.rlp.specs.{Format.Framing.IsCanonicalWithin, Format.TreeFaults.tree_fault, Values.RawItem.raw_item_of, Views.View.{View, strict_view_of}}
@@ -33,13 +33,10 @@ pub told_encoding : (b : List ℕ) → length b < 2 ^ 64 → IsCanonicalWithin 2
 told_encoding b short (x, is, deep) =
     (bytes_eq-Decides (encoding (raw_item_of b)) b).1 (ap encoding (raw_item_of-encoding b x short is deep) ∙ sym is)
 
-told_by : (b : List ℕ) (t : Bool) → is_encoding b ≡ t → ¬ IsCanonicalWithin 256 b → t ≡ false
-told_by b false is none = refl
-told_by b true is none = absurd (none (raw_item_of b, sym ((bytes_eq-Decides (encoding (raw_item_of b)) b).0 is), shallow_within 256 b))
-
 -- and other bytes are told not to be one
 pub told_no_encoding : (b : List ℕ) → ¬ IsCanonicalWithin 256 b → is_encoding b ≡ false
-told_no_encoding b none = told_by b (is_encoding b) refl none
+told_no_encoding b none =
+    let whole : ¬ (encoding (raw_item_of b) ≡ b) = λ is. none (raw_item_of b, sym is, shallow_within 256 b) in grind (arith, bytes_eq-Decides)
 
 -- bytes that aren't the encoding of an item within the depth have this fault as a tree
 walked_fault : (most : ℕ) (b : List ℕ) (t : TreeFault) → ¬ IsCanonicalWithin 256 b → tree_fault 256 b ≡ Some t → bound_fault most b ≡ depth_fault (Some t)
@@ -53,27 +50,28 @@ no_item most b e none is = walked_fault most b (Decoding e) none is
 
 module _ (most n : ℕ) (b : List ℕ) (old new : List FlatItem) (walked : IsWalked (λ item. item) b 0 0 256 old 0 new n) (short : length b < 2 ^ 64) where
   -- the fault is by the number of items
-  by_count : (r : Option Fault) → count_fault most walked.x ≡ r → bound_fault most b ≡ r
-  by_count r is =
+  by_count : bound_fault most b ≡ count_fault most walked.x
+  by_count =
       cond-true (is_encoding b) _ _ (told_encoding b short (walked.x, walked.is, walked.deep))
-      ∙ ap (count_fault most) (raw_item_of-encoding b walked.x short walked.is walked.deep) ∙ is
+      ∙ ap (count_fault most) (raw_item_of-encoding b walked.x short walked.is walked.deep)
 
   many : most < items_in walked.x + items_in_envelopes walked.x → bound_fault most b ≡ Some (custom (codes "too many items"))
-  many more = by_count (Some (custom (codes "too many items"))) (cond-true (ltb most (items_in walked.x + items_in_envelopes walked.x)) _ _ (lt-ltb _ _ more))
+  many more = by_count ∙ grind (arith, nat_tests)
 
   few : items_in walked.x + items_in_envelopes walked.x ≤ most → bound_fault most b ≡ None
-  few less = by_count None (cond-false (ltb most (items_in walked.x + items_in_envelopes walked.x)) _ _ (le-ltb _ _ less))
+  few less = by_count ∙ grind (arith, nat_tests)
+
+  -- an item within the bounds is this one
+  small_within : IsWithinBounds most b → items_in walked.x + items_in_envelopes walked.x ≤ most
+  small_within within =
+      subst (λ x. items_in x + items_in_envelopes x ≤ most) (one_item b short within.x walked.x within.is walked.is) within.bounded.0
 
   -- more rows were counted than an item may have
   pub more_items : most < n → bound_fault most b ≡ Some (custom (codes "too many items"))
   more_items more = many (let total = walked.total in omega (arith, total, more))
 
   pub not_more : most < n → ¬ IsWithinBounds most b
-  not_more more within =
-      let total = walked.total in
-      let P : Item → Type 0 = λ x. items_in x + items_in_envelopes x ≤ most in
-      let small : items_in walked.x + items_in_envelopes walked.x ≤ most = subst P (one_item b short within.x walked.x within.is walked.is) within.bounded.0 in
-      omega (arith, total, more, small)
+  not_more more within = let total = walked.total in omega (arith, total, more, small_within within)
 
   module _ (k : ℕ) (inside : (x : Item) → b ≡ encoding x → k ≡ items_in_envelopes x) where
     few_counted : n ≤ most → k ≤ most - n → items_in walked.x + items_in_envelopes walked.x ≤ most
@@ -91,12 +89,7 @@ module _ (most n : ℕ) (b : List ℕ) (old new : List FlatItem) (walked : IsWal
     more_inside less more = many (let total = walked.total in omega (arith, total, less, more, inside walked.x walked.is))
 
     pub not_more_inside : n ≤ most → most - n < k → ¬ IsWithinBounds most b
-    not_more_inside few more within =
-        let total = walked.total in
-        let P : Item → Type 0 = λ x. items_in x + items_in_envelopes x ≤ most in
-        let small : items_in walked.x + items_in_envelopes walked.x ≤ most =
-        subst P (one_item b short within.x walked.x within.is walked.is) within.bounded.0 in
-        omega (arith, total, few, more, small, inside walked.x walked.is)
+    not_more_inside few more within = let total = walked.total in omega (arith, total, few, more, small_within within, inside walked.x walked.is)
 
 -- for the test of the bounds
 pub ruleset bounding = (no_item, too_deep, none_within, more_items, not_more, few_inside, more_inside, not_more_inside)

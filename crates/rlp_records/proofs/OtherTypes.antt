@@ -1,20 +1,17 @@
 -- Values of every type by themselves, also of the types that aren't known: the bytes of a value are read back, and no other bytes are read.
-use Rattle.std.proofs.Common.{◌≡◌, ℕ, ◌^◌, ◌<◌, ◌≤◌, ◌⊎◌, inl, inr, Bool, true, false, IsTrue, List, [], ◌∷◌, length, refl, sym, ap, ◌∙◌, subst}
-use Rattle.std.proofs.{Common.{Result, Ok, Err, arith, le-ltb, leb-true, ltb}, lemmas.Bool.{cond-true, cond-false}}
+use Rattle.std.proofs.Common.{◌≡◌, ℕ, ◌^◌, ◌<◌, ◌⊎◌, inl, inr, Bool, true, false, IsTrue, List, [], ◌∷◌, length, refl, subst}
+use Rattle.std.proofs.{Common.{Result, Ok, arith}, lemmas.Bool.Decides.nat_tests}
 use Rattle.rlp.specs.{Format.Encoding.{AreBytes, Item, is_list, string}, Format.Framing.begins_as_list, Values.Sums.{OnSum, sum_item}}
-use Rattle.rlp_reading.specs.{Form.{Answer, Fault, map_value}, Sums.{CasesForm, envelope, sum_map}}
+use Rattle.rlp_reading.specs.{Form.{Answer, Fault}, Sums.{CasesForm, envelope, sum_map}}
 use Rattle.rlp_reading.proofs.{StringLaws.ReadsStrings, SumLaws.sums_fit}
-use Rattle.rlp_records.proofs.{Alone.list_alone_begins, Bytes.strings_held, TypedSums.typed_strings}
-use Rattle.rlp_records.specs.{Alone.bytes_alone, OtherEnvelope.{is_other, is_other_type}, OtherStrings.{is_known, string_or}}
+use Rattle.rlp_records.proofs.{Alone.{left_only, list_alone_begins, not_left}, Bytes.strings_held, TypedSums.typed_strings}
+use Rattle.rlp_records.specs.{Alone.bytes_alone, OtherEnvelope.{is_other, is_other_type, string_or}, OtherStringLaws.is_known}
 use Rattle.rlp_records.specs.{Eip2718.{TypedSum, typed, typed_alone}, KnownOrOther.{any_alone, value_or_bytes, with_others}}
 
 -- a list isn't the bytes of another type
 pub list_known : (d : List ℕ) → begins_as_list d ≡ true → is_other d ≡ false
 list_known [] kind = refl
-list_known (first ∷ rest) kind =
-    let above : 0xc0 ≤ first = leb-true 0xc0 first kind in
-    let large : ltb first 0x80 ≡ false = le-ltb first 0x80 (omega (arith, above)) in
-    cc
+list_known (first ∷ rest) kind = grind (arith, nat_tests)
 
 -- the bytes of a value of a type that is known aren't the bytes of another type
 pub known_bytes : {A B : Type 0} (item : A → Item) (cases : CasesForm B) → ((x : A) → is_list (item x) ≡ true) → ((y : B) → is_other_type (cases.tag y) ≡ false)
@@ -33,28 +30,14 @@ module _ {A M : Type 0} (is : List ℕ → Bool) (Fits : A → Type 0) (item : A
   abbrev read_or : List ℕ → Result (M ⊎ List ℕ) Fault
   read_or d = (string_or is (read d) (Ok d)).result
 
-  result_same : {N : Type 0} {a b : Answer N Fault} → a ≡ b → a.result ≡ b.result
-  result_same {N} same = ap (λ (a : Answer N Fault). a.result) same
-
   or_back : (s : A ⊎ List ℕ) → OnSum Fits (λ d. IsTrue (is d)) s → length (bytes_or s) < 2 ^ 64 → read_or (bytes_or s) ≡ Ok (sum_map seen (λ d. d) s)
-  or_back (inl x) fit short = result_same (cond-false (is (bytes_alone (item x))) _ _ (apart x short)) ∙ ap (map_value inl) (law.back x fit short)
-  or_back (inr d) fit short = result_same (cond-true (is d) _ _ fit)
+  or_back (inl x) fit short = grind (arith, apart x short, law.back x fit short)
+  or_back (inr d) fit short = grind arith
 
-  value_only : (d : List ℕ) (s : A ⊎ List ℕ) (r : Result M Fault) → AreBytes d → length d < 2 ^ 64 → (read d).result ≡ r
-      → map_value {B = M ⊎ List ℕ} inl r ≡ Ok (sum_map seen (λ d. d) s) → OnSum Fits (λ d. IsTrue (is d)) s × (d ≡ bytes_or s)
-  value_only d (inl x) (Ok y) held short read given = law.only d x held short (read ∙ ap Ok (let same : y ≡ seen x = cc in same))
-  value_only d (inr e) (Ok y) held short read given = absurd (let no : ⊥ = cc in no)
-  value_only d s (Err e) held short read given = absurd (let no : ⊥ = cc in no)
-
-  or_only : (d : List ℕ) (s : A ⊎ List ℕ) (told : Bool) → AreBytes d → length d < 2 ^ 64 → is d ≡ told → read_or d ≡ Ok (sum_map seen (λ d. d) s)
+  or_only : (d : List ℕ) (s : A ⊎ List ℕ) → AreBytes d → length d < 2 ^ 64 → read_or d ≡ Ok (sum_map seen (λ d. d) s)
       → OnSum Fits (λ d. IsTrue (is d)) s × (d ≡ bytes_or s)
-  or_only d s false held short told given = value_only d s (read d).result held short refl (sym (result_same (cond-false (is d) _ _ told)) ∙ given)
-  or_only d (inl x) true held short told given =
-      let r : read_or d ≡ Ok (inr d) = result_same (cond-true (is d) _ _ told) in absurd (let no : ⊥ = cc in no)
-  or_only d (inr e) true held short told given =
-      let r : read_or d ≡ Ok (inr d) = result_same (cond-true (is d) _ _ told) in
-      let same : d ≡ e = cc in
-      (subst (λ d. IsTrue (is d)) same told, same)
+  or_only d (inl x) held short given = grind (arith, law.only d x held short, left_only {N = List ℕ} (read d).result (seen x))
+  or_only d (inr e) held short given = grind (arith, not_left {M = M} {N = List ℕ} (read d).result e)
 
   written_by : (s : A ⊎ List ℕ) → bytes_alone (sum_item written string (sum_map seen (λ d. d) s)) ≡ bytes_or s
   written_by (inl x) = law.same x
@@ -63,7 +46,7 @@ module _ {A M : Type 0} (is : List ℕ → Bool) (Fits : A → Type 0) (item : A
   pub or_strings : ReadsStrings (OnSum Fits (λ d. IsTrue (is d))) bytes_or (sum_map seen (λ d. d)) (λ m. bytes_alone (sum_item written string m)) read_or
   or_strings = record {
     back = or_back;
-    only = λ d s held short given. or_only d s (is d) held short refl given;
+    only = or_only;
     fits = sums_fit seen (λ d. d) Fits (λ d. IsTrue (is d)) law.fits (λ d e same. subst (λ d. IsTrue (is d)) same);
     same = written_by;
   }

@@ -1,8 +1,8 @@
 -- Where a value of a type, or a string of another, can't be read.
-use Rattle.std.specs.Prelude.{ℕ, ◌≡◌, ◌⊎◌, ◌++◌, Bool, true, false, List, IfSome, OnOk, Result, Ok, Err}
-use Rattle.std.proofs.{Common.{inl, refl, sym, subst}, lemmas.Bool.{cond-true, cond-false}}
+use Rattle.std.specs.Prelude.{ℕ, ◌≡◌, ◌⊎◌, ◌++◌, Bool, List, IfSome, OnOk, Result, Ok, Err}
+use Rattle.std.proofs.Common.{arith, inl}
 use Rattle.rlp_reading.specs.Form.{Answer, Fault, IsPlaced, Path, map_value, path_unless}
-use Rattle.rlp_records.specs.OtherStrings.{string_or}
+use Rattle.rlp_records.specs.OtherEnvelope.{string_or}
 
 -- f applied to the value leaves the fault where it was
 mapped : {A B : Type 0} (f : A → B) (r : Result A Fault) (q old new : Path) → IfSome (path_unless r q) (λ path. new ≡ old ++ path)
@@ -13,12 +13,7 @@ mapped f (Err e) q old new is = is
 -- a view that isn't a string of another type has the fault of the type
 placed : {M : Type 0} (told : List ℕ → Bool) (a : Answer M Fault) (r : Result (List ℕ) Fault) (old new : Path) → IsPlaced a old new
     → IsPlaced (string_or told a r) old new
-placed {M} told a (Ok d) old new is = by (told d) refl
-  where
-    by : (b : Bool) → told d ≡ b → IsPlaced (string_or told a (Ok d)) old new
-    by true same = subst (λ (s : Answer (M ⊎ List ℕ) Fault). IsPlaced s old new) (sym (cond-true (told d) _ _ same)) tt
-    by false same =
-        subst (λ (s : Answer (M ⊎ List ℕ) Fault). IsPlaced s old new) (sym (cond-false (told d) _ _ same)) (mapped inl a.result a.path old new is)
+placed {M} told a (Ok d) old new is = grind (arith, mapped {B = M ⊎ List ℕ} inl a.result a.path old new is)
 placed told a (Err e) old new is = mapped inl a.result a.path old new is
 
 pub string_placed : {M T E : Type 0} (told : List ℕ → Bool) (a : Answer M Fault) (r : Result (List ℕ) Fault) (old new : Path) (done : Result T E)

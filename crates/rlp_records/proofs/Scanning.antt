@@ -1,7 +1,7 @@
 -- The scan of the encoding of an item for envelopes, header by header.
-use Rattle.std.proofs.Common.{◌≡◌, ℕ, ◌+◌, ◌-◌, ◌^◌, ◌<◌, ◌≤◌, ⊎_elim, true, false, if◌then◌else◌, List, [], ◌∷◌, ◌++◌, length, take, drop, get_or}
+use Rattle.std.proofs.Common.{◌≡◌, ℕ, ◌+◌, ◌-◌, ◌^◌, ◌<◌, ◌≤◌, ⊎_elim, true, false, List, [], ◌∷◌, ◌++◌, length, take, drop, get_or}
 use Rattle.std.proofs.Common.{refl, sym, ap, ◌∙◌, subst, arith, length-append, append_assoc, append-nil, take_at, drop_at, zero-add, Some, None, Ok, Err}
-use Rattle.std.proofs.lemmas.Bool.{cond-false, cond-true}
+use Rattle.std.proofs.lemmas.Bool.{cond-false}
 use Rattle.rlp.specs.{DecoderError.DecoderError, FlatItem.FlatItem, PayloadInfo.PayloadInfo}
 use Rattle.rlp.specs.Format.Encoding.{Item, Items, item_and, list, listed, no_items, string, IsSized, encoding, join, join_items, written_header}
 use Rattle.rlp.specs.Format.Framing.{IsFramedItem, frame, framing, total_len, value, HasHeader, lone, payload_info, written, begins_as_list}
@@ -10,7 +10,7 @@ use Rattle.rlp_format.proofs.Lemmas.Encodings.{first_of_header, list_written, st
 use Rattle.rlp_reading.proofs.Lemmas.Frames.{encoding_item, frame_front, framed_same, framing_is, item_some, value_is}
 use Rattle.rlp_reading.proofs.RawLaws.{list_by, raw_item_of-encoding}
 use Rattle.rlp_records.proofs.{AfterByte.with_first, Bounds.{one_item, told_encoding, told_no_encoding}}
-use Rattle.rlp_records.specs.Bounded.{bytes_counted, is_encoding, is_read_type, items_in, items_in_all_envelopes, items_in_envelopes, items_in_string, payload_items}
+use Rattle.rlp_records.specs.Bounded.{bytes_counted, is_read_type, items_in, items_in_all_envelopes, items_in_envelopes, items_in_string, payload_items}
 
 -- ---- payloads
 
@@ -20,15 +20,11 @@ walk_counted b old new n short kind walked =
     let within : IsCanonicalWithin 256 b = (walked.x, walked.is, walked.deep) in
     let same : raw_item_of b ≡ walked.x = raw_item_of-encoding b walked.x short walked.is walked.deep in
     let counted : n ≡ items_in walked.x = let total = walked.total in omega (arith, total) in
-    counted ∙ ap items_in (sym same)
-    ∙ sym (cond-true (is_encoding b) (items_in (raw_item_of b)) (bytes_counted b (strict_fault b)) (told_encoding b short within))
-    ∙ sym (cond-true (begins_as_list b) (if is_encoding b then items_in (raw_item_of b) else bytes_counted b (strict_fault b)) 0 kind)
+    grind (arith, told_encoding b short within)
 
 bytes_are_counted : (b : List ℕ) (n : ℕ) → begins_as_list b ≡ true → ¬ IsCanonicalWithin 256 b → n ≡ bytes_counted b (strict_fault b)
     → n ≡ payload_items b
-bytes_are_counted b n kind none counted =
-    counted ∙ sym (cond-false (is_encoding b) (items_in (raw_item_of b)) (bytes_counted b (strict_fault b)) (told_no_encoding b none))
-    ∙ sym (cond-true (begins_as_list b) (if is_encoding b then items_in (raw_item_of b) else bytes_counted b (strict_fault b)) 0 kind)
+bytes_are_counted b n kind none counted = grind (arith, told_no_encoding b none)
 
 -- a whole list that isn't an encoding
 pub whole_counted : (b : List ℕ) → begins_as_list b ≡ true → ¬ IsCanonicalWithin 256 b → strict_fault b ≡ None → length b ≡ payload_items b
@@ -38,10 +34,11 @@ whole_counted b kind none whole = bytes_are_counted b (length b) kind none (ap (
 pub cut_counted : (b : List ℕ) (e : DecoderError) → begins_as_list b ≡ true → ¬ IsCanonicalWithin 256 b → strict_fault b ≡ Some e → 0 ≡ payload_items b
 cut_counted b e kind none faulty = bytes_are_counted b 0 kind none (ap (bytes_counted b) (sym faulty))
 
+pub ruleset payloads_counted = (walk_counted, whole_counted, cut_counted)
+
 -- a string with a type that is read, and another
 pub payload_in_string : (d payload : List ℕ) (kind n : ℕ) → d ≡ kind ∷ payload → is_read_type kind ≡ true → n ≡ payload_items payload → n ≡ items_in_string d
-payload_in_string d payload kind n is known counted =
-    counted ∙ sym (cond-true (is_read_type kind) (payload_items payload) 0 known) ∙ sym (ap items_in_string is)
+payload_in_string d payload kind n is known counted = sym (ap items_in_string is ∙ grind arith)
 
 pub none_in_string : (d payload : List ℕ) (kind : ℕ) → d ≡ kind ∷ payload → is_read_type kind ≡ false → 0 ≡ items_in_string d
 none_in_string d payload kind is other = sym (cond-false (is_read_type kind) (payload_items payload) 0 other) ∙ sym (ap items_in_string is)

@@ -1,12 +1,10 @@
 -- Values of the types of EIP-2718: what their payloads say of them, and the bytes of a value by themselves.
-use Rattle.std.proofs.Common.{◌≡◌, ℕ, ◌<◌, ◌⊎◌, inl, inr, Bool, true, false, List, [], ◌∷◌, refl, sym, ap, ◌∙◌, arith, Option, Some, None, Result, Ok, Err}
-use Rattle.std.proofs.lemmas.Bool.{cond-true, cond-false}
-use Rattle.rlp.specs.{Codec.plain, Format.Encoding.{Item, is_list, string, encoding}, Format.Framing.begins_as_list, Values.Sums.sum_item}
-use Rattle.rlp.specs.Views.View.{View, strict_view_of}
-use Rattle.rlp_reading.specs.{Form.{Answer, Fault, map_answer, string_of}, Sums.{CasesForm, envelope}}
+use Rattle.std.proofs.Common.{◌≡◌, ℕ, ◌<◌, ◌⊎◌, inl, inr, true, ◌∷◌, refl, sym, ap, ◌∙◌, arith, Some, None}
+use Rattle.rlp.specs.{Codec.plain, Format.Encoding.{Item, is_list, string, encoding}, Values.Sums.sum_item}
+use Rattle.rlp_reading.specs.{Sums.{CasesForm, envelope}}
 use Rattle.rlp_reading.proofs.StringLaws.{ReadsStrings}
 use Rattle.rlp_records.proofs.{Alone.{alone_strings, list_alone}, Bytes.strings_held}
-use Rattle.rlp_records.specs.{Alone.bytes_alone, Eip2718.{TypedSum, number_on_right, payload_item, read_payload, type_number, typed, typed_alone}}
+use Rattle.rlp_records.specs.{Alone.bytes_alone, Eip2718.{TypedSum, number_on_right, payload_item, type_number, typed, typed_alone}}
 
 module _ {A B : Type 0} (item : A → Item) (cases : CasesForm B) where
   -- the item of a value

@@ -1,10 +1,10 @@
 -- Values of the types of EIP-2718: transactions or receipts. A value of the type without a number is a list, and a value of a type with a number is an envelope.
 use Rattle.std.specs.Prelude.{ℕ, ◌≡◌, ◌<◌, ◌⊎◌, true, List, Option, Some, None, refl}
-use Rattle.std.proofs.Common.{arith, inl, inr}
-use Rattle.rlp.specs.{Codec.{Cases, Codec, and_case, enveloped, last_case, list_or_string, newtype}, Format.Encoding.{Item, is_list}}
+use Rattle.std.proofs.Common.{inl, inr}
+use Rattle.rlp.specs.{Codec.{Cases, Codec, enveloped, list_or_string, newtype}, Format.Encoding.{Item, is_list}}
 use Rattle.rlp.specs.{Values.Sums.sum_item, Views.View.View}
 use Rattle.rlp_reading.specs.Form.{Answer, Fault, map_answer}
-use Rattle.rlp_records.specs.{Alone.{read_alone, unknown_type}, OtherEnvelope.authorization_magic}
+use Rattle.rlp_records.specs.{Alone.read_alone, Envelope.four_types, OtherEnvelope.authorization_magic, OtherStringLaws.below_magic}
 
 -- The types that a value may have: the codec of the type without a number, whose values are lists, and the codecs of the types with a number, each number below the
 -- MAGIC of EIP-7702.
@@ -53,18 +53,6 @@ read_payload t None v = map_answer inl (t.legacy.reading.read v)
 read_payload t (Some kind) v = map_answer inr (t.numbered.cases.read kind v)
 
 -- ---- the types of Ethereum
-
--- Payloads of the types 1 (EIP-2930), 2 (EIP-1559), 3 (EIP-4844) and 4 (EIP-7702).
-abbrev pub four_types : {A B C D : Type 0} → Codec A → Codec B → Codec C → Codec D → Cases (A ⊎ (B ⊎ (C ⊎ D)))
-four_types a b c d = and_case 1 a (and_case 2 b (and_case 3 c (last_case unknown_type 4 d)))
-
--- each of the numbers is below the MAGIC of EIP-7702
-pub below_magic : {A B C D : Type 0} (a : Codec A) (b : Codec B) (c : Codec C) (d : Codec D) (y : A ⊎ (B ⊎ (C ⊎ D)))
-    → (four_types a b c d).cases.tag y < authorization_magic
-below_magic a b c d (inl x) = omega arith
-below_magic a b c d (inr (inl x)) = omega arith
-below_magic a b c d (inr (inr (inl x))) = omega arith
-below_magic a b c d (inr (inr (inr x))) = omega arith
 
 -- Values of the type without a number, or of one of these types. `λ x. refl` proves that a value of the type without a number is a list.
 abbrev pub typed_by : {S L A B C D : Type 0} → (S → L ⊎ (A ⊎ (B ⊎ (C ⊎ D)))) → (l : Codec L) → ((x : L) → is_list (l.item x) ≡ true)

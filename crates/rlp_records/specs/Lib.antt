@@ -8,5 +8,7 @@ pub mod Hashing
 pub mod Keccak
 pub mod KnownOrOther
 pub mod OtherEnvelope
-pub mod OtherStrings
+pub mod OtherStringLaws
 pub mod Tested
+pub mod TestedForm
+pub mod TestedLaws

@@ -58,6 +58,7 @@ fn is_read_type(kind: u8) -> bool
 
 /// Returns how many items are in the payload of an envelope, or how many bytes the payload has if
 /// it is a list that isn't an encoding.
+#[tactic(auto, using(crate::proofs::Scanning::payloads_counted))]
 fn items_in_payload(payload: &[u8]) -> usize
     ensures count { result ≡ payload_items payload.now }
     ensures few { result ≤ length payload.now }

@@ -4,7 +4,5 @@
 pub mod TextLemmas
 pub mod ItemLemmas
 pub mod Hashes
--- what bytes give
-pub mod Readings
--- lines that are shown
+-- what bytes give, and lines that are shown
 pub mod LineLemmas

@@ -7,7 +7,7 @@ use Rattle.rlp_lines.specs.{Status.status_of, declared.serving.RunFault.RunFault
 use Rattle.rlp_show.specs.{Dump.dump_of, Json.json_of, Lines.lines, Records.fault_display, Value.Value, Value.entry, Value.object, Guess.guess}
 use Rattle.rlp_show.specs.{Input.is_node_text, Input.record_bytes, Kinds.kind_name, Names.is_list, Names.kind_part, Names.naming, Shown.Shown, Shown.kind_shown}
 use Rattle.rlp_show.specs.{declared.answers.Answers.Answers, declared.answers.Form.Form, declared.answers.Form.TheVariants.Bytes}
-use Rattle.rlp_show.specs.{declared.answers.Form.TheVariants.Json, declared.answers.Form.TheVariants.Text, declared.kind.Kind.Kind}
+use Rattle.rlp_show.specs.{declared.answers.Form.TheVariants.Json, declared.answers.Form.TheVariants.Text, declared.given.Given.Given, declared.kind.Kind.Kind}
 
 -- ---- values
 
@@ -77,6 +77,10 @@ shown_text form kind name b (Err e) path =
 
 abbrev pub kind_text : Form → Kind → List ℕ → List ℕ → Shown → List ℕ
 kind_text form kind name b s = shown_text form kind name b s.result s.path
+
+-- the answer to what is given, by what its bytes give
+abbrev pub given_text : Given → Shown → List ℕ
+given_text given s = kind_text given.form given.kind given.name.now given.bytes.now s
 
 -- The name of a whole record, if its kind isn't guessed. In JSON it is the name of the kind. In lines a list has the name of its kind, and any other record has no
 -- name.

@@ -4,8 +4,8 @@ use Rattle.rlp_records.specs.Keccak.{keccak256}
 use Rattle.rlp_headers.specs.{Forks.{amsterdam_fields, cancun_fields, london_fields, prague_fields, shanghai_fields}, Header.header}
 use Rattle.rlp_headers.specs.declared.header.Header.{Header}
 use Rattle.rlp_blocks.specs.Block.{block, body}
-use Rattle.rlp_show.specs.Display.{Display, Fields, a_list, a_number, a_string, after_derived, an_object, bytes_as, derived, end, field, if_there, in_forms, in_order, one, one_if, same, through}
-use Rattle.rlp_show.specs.{Records.{hash_entries, withdrawal_display, written}, Transactions.any_transaction_display}
+use Rattle.rlp_show.specs.Display.{a_list, a_number, a_string, after_derived, an_object, bytes_as, derived, end, field, if_there, in_forms, in_order, one, one_if, same, through}
+use Rattle.rlp_show.specs.{Records.{hash_entries, withdrawal_display, written}, Transactions.any_transaction_display, Value.{Display, Fields}}
 use Rattle.rlp_show.specs.declared.sink.BytesKind.TheVariants.{Sparse}
 
 -- what is shown of the fields that a fork added
@@ -46,11 +46,11 @@ seen_hash h = header_hash (header.reading.seen h)
 abbrev pub hashed_header_display : Fields header.reading.M
 hashed_header_display = after_derived (λ h. hash_entries (header_hash h)) header_fields_display
 
-abbrev pub header_display : Display header.reading.M
+unfoldable pub header_display : Display header.reading.M
 header_display = an_object hashed_header_display
 
 -- the fields of a body, which a block has too
-abbrev pub body_fields_display : Fields body.reading.M
+unfoldable pub body_fields_display : Fields body.reading.M
 body_fields_display =
     same (codes "transactions") (a_list any_transaction_display) (same (codes "ommers") (a_list header_display) (
     one_if (codes "withdrawals") (a_list withdrawal_display)))
@@ -64,7 +64,7 @@ abbrev pub more_of_block : Fields block.reading.M
 more_of_block = derived (λ b. (same (codes "uncles") (a_list a_string) (one (codes "size") a_number)).shown (map header_hash b.1.1.0, block_size b))
 
 -- In JSON the fields of the header are fields of the block.
-abbrev pub block_display : Display block.reading.M
+unfoldable pub block_display : Display block.reading.M
 block_display =
     an_object (through (λ b. ((b.0, b.0), (b.1, (b, b)))) (in_order (in_forms (one (codes "header") header_display) hashed_header_display) (
     in_order body_fields_display (in_forms end more_of_block))))

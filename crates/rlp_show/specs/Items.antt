@@ -1,13 +1,13 @@
 -- What is shown of items of any kind, and of nodes of the trie.
 use Rattle.std.specs.Prelude.{ℕ, zero, suc, ◌==◌, if◌then◌else◌, not, Bool, true, false, List, [], ◌∷◌, codes, get_or, length, map, take, Option, Some, None, Result, Ok, Err}
-use Rattle.std.proofs.{Common.{◌≡◌, ◌∙◌, refl, sym, ap, arith, inl, inr}, lemmas.Bool.Decides.nat_tests, lemmas.List.length-map}
+use Rattle.std.proofs.Common.{inl, inr}
 use Rattle.rlp_records.specs.Keccak.{keccak256}
 use Rattle.rlp.specs.Format.Encoding.{Item, Items, string, list, no_items, item_and, items_from}
-use Rattle.rlp.specs.{Values.RawItem.{item_by, item_within, raw_item_of, string_or_none}, DecoderError.DecoderError, Format.Framing.read_string}
+use Rattle.rlp.specs.{Values.RawItem.{raw_item_of, string_or_none}, DecoderError.DecoderError, Format.Framing.read_string}
 use Rattle.rlp.specs.{Format.Framing.items, Views.View.View, Views.View.item_views, Views.View.view_of}
 use Rattle.rlp_trie.specs.{HexPrefix.ends_in_leaf, TrieNodeLaws.trie_node}
-use Rattle.rlp_show.specs.Display.{Display, Fields, a_string, bytes_as, content_bytes, derived, one_if, same, through}
-use Rattle.rlp_show.specs.Value.{Value, Entries, Values, content, object, array, bytes, text, nothing, both, entry, by_form, no_values, value_and, values_of}
+use Rattle.rlp_show.specs.Display.{a_string, bytes_as, content_bytes, derived, one_if, same, through}
+use Rattle.rlp_show.specs.Value.{Fields, Value, Entries, Values, content, object, array, bytes, text, nothing, both, entry, by_form, no_values, value_and, values_of}
 use Rattle.rlp_show.specs.{Lines.digits_text, Records.written, declared.sink.BytesKind.TheVariants.Any, declared.sink.BytesKind.TheVariants.Path}
 
 -- ---- the parts of nodes
@@ -86,13 +86,13 @@ shown_within (suc most) is_node b = item_shown (shown_within most) is_node b (re
 -- ---- what is shown of an item says what the item is
 
 -- some items, and then other items
-abbrev joined : Items → Items → Items
+abbrev pub joined : Items → Items → Items
 joined no_items ys = ys
 joined (item_and x xs) ys = item_and x (joined xs ys)
 
 -- The item that a value shows. A node shows a path and an item, or its children and an item; the empty trie shows only its kind.
 abbrev mutual
-  shown_item : Value → Item
+  pub shown_item : Value → Item
   shown_item (content c) = string (content_bytes c)
   shown_item (array vs) = list (shown_items vs)
   shown_item (object (both kind (both first (entry name json v)))) = list (shown_first first (item_and (shown_item v) no_items))
@@ -103,73 +103,9 @@ abbrev mutual
   shown_first (entry name json (array vs)) xs = joined (shown_items vs) xs
   shown_first es xs = xs
 
-  shown_items : Values → Items
+  pub shown_items : Values → Items
   shown_items no_values = no_items
   shown_items (value_and v vs) = item_and (shown_item v) (shown_items vs)
-
-module _ (inside : Bool → List ℕ → Value) (within : List ℕ → Item) (back : (is_node : Bool) (b : List ℕ) → shown_item (inside is_node b) ≡ within b)
-    (strings : (b d : List ℕ) → read_string b ≡ Ok d → within b ≡ string d) where
-  items_back : (is_node : Bool) (bs : List (List ℕ))
-      → shown_items (values_of (λ (v : View). inside is_node v.bytes) (map view_of bs)) ≡ items_from (map within bs)
-  items_back is_node [] = refl
-  items_back is_node (b ∷ bs) = let first = back is_node b in let others = items_back is_node bs in cc
-
-  path_back : (b : List ℕ) (leaf : Bool) (r : Result (List ℕ) DecoderError) → read_string b ≡ r → ends_in_leaf (string_or_none r) ≡ Some leaf
-      → string (string_or_none r) ≡ within b
-  path_back b leaf (Ok d) is path = sym (strings b d is)
-  path_back b leaf (Err e) is path = absurd cc
-
-  last_back : (n : ℕ) (bs : List (List ℕ)) (v : View) → length bs ≡ suc n
-      → joined (shown_items (values_of (λ (c : View). inside true c.bytes) (take n (map view_of bs))))
-      (item_and (shown_item (inside false (get_or (map view_of bs) n v).bytes)) no_items) ≡ items_from (map within bs)
-  last_back n [] v are = absurd (omega (arith, are))
-  last_back zero (b ∷ []) v are = let last = back false b in cc
-  last_back zero (b ∷ c ∷ bs) v are = absurd (omega (arith, are))
-  last_back (suc n) (b ∷ bs) v are = let first = back true b in let others = last_back n bs v (omega (arith, are)) in cc
-
-  module _ (hash : Option (List ℕ)) where
-    pair_back : (b c : List ℕ) (kind : Option Bool) → ends_in_leaf (string_at b) ≡ kind
-        → shown_item (pair_shown inside hash kind (view_of b) (view_of c)) ≡ list (item_and (within b) (item_and (within c) no_items))
-    pair_back b c (Some leaf) is = let first = path_back b leaf (read_string b) refl is in let second = back (not leaf) c in cc
-    pair_back b c None is = ap list (items_back false (b ∷ c ∷ []))
-
-    few_back : (bs : List (List ℕ)) → shown_item (few_shown inside hash (map view_of bs)) ≡ list (items_from (map within bs))
-    few_back [] = refl
-    few_back (b ∷ []) = ap list (items_back false (b ∷ []))
-    few_back (b ∷ c ∷ []) = pair_back b c (ends_in_leaf (string_at b)) refl
-    few_back (b ∷ c ∷ d ∷ bs) = ap list (items_back false (b ∷ c ∷ d ∷ bs))
-
-    many_back : (many : Bool) (v : View) (bs : List (List ℕ)) → (length (map view_of bs) == 17) ≡ many
-        → shown_item (if many then branch_shown inside hash v (map view_of bs) else few_shown inside hash (map view_of bs)) ≡ list (items_from (map within bs))
-    many_back true v bs is = ap list (last_back 16 bs v (grind (arith, nat_tests, is, length-map bs view_of)))
-    many_back false v bs is = few_back bs
-
-    pub node_back : (bs : List (List ℕ)) → shown_item (node_shown inside hash (map view_of bs)) ≡ list (items_from (map within bs))
-    node_back [] = refl
-    node_back (b ∷ bs) = many_back (length (map view_of (b ∷ bs)) == 17) (view_of b) (b ∷ bs) refl
-
-  item_back : (is_node : Bool) (b : List ℕ) (r : Result (List ℕ) DecoderError) → shown_item (item_shown inside is_node b r) ≡ item_by within b r
-  item_back is_node b (Ok d) = refl
-  item_back true b (Err e) = node_back None (items b)
-  item_back false b (Err e) = ap list (items_back false (items b))
-
-string_within : (most : ℕ) (b d : List ℕ) → read_string b ≡ Ok d → item_within most b ≡ string d
-unfolding item_within
-string_within zero b d is = ap (λ r. string (string_or_none r)) is
-string_within (suc most) b d is = ap (item_by (item_within most) b) is
-
-within_back : (most : ℕ) (is_node : Bool) (b : List ℕ) → shown_item (shown_within most is_node b) ≡ item_within most b
-unfolding shown_within item_within
-within_back zero is_node b = refl
-within_back (suc most) is_node b = item_back (shown_within most) (item_within most) (within_back most) (string_within most) is_node b (read_string b)
-
--- items that are shown alike are equal
-pub raw_apart : (b c : List ℕ) → shown_within 256 false b ≡ shown_within 256 false c → raw_item_of b ≡ raw_item_of c
-raw_apart b c is = sym (within_back 256 false b) ∙ ap shown_item is ∙ within_back 256 false c
-
--- items that are kept as the bytes of their encodings
-abbrev pub raw_item_display : Display (List ℕ)
-raw_item_display = record { shown = shown_within 256 false; Told = Item; told = raw_item_of; apart = raw_apart }
 
 -- ---- standalone nodes
 
@@ -186,14 +122,3 @@ whole_node (inr m) = hashed_node (written trie_node.reading (inr m))
 abbrev pub node_told : trie_node.reading.M → Item
 node_told (inl empty) = string []
 node_told (inr m) = list (items_from (map raw_item_of (items (written trie_node.reading (inr m)))))
-
-told_back : (m : trie_node.reading.M) → shown_item (whole_node m) ≡ node_told m
-told_back (inl empty) = refl
-told_back (inr m) =
-    node_back (shown_within 256) raw_item_of (within_back 256) (string_within 256) (Some (keccak256 (written trie_node.reading (inr m)))) (items (written trie_node.reading (inr m)))
-
-pub node_apart : (m n : trie_node.reading.M) → whole_node m ≡ whole_node n → node_told m ≡ node_told n
-node_apart m n is = sym (told_back m) ∙ ap shown_item is ∙ told_back n
-
-abbrev pub node_display : Display trie_node.reading.M
-node_display = record { shown = whole_node; Told = Item; told = node_told; apart = node_apart }

@@ -6,6 +6,7 @@ pub mod Value
 pub mod Lines
 pub mod Json
 -- how the values of a type are shown, by its parts
+pub mod DisplayLaws
 pub mod Display
 -- where contents stand in the encoding
 pub mod Dump
@@ -14,13 +15,14 @@ pub mod Records
 -- items, nodes of the trie and node records
 pub mod Items
 pub mod NodeRecords
+pub mod ItemLaws
+pub mod ItemDisplays
 -- transactions and blocks
 pub mod Transactions
 pub mod Blocks
 -- messages
 pub mod Messages
 -- the kinds of messages and of records
-pub mod MessageKinds
 pub mod Kinds
 -- the kind of a record that isn't named
 pub mod Guess

@@ -1,12 +1,12 @@
 -- What is shown of messages of `p2p` and `eth`.
 use Rattle.std.proofs.Common.{inl, inr}
-use Rattle.std.specs.Prelude.{ℕ, ◌∷◌, ◌≡◌, List, None, Option, Some, [], codes}
+use Rattle.std.specs.Prelude.{ℕ, ◌∷◌, List, None, Option, Some, [], codes, refl}
 use Rattle.rlp_messages.specs.Eth.Announcements.{block_range_update, new_block, new_block_hash, new_pooled_transaction_hashes}
 use Rattle.rlp_messages.specs.{Eth.HashOrNumberLaws.hash_or_number, Eth.Receipts.receipt69, Eth.Requests.get_block_headers}
 use Rattle.rlp_messages.specs.{Eth.Status.{fork_id, status68, status69}, P2p.Disconnect.disconnect, P2p.Hello.{capability, further_fields, hello}}
 use Rattle.rlp_show.specs.Blocks.{block_display}
-use Rattle.rlp_show.specs.Display.{Display, Fields, a_bit, a_content, a_list, a_number, a_string, an_object, bytes_as, end, field, in_order, one, one_if, same, through}
-use Rattle.rlp_show.specs.{Items.raw_item_display, Records.{log_display, status_fields}, Value.{Content, bytes, number}}
+use Rattle.rlp_show.specs.Display.{a_bit, a_content, a_list, a_number, a_string, an_object, bytes_as, content_bytes, end, in_order, one, one_if, same, through}
+use Rattle.rlp_show.specs.{DisplayLaws.back_apart, ItemDisplays.raw_item_display, Records.{log_display, status_fields}, Value.{Content, Display, Fields, bytes, number}}
 use Rattle.rlp_show.specs.{declared.sink.BytesKind.TheVariants.{Any, Word}, declared.sink.NumberKind.TheVariants.Decimal}
 
 -- the reason in a list, or the reason alone, which are shown alike
@@ -14,7 +14,7 @@ abbrev pub reason_of : disconnect.reading.M → ℕ
 reason_of (inl listed) = listed.0
 reason_of (inr reason) = reason
 
-abbrev pub disconnect_display : Display disconnect.reading.M
+unfoldable pub disconnect_display : Display disconnect.reading.M
 disconnect_display = an_object (through reason_of (one (codes "reason") a_number))
 
 abbrev pub capability_display : Display capability.reading.M
@@ -34,7 +34,7 @@ abbrev pub further_display : Fields (List further_fields.reading.M)
 further_display = through if_some (one_if (codes "further") (a_list further_item_display))
 
 -- the fields, and then the items after them
-abbrev pub hello_display : Display hello.reading.M
+unfoldable pub hello_display : Display hello.reading.M
 hello_display =
     an_object (same (codes "protocol_version") a_number (same (codes "client_id") a_string (same (codes "capabilities") (a_list capability_display) (
     same (codes "listen_port") a_number (same (codes "node_id") a_string further_display)))))
@@ -44,28 +44,28 @@ hello_display =
 abbrev pub fork_id_display : Display fork_id.reading.M
 fork_id_display = an_object (same (codes "fork_hash") a_string (same (codes "fork_next") a_number end))
 
-abbrev pub status68_display : Display status68.reading.M
+unfoldable pub status68_display : Display status68.reading.M
 status68_display =
     an_object (same (codes "version") a_number (same (codes "network_id") a_number (same (codes "total_difficulty") a_number (
     same (codes "block_hash") a_string (same (codes "genesis_hash") a_string (same (codes "fork_id") fork_id_display end))))))
 
 -- the blocks that a client has, which its status has too
-abbrev pub range_display : Fields block_range_update.reading.M
+unfoldable pub range_display : Fields block_range_update.reading.M
 range_display = same (codes "earliest_block") a_number (same (codes "latest_block") a_number (same (codes "latest_block_hash") a_string end))
 
-abbrev pub status69_display : Display status69.reading.M
+unfoldable pub status69_display : Display status69.reading.M
 status69_display =
     an_object (same (codes "version") a_number (same (codes "network_id") a_number (same (codes "genesis_hash") a_string (
     same (codes "fork_id") fork_id_display range_display))))
 
-abbrev pub new_block_hash_display : Display new_block_hash.reading.M
+unfoldable pub new_block_hash_display : Display new_block_hash.reading.M
 new_block_hash_display = an_object (same (codes "hash") a_string (same (codes "number") a_number end))
 
-abbrev pub new_pooled_transaction_hashes_display : Display new_pooled_transaction_hashes.reading.M
+unfoldable pub new_pooled_transaction_hashes_display : Display new_pooled_transaction_hashes.reading.M
 new_pooled_transaction_hashes_display =
     an_object (same (codes "types") a_string (same (codes "sizes") (a_list a_number) (same (codes "hashes") (a_list a_string) end)))
 
-abbrev pub new_block_display : Display new_block.reading.M
+unfoldable pub new_block_display : Display new_block.reading.M
 new_block_display = an_object (same (codes "block") block_display (same (codes "total_difficulty") a_number end))
 
 -- ---- requests and their answers
@@ -79,22 +79,23 @@ abbrev pub hash_or_number_content : hash_or_number.reading.M → Content
 hash_or_number_content (inl hash) = bytes Any hash
 hash_or_number_content (inr n) = number Decimal n
 
-pub hash_or_number_apart : (x y : hash_or_number.reading.M) → hash_or_number_content x ≡ hash_or_number_content y → x ≡ y
-hash_or_number_apart (inl h) (inl k) is = cc
-hash_or_number_apart (inr n) (inr m) is = cc
-hash_or_number_apart _ _ is = absurd cc
+-- the hash or the number in a content
+abbrev hash_or_number_of : Content → hash_or_number.reading.M
+hash_or_number_of (number kind n) = inr n
+hash_or_number_of c = inl (content_bytes c)
 
 -- a block by its hash or its number
 abbrev pub hash_or_number_display : Display hash_or_number.reading.M
-hash_or_number_display = a_content hash_or_number_content hash_or_number_apart
+hash_or_number_display =
+    a_content hash_or_number_content (back_apart hash_or_number_content hash_or_number_of (elim [ inl hash ↦ refl | inr n ↦ refl ]))
 
-abbrev pub get_block_headers_display : Display get_block_headers.reading.M
+unfoldable pub get_block_headers_display : Display get_block_headers.reading.M
 get_block_headers_display =
     an_object (same (codes "start_block") hash_or_number_display (same (codes "limit") a_number (same (codes "skip") a_number (
     same (codes "reverse") a_bit end))))
 
 -- a receipt since `eth/69`
-abbrev pub receipt69_display : Display receipt69.reading.M
+unfoldable pub receipt69_display : Display receipt69.reading.M
 receipt69_display =
     an_object (same (codes "transaction_type") a_number (in_order status_fields (same (codes "cumulative_gas_used") a_number (
     same (codes "logs") (a_list log_display) end))))

@@ -6,7 +6,7 @@ use Rattle.rlp_show.specs.{Value.inside, Value.item_name, declared.kind.Kind.Kin
 use Rattle.rlp_show.specs.{declared.names.Part.Part, declared.names.Record.Record}
 use Rattle.rlp_trie.specs.HexPrefix.{is_leaf_path}
 use Rattle.rlp_show.specs.declared.kind.Kind.TheVariants as kind
-use Rattle.rlp_show.specs.declared.message_kind.MessageKind.TheVariants as message
+use Rattle.rlp_show.specs.declared.kind.MessageKind.TheVariants as message
 use Rattle.rlp_show.specs.declared.names.Part.TheVariants as part
 use Rattle.rlp_show.specs.declared.names.Record.TheVariants as named
 use Rattle.rlp_show.specs.declared.names.TheConstants as table

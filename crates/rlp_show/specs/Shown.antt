@@ -13,15 +13,15 @@ use Rattle.rlp_messages.specs.Eth.Announcements.{block_range_update, new_block, 
 use Rattle.rlp_messages.specs.Eth.Receipts.{receipts, receipts69}
 use Rattle.rlp_messages.specs.Eth.Requests.{block_bodies, block_headers, get_block_bodies, get_block_headers, get_pooled_transactions, get_receipts, pooled_transactions, with_request_id_reading}
 use Rattle.rlp_messages.specs.{Eth.Status.{status68, status69}, P2p.Disconnect.disconnect, P2p.Hello.hello, P2p.P2pMessage.{ping, pong}}
-use Rattle.rlp_show.specs.{Blocks.{block_display, body_fields_display, header_display}, Display.{Display, a_list, a_string, an_object, derived, end}}
-use Rattle.rlp_show.specs.Items.{node_display}
+use Rattle.rlp_show.specs.{Blocks.{block_display, body_fields_display, header_display}, Display.{a_list, a_string, an_object, end}}
+use Rattle.rlp_show.specs.{ItemDisplays.{node_display, node_fields_display}, Value.Display}
 use Rattle.rlp_show.specs.Messages.{disconnect_display, get_block_headers_display, hello_display, new_block_display, new_block_hash_display, new_pooled_transaction_hashes_display, range_display, receipt69_display, status68_display, status69_display, with_request_id_display}
-use Rattle.rlp_show.specs.{NodeRecords.node_fields_display, Records.{account_display, any_receipt_display, withdrawal_display}}
+use Rattle.rlp_show.specs.{Records.{account_display, any_receipt_display, withdrawal_display}}
 use Rattle.rlp_show.specs.Transactions.{access_list_display, any_transaction_display, pooled_transaction_display, signed_authorization_display, unsigned_display}
 use Rattle.rlp_show.specs.{Value.Value, declared.kind.Kind.Kind}
 use Rattle.rlp_show.specs.declared.kind.Kind.TheVariants.{AccessList, Account, Authorization, Block, Body, Header, Message, Node, NodeRecord, Receipt, Transaction, Withdrawal}
-use Rattle.rlp_show.specs.declared.message_kind.MessageKind.{MessageKind}
-use Rattle.rlp_show.specs.declared.message_kind.MessageKind.TheVariants as message
+use Rattle.rlp_show.specs.declared.kind.MessageKind.{MessageKind}
+use Rattle.rlp_show.specs.declared.kind.MessageKind.TheVariants as message
 
 -- what bytes give
 abbrev pub Shown : Type 0
@@ -35,16 +35,9 @@ shown_as read shown b = map_answer shown (read (strict_view_of b))
 abbrev pub whole : {A : Type 0} (c : Codec A) → Display c.reading.M → List ℕ → Shown
 whole c d = shown_as c.reading.read d.shown
 
--- the number of a request, and what is shown of the value after the number
-abbrev pub after_number : {M : Type 0} → (M → Value) → ℕ × M → Value
-after_number shown = (with_request_id_display (derived shown)).shown
-
 -- what the bytes of a message with the number of a request give
-abbrev pub numbered_as : {A : Type 0} (r : Reading A) → (r.M → Value) → List ℕ → Shown
-numbered_as r shown = shown_as (with_request_id_reading r).read (λ m. after_number shown (m.0, m.1.0))
-
 abbrev pub numbered : {A : Type 0} (c : Codec A) → Display c.reading.M → List ℕ → Shown
-numbered c d = numbered_as c.reading d.shown
+numbered c d = shown_as (with_request_id_reading c.reading).read (λ m. (with_request_id_display d).shown (m.0, m.1.0))
 
 -- the unsigned transaction, if bytes give one, or else the signed transaction or the fault
 abbrev pub unsigned_or : Shown → Result unsigned_transaction.reading.M Fault → Shown

@@ -12,25 +12,28 @@ use Rattle.rlp_transactions.specs.{NonZeroScalar.scalar_value, PooledTransaction
 use Rattle.rlp_transactions.specs.SetCodeTransaction.{authorization_fields, set_code_transaction_fields, signed_authorization}
 use Rattle.rlp_transactions.specs.{Transaction.{any_transaction, transaction}, UnsignedTransaction.unsigned_transaction, declared.eip155.Eip155.Eip155}
 use Rattle.rlp_transactions.specs.declared.signed.Signed.{Signed}
-use Rattle.rlp_show.specs.Display.{Display, Fields, a_bit, a_content, a_list, a_number, a_quantity, a_string, after_derived, an_object, and_type, bytes_as, derived, either, end, field, field_if, if_there, in_order, last_type, no_type_entries, number_as, of_type, one, one_if, same, shown_type, through}
-use Rattle.rlp_show.specs.Records.{ends_second, hash_entries, other_apart, other_display, written}
-use Rattle.rlp_show.specs.Value.{Content, Entries, both, by_form, bytes, content, entries_if, entry, nothing, number}
+use Rattle.rlp_show.specs.Display.{a_bit, a_content, a_list, a_number, a_quantity, a_string, after_derived, an_object, and_type, bytes_as, content_bytes, derived, either, end, field, field_if, if_there, in_order, last_type, no_type_entries, number_as, of_type, one, one_if, same, through}
+use Rattle.rlp_show.specs.DisplayLaws.{back_apart}
+use Rattle.rlp_show.specs.Records.{hash_entries, or_other, written}
+use Rattle.rlp_show.specs.Value.{Content, Display, Entries, Fields, both, by_form, bytes, content, entries_if, entry, nothing, number}
 use Rattle.rlp_show.specs.{declared.sink.BytesKind.TheVariants.{Any, Null, Sparse}, declared.sink.NumberKind.TheVariants.{Decimal, LegacyV}}
+
+-- the account in a content, or none
+abbrev recipient_of : Content → recipient.reading.M
+recipient_of (bytes Any d) = (true, d)
+recipient_of c = (false, content_bytes c)
 
 -- the bytes of an account, or no bytes for a transaction that creates a contract
 abbrev pub recipient_content : recipient.reading.M → Content
 recipient_content (true, d) = bytes Any d
 recipient_content (false, d) = bytes Null d
 
-pub recipient_apart : (r s : recipient.reading.M) → recipient_content r ≡ recipient_content s → r ≡ s
-recipient_apart (true, d) (true, e) is = cc
-recipient_apart (false, d) (false, e) is = cc
-recipient_apart _ _ is = absurd cc
-
 abbrev pub recipient_display : Display recipient.reading.M
-recipient_display = a_content recipient_content recipient_apart
+recipient_display =
+    a_content recipient_content (back_apart recipient_content recipient_of (λ r.
+    elim r.0 as (λ calls. recipient_of (recipient_content (calls, r.1)) ≡ (calls, r.1)) [ true ↦ refl | false ↦ refl ]))
 
-abbrev pub access_list_item_display : Display access_list_item.reading.M
+unfoldable pub access_list_item_display : Display access_list_item.reading.M
 access_list_item_display = an_object (same (codes "address") a_string (same (codes "storage_keys") (a_list a_string) end))
 
 abbrev pub access_list_display : Display access_list.reading.M
@@ -57,13 +60,13 @@ access more = same (codes "access_list") access_list_display more
 abbrev pub legacy_display : Fields legacy_transaction_fields.reading.M
 legacy_display = same (codes "nonce") a_number (same (codes "gas_price") a_number (call (codes "to") recipient_display end))
 
-abbrev pub access_list_transaction_display : Fields access_list_transaction_fields.reading.M
+unfoldable pub access_list_transaction_display : Fields access_list_transaction_fields.reading.M
 access_list_transaction_display = chain_and_nonce (same (codes "gas_price") a_number (call (codes "to") recipient_display (access end)))
 
-abbrev pub fee_market_display : Fields fee_market_transaction_fields.reading.M
+unfoldable pub fee_market_display : Fields fee_market_transaction_fields.reading.M
 fee_market_display = chain_and_nonce (fees (call (codes "to") recipient_display (access end)))
 
-abbrev pub blob_display : Fields blob_transaction_fields.reading.M
+unfoldable pub blob_display : Fields blob_transaction_fields.reading.M
 blob_display =
     chain_and_nonce (fees (call (codes "to") a_string (access (same (codes "max_fee_per_blob_gas") a_number (
     same (codes "blob_versioned_hashes") (a_list a_string) end)))))
@@ -100,12 +103,12 @@ typed_seen seen signed x = (seen x.payload, (x.v, (scalar_value x.r, (scalar_val
 abbrev pub typed_display : {T : Type 0} → ℕ → (r : FieldsReading T) → Fields r.M → Fields (r.M × (Bool × (ℕ × (ℕ × ⊤))))
 typed_display tag r f = through (λ m. (m.0, (m.1.0, (m.1.1.0, (m.1.1.1.0, m.0))))) (typed_fields tag r f)
 
-abbrev pub signed_authorization_display : Display signed_authorization.reading.M
+unfoldable pub signed_authorization_display : Display signed_authorization.reading.M
 signed_authorization_display =
     an_object (through (λ m. (m.0, (m.1.0, (m.1.1.0, (m.1.1.1.0, m.0))))) (in_order authorization_display (same (codes "y_parity") a_number (signature_before (
     derived (λ m. signing_entries (signing_hash 5 authorization_fields.reading m)))))))
 
-abbrev pub set_code_display : Fields set_code_transaction_fields.reading.M
+unfoldable pub set_code_display : Fields set_code_transaction_fields.reading.M
 set_code_display =
     chain_and_nonce (fees (call (codes "destination") a_string (access (same (codes "authorization_list") (a_list signed_authorization_display) end))))
 
@@ -142,23 +145,18 @@ transaction_display = (
     and_type 3 (typed_display 3 blob_transaction_fields.reading blob_display) (λ m. refl) (
     last_type 4 (typed_display 4 set_code_transaction_fields.reading set_code_display) (λ m. refl)))))).fields
 
-pub goes_on : (t : transaction.reading.M) → ends_second (transaction_display.shown t) ≡ false
-goes_on (inl t) = refl
-goes_on (inr (inl t)) = refl
-goes_on (inr (inr (inl t))) = refl
-goes_on (inr (inr (inr (inl t)))) = refl
-goes_on (inr (inr (inr (inr t)))) = refl
-
 -- transactions of all types: for an unknown type the number of the type and the payload
 abbrev pub by_type_display : Fields any_transaction.reading.M
-by_type_display = either transaction_display other_display (other_apart transaction_display goes_on)
+by_type_display =
+    or_other transaction_display (
+    elim [ inl t ↦ refl | inr (inl t) ↦ refl | inr (inr (inl t)) ↦ refl | inr (inr (inr (inl t))) ↦ refl | inr (inr (inr (inr t))) ↦ refl ])
 
 -- the hash of a transaction
 unfoldable pub transaction_hash : any_transaction.reading.M → List ℕ
 transaction_hash t = keccak256 (bytes_alone (any_transaction.reading.item t))
 
 -- a transaction with its hash
-abbrev pub any_transaction_display : Display any_transaction.reading.M
+unfoldable pub any_transaction_display : Display any_transaction.reading.M
 any_transaction_display = an_object (after_derived (λ t. hash_entries (transaction_hash t)) by_type_display)
 
 -- ---- before they are signed
@@ -212,16 +210,11 @@ abbrev name_after : Entries → List ℕ
 name_after (both first (both (entry name json v) more)) = name
 name_after es = []
 
-pub blobs_apart : (m : with_proofs.reading.M) (n : with_cell_proofs.reading.M) → with_proofs_fields.shown m ≡ with_cell_proofs_fields.shown n → ⊥
-blobs_apart m n is = let names : codes "blobs" ≡ codes "wrapper_version" = ap name_after is in let long : 5 ≡ 15 = ap length names in omega (arith, long)
-
 -- a transaction with its blobs, in the form of EIP-4844 or of EIP-7594
 abbrev pub with_blobs_fields : Fields pooled_blob_transaction.reading.M
-with_blobs_fields = either with_proofs_fields with_cell_proofs_fields blobs_apart
-
-pub blobs_type : (m : pooled_blob_transaction.reading.M) → shown_type (with_blobs_fields.shown m) ≡ 3
-blobs_type (inl m) = refl
-blobs_type (inr m) = refl
+with_blobs_fields =
+    either with_proofs_fields with_cell_proofs_fields (λ m n is.
+    let names : codes "blobs" ≡ codes "wrapper_version" = ap name_after is in let long : 5 ≡ 15 = ap length names in omega (arith, long))
 
 -- transactions of all types as they are sent
 abbrev pub pooled_fields : Fields pooled_transaction.reading.M
@@ -229,7 +222,7 @@ pooled_fields = (
     and_type 0 signed_legacy_display (λ m. refl) (
     and_type 1 (typed_display 1 access_list_transaction_fields.reading access_list_transaction_display) (λ m. refl) (
     and_type 2 (typed_display 2 fee_market_transaction_fields.reading fee_market_display) (λ m. refl) (
-    and_type 3 with_blobs_fields blobs_type (
+    and_type 3 with_blobs_fields (elim [ inl m ↦ refl | inr m ↦ refl ]) (
     last_type 4 (typed_display 4 set_code_transaction_fields.reading set_code_display) (λ m. refl)))))).fields
 
 -- the hash of a transaction as it is sent: the hash of the transaction in a block
@@ -237,5 +230,5 @@ unfoldable pub pooled_hash : pooled_transaction.reading.M → List ℕ
 pooled_hash t = keccak256 (bytes_alone (transaction.reading.item (seen_consensus t)))
 
 -- a transaction as it is sent, with its hash
-abbrev pub pooled_transaction_display : Display pooled_transaction.reading.M
+unfoldable pub pooled_transaction_display : Display pooled_transaction.reading.M
 pooled_transaction_display = an_object (after_derived (λ t. hash_entries (pooled_hash t)) pooled_fields)

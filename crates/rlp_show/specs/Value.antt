@@ -1,5 +1,6 @@
--- What is shown of a value, and how a sink takes it.
-use Rattle.std.specs.{Prelude.{ℕ, List, [], ◌∷◌, Option, Some, None, ◌+◌, Bool, if◌then◌else◌, ◌++◌, codes, decimal}, Int.Digits.number_from_digits}
+-- What is shown of a value, how a sink takes it, and what it is to show the values of a type.
+use Rattle.std.specs.{Prelude.{ℕ, List, [], ◌∷◌, Option, Some, None, ◌+◌, ◌≡◌, ◌⊎◌, Bool, if◌then◌else◌, ◌++◌, codes, decimal}, Int.Digits.number_from_digits}
+use Rattle.std.proofs.Common.{inl, inr}
 use Rattle.rlp_show.specs.declared.sink.{Bracket.Bracket, Bracket.TheVariants.CloseBrace, Bracket.TheVariants.CloseSquare, Bracket.TheVariants.OpenBrace, Bracket.TheVariants.OpenSquare}
 use Rattle.rlp_show.specs.declared.{sink.NumberKind.NumberKind, sink.BytesKind.BytesKind, sink.Shown.Shown}
 use Rattle.rlp_show.specs.declared.sink.Shown.TheVariants.{Bytes, EmptyList, Number, Text, TypeByte}
@@ -85,3 +86,30 @@ abbrev mutual
   pub after_items : {S : Type 0} → Steps S → List ℕ → ℕ → Values → S → S
   after_items st name i no_values s = s
   after_items st name i (value_and v vs) s = after_items st name (i + 1) vs (after st (item_name name i) v s)
+
+-- ---- how values are shown, by what contracts see of them
+
+-- What is shown of a value that contracts see as M, and what is told of the value.
+pub record Shows (R M : Type 0) : Type 1 where
+  pub shown : M → R
+  pub Told : Type 0
+  pub told : M → Told
+  pub apart : (m n : M) → shown m ≡ shown n → told m ≡ told n
+
+-- how values are shown
+abbrev pub Display : Type 0 → Type 1
+Display M = Shows Value M
+
+-- how the fields of values that are objects are shown
+abbrev pub Fields : Type 0 → Type 1
+Fields M = Shows Entries M
+
+module _ {M N : Type 0} (f : Fields M) (g : Fields N) where
+  -- what is told of the two parts
+  abbrev pub told_both : M × N → f.Told × g.Told
+  told_both m = (f.told m.0, g.told m.1)
+
+  -- the fields of a value of one of two types
+  abbrev pub on_either : M ⊎ N → Entries
+  on_either (inl m) = f.shown m
+  on_either (inr n) = g.shown n

@@ -85,17 +85,14 @@ impl Answers {
             Some(kind) => {
                 let form = self.form;
                 let name = own_name(form, kind);
-                put_known(
+                let given = Given {
                     alloc,
+                    form,
                     kind,
-                    &Given {
-                        form,
-                        kind,
-                        name,
-                        bytes,
-                    },
-                    out,
-                )
+                    name,
+                    bytes,
+                };
+                put_known(&given, out)
             }
             None => put_guessed(alloc, self.form, bytes, out),
         }
@@ -121,17 +118,14 @@ fn put_guessed(alloc: Global, form: Form, bytes: &[u8], out: &mut String) -> Res
     match guess(&Rlp::new_strict(bytes)) {
         Ok(Some(kind)) => {
             let name = kind.name();
-            put_known(
+            let given = Given {
                 alloc,
+                form,
                 kind,
-                &Given {
-                    form,
-                    kind,
-                    name,
-                    bytes,
-                },
-                out,
-            )
+                name,
+                bytes,
+            };
+            put_known(&given, out)
         }
         Ok(None) => {
             let unknown = DecoderError::Custom("unknown kind");

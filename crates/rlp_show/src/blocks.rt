@@ -77,6 +77,7 @@ impl ShowFields for Header {
 impl Show for Header {
     ghost display = { seen_as header.reading.seen header_display };
 
+    #[tactic(auto, unfolding(crate::specs::Blocks::header_display))]
     fn show<S: Sink>(&self, alloc: Global, name: &str, sink: &mut S) -> Result<(), AllocError> {
         Object(self).show(alloc, name, sink)
     }
@@ -85,6 +86,7 @@ impl Show for Header {
 impl Show for Body {
     ghost display = { seen_as body.reading.seen (an_object body_fields_display) };
 
+    #[tactic(auto, unfolding(crate::specs::Blocks::body_fields_display))]
     fn show<S: Sink>(&self, alloc: Global, name: &str, sink: &mut S) -> Result<(), AllocError> {
         show_fields!(alloc, name, sink;
             "transactions" Items(&self.transactions); "ommers" Items(&self.ommers);
@@ -141,6 +143,7 @@ impl ShowFields for More<'_> {
 impl Show for Block {
     ghost display = { seen_as block.reading.seen block_display };
 
+    #[tactic(auto, unfolding(crate::specs::Blocks::block_display, crate::specs::Blocks::body_fields_display))]
     fn show<S: Sink>(&self, alloc: Global, name: &str, sink: &mut S) -> Result<(), AllocError> {
         show_fields!(alloc, name, sink;
             ByForm(fields!("header" &self.header), &self.header);

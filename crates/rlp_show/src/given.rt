@@ -19,6 +19,8 @@ use std::alloc::{AllocError, Global};
 /// The bytes of a record, and how they are answered.
 #[derive(Clone, Copy)]
 pub(crate) struct Given<'a> {
+    /// What gives memory.
+    pub(crate) alloc: Global,
     /// The form of the answer.
     pub(crate) form: Form,
     /// The kind of the record.
@@ -31,31 +33,21 @@ pub(crate) struct Given<'a> {
 
 impl Given<'_> {
     /// Appends a value that the bytes encode.
-    pub(crate) fn put_value<T: Show>(
-        &self,
-        alloc: Global,
-        value: &T,
-        out: &mut String,
-    ) -> Result<(), AllocError>
+    pub(crate) fn put_value<T: Show>(&self, value: &T, out: &mut String) -> Result<(), AllocError>
         ensures { OnOk result (string_bytes out.new ≡ string_bytes out.old
             ++ value_text self.now.form self.now.kind self.now.name.now self.now.bytes.now
             (shown_of T.display value.now)) }
     {
         let text = match self.form {
-            Form::Text => lines_of(alloc, self.name, value)?,
-            Form::Json => json_of(alloc, &Object(&Named("", self.kind.name(), value)))?,
-            Form::Bytes => dump_of(alloc, self.bytes, self.name, value)?,
+            Form::Text => lines_of(self.alloc, self.name, value)?,
+            Form::Json => json_of(self.alloc, &Object(&Named("", self.kind.name(), value)))?,
+            Form::Bytes => dump_of(self.alloc, self.bytes, self.name, value)?,
         };
         out.push_str(text.as_str())
     }
 
     /// Appends what is wrong with the bytes. Fails if memory was refused as they were read.
-    pub(crate) fn put_fault(
-        &self,
-        alloc: Global,
-        fault: &PlacedFault,
-        out: &mut String,
-    ) -> Result<(), AllocError>
+    pub(crate) fn put_fault(&self, fault: &PlacedFault, out: &mut String) -> Result<(), AllocError>
         ensures memory { OnOk result (fault.now.fault ≢ OutOfMemory) }
         ensures text { OnOk result (string_bytes out.new ≡ string_bytes out.old
             ++ shown_text self.now.form self.now.kind self.now.name.now self.now.bytes.now
@@ -66,10 +58,10 @@ impl Given<'_> {
             error => {
                 let part = self.kind.part();
                 let path = fault.path.as_slice();
-                let mut name = String::from_str(alloc, self.name)?;
+                let mut name = String::from_str(self.alloc, self.name)?;
                 put_part_name(part, &Rlp::new_strict(self.bytes), path, &mut name)?;
                 let field = field_at(part.is_list(), path);
-                put_error(alloc, self.form, field, name.as_str(), error, out)
+                put_error(self.alloc, self.form, field, name.as_str(), error, out)
             }
         }
     }

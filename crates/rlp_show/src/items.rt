@@ -3,7 +3,8 @@
 ghost use Rattle.std.specs.Prelude.{◌≡◌, IfOk, not, OnOk, true, false, option_map};
 ghost use Rattle.rlp.specs.{Codec.raw_item, Views.View.item_views};
 ghost use Rattle.rlp_trie.specs.TrieNodeLaws.{trie_node};
-ghost use Rattle.rlp_show.specs.Items.{branch_entries, items_shown, key_of, kind_of, node_display, node_shown, pair_entries, raw_item_display, shown_within, string_at};
+ghost use Rattle.rlp_show.specs.Items.{branch_entries, items_shown, key_of, kind_of, node_shown, pair_entries, shown_within, string_at};
+ghost use Rattle.rlp_show.specs.ItemDisplays.{node_display, raw_item_display};
 ghost use Rattle.rlp_show.specs.{Display.seen_as, Value.after, Value.object, Value.values_of};
 
 use crate::records::written;
@@ -19,14 +20,8 @@ impl Show for RawItem {
     ghost display = { seen_as raw_item.reading.seen raw_item_display };
 
     fn show<S: Sink>(&self, alloc: Global, name: &str, sink: &mut S) -> Result<(), AllocError> {
-        show_item(
-            alloc,
-            name,
-            self.as_bytes(),
-            RawItem::MAX_DEPTH,
-            false,
-            sink,
-        )
+        let most = RawItem::MAX_DEPTH;
+        show_item(alloc, name, self.as_bytes(), most, false, sink)
     }
 }
 
@@ -210,7 +205,7 @@ fn show_branch<S: Sink>(
 impl Show for TrieNode {
     ghost display = { seen_as trie_node.reading.seen node_display };
 
-    #[tactic(auto, using(crate::proofs::ItemLemmas::other_nodes))]
+    #[tactic(auto, using(crate::proofs::ItemLemmas::other_nodes), unfolding(crate::specs::ItemDisplays::node_display))]
     fn show<S: Sink>(&self, alloc: Global, name: &str, sink: &mut S) -> Result<(), AllocError> {
         let bytes = written(alloc, self)?;
         let hash = Some(Hash(keccak256(bytes.as_slice())));

@@ -5,11 +5,10 @@ ghost use Rattle.rlp_reading.specs.Form.{list_reading, map_answer};
 ghost use Rattle.rlp_records.specs.{KnownOrOther.any_alone, KnownOrOther.with_others, declared.known_or_other.KnownOrOther.KnownOrOther};
 ghost use Rattle.rlp_node_record.specs.NodeLaws.{node_record};
 ghost use Rattle.rlp_show.specs.Shown.{kind_shown, message_shown, shown_as, transaction_shown, whole};
-ghost use Rattle.rlp_show.specs.{NodeRecords.node_fields_display, Display.{a_list, seen_as, shown_of}, Value.Value, Answers.kind_text};
+ghost use Rattle.rlp_show.specs.{ItemDisplays.node_fields_display, Display.{a_list, seen_as, shown_of}, Value.Value, Answers.given_text};
 
 use crate::given::Given;
-use crate::kind::Kind;
-use crate::message_kind::MessageKind;
+use crate::kind::{Kind, MessageKind};
 use crate::show::{Items, Show};
 use crate::sink::Sink;
 use rlp::{Decodable, DecodePlaced, DecoderError, PlacedFault, Rlp, decode_placed, put_list_path};
@@ -58,139 +57,111 @@ impl<T: Show> Show for ListOf<T> {
 type Numbered<T> = WithRequestId<ListOf<T>>;
 
 /// Appends the answer to the bytes of a `T`.
-fn put_record<T: DecodePlaced + Show>(
-    alloc: Global,
-    given: &Given<'_>,
-    out: &mut String,
-) -> Result<(), AllocError>
+fn put_record<T: DecodePlaced + Show>(given: &Given<'_>, out: &mut String) -> Result<(), AllocError>
     ensures { (shown : T.reading.M → Value)
         → ((x : T) → shown (T.reading.seen x) ≡ shown_of T.display x)
         → OnOk result (string_bytes out.new ≡ string_bytes out.old
-        ++ kind_text given.now.form given.now.kind given.now.name.now given.now.bytes.now
-        (shown_as T.reading.read shown given.now.bytes.now)) }
+        ++ given_text given.now (shown_as T.reading.read shown given.now.bytes.now)) }
 {
-    match decode_placed::<T>(alloc, &Rlp::new_strict(given.bytes)) {
-        Ok(value) => given.put_value(alloc, &value, out),
-        Err(fault) => given.put_fault(alloc, &fault, out),
+    match decode_placed::<T>(given.alloc, &Rlp::new_strict(given.bytes)) {
+        Ok(value) => given.put_value(&value, out),
+        Err(fault) => given.put_fault(&fault, out),
     }
 }
 
 /// Appends the answer to the bytes of a standalone value, which are a list or an envelope.
-fn put_alone<T: Eip2718>(
-    alloc: Global,
-    given: &Given<'_>,
-    out: &mut String,
-) -> Result<(), AllocError>
+fn put_alone<T: Eip2718>(given: &Given<'_>, out: &mut String) -> Result<(), AllocError>
 where
     KnownOrOther<T>: Show,
     ensures { (shown : (with_others T.types).reading.M → Value)
         → ((x : KnownOrOther T) → shown ((with_others T.types).reading.seen x)
         ≡ shown_of ⟦<KnownOrOther<T> as Show>⟧.display x)
         → OnOk result (string_bytes out.new ≡ string_bytes out.old
-        ++ kind_text given.now.form given.now.kind given.now.name.now given.now.bytes.now
-        (map_answer shown (any_alone T.types given.now.bytes.now))) }
+        ++ given_text given.now (map_answer shown (any_alone T.types given.now.bytes.now))) }
 {
-    match KnownOrOther::<T>::from_bytes(alloc, given.bytes) {
-        Ok(value) => given.put_value(alloc, &value, out),
+    match KnownOrOther::<T>::from_bytes(given.alloc, given.bytes) {
+        Ok(value) => given.put_value(&value, out),
         Err(fault) => {
-            let mut path = Vec::new(alloc);
-            KnownOrOther::<T>::put_path_alone(alloc, given.bytes, &mut path)?;
-            given.put_fault(alloc, &PlacedFault { path, fault }, out)
+            let mut path = Vec::new(given.alloc);
+            KnownOrOther::<T>::put_path_alone(given.alloc, given.bytes, &mut path)?;
+            given.put_fault(&PlacedFault { path, fault }, out)
         }
     }
 }
 
 /// Appends the answer to the bytes of a transaction, signed or not.
-fn put_transaction(alloc: Global, given: &Given<'_>, out: &mut String) -> Result<(), AllocError>
+fn put_transaction(given: &Given<'_>, out: &mut String) -> Result<(), AllocError>
     ensures { OnOk result (string_bytes out.new ≡ string_bytes out.old
-        ++ kind_text given.now.form given.now.kind given.now.name.now given.now.bytes.now
-        (transaction_shown given.now.bytes.now)) }
+        ++ given_text given.now (transaction_shown given.now.bytes.now)) }
 {
-    match UnsignedTransaction::from_bytes(alloc, given.bytes) {
-        Ok(transaction) => given.put_value(alloc, &transaction, out),
+    match UnsignedTransaction::from_bytes(given.alloc, given.bytes) {
+        Ok(transaction) => given.put_value(&transaction, out),
         Err(fault) => match fault {
             DecoderError::OutOfMemory => Err(AllocError),
-            _ => put_alone::<Transaction>(alloc, given, out),
+            _ => put_alone::<Transaction>(given, out),
         },
     }
 }
 
 /// Appends the answer to the bytes of a node record.
-fn put_node_record(alloc: Global, given: &Given<'_>, out: &mut String) -> Result<(), AllocError>
+fn put_node_record(given: &Given<'_>, out: &mut String) -> Result<(), AllocError>
     ensures { OnOk result (string_bytes out.new ≡ string_bytes out.old
-        ++ kind_text given.now.form given.now.kind given.now.name.now given.now.bytes.now
-        (whole node_record node_fields_display given.now.bytes.now)) }
+        ++ given_text given.now (whole node_record node_fields_display given.now.bytes.now)) }
 {
-    match decode_placed::<NodeRecord>(alloc, &Rlp::new_strict(given.bytes)) {
-        Ok(node) => given.put_value(alloc, node.fields(), out),
-        Err(fault) => given.put_fault(alloc, &fault, out),
+    match decode_placed::<NodeRecord>(given.alloc, &Rlp::new_strict(given.bytes)) {
+        Ok(node) => given.put_value(node.fields(), out),
+        Err(fault) => given.put_fault(&fault, out),
     }
 }
 
 /// Appends the answer to the bytes of a record.
-pub(crate) fn put_known(
-    alloc: Global,
-    kind: Kind,
-    given: &Given<'_>,
-    out: &mut String,
-) -> Result<(), AllocError>
+pub(crate) fn put_known(given: &Given<'_>, out: &mut String) -> Result<(), AllocError>
     ensures { OnOk result (string_bytes out.new ≡ string_bytes out.old
-        ++ kind_text given.now.form given.now.kind given.now.name.now given.now.bytes.now
-        (kind_shown kind given.now.bytes.now)) }
+        ++ given_text given.now (kind_shown given.now.kind given.now.bytes.now)) }
 {
-    match kind {
-        Kind::AccessList => put_record::<ListOf<AccessListItem>>(alloc, given, out),
-        Kind::Account => put_record::<Account>(alloc, given, out),
-        Kind::Authorization => put_record::<SignedAuthorization>(alloc, given, out),
-        Kind::Block => put_record::<Block>(alloc, given, out),
-        Kind::Body => put_record::<Body>(alloc, given, out),
-        Kind::Header => put_record::<Header>(alloc, given, out),
-        Kind::Node => put_record::<TrieNode>(alloc, given, out),
-        Kind::Receipt => put_alone::<TypedReceipt>(alloc, given, out),
-        Kind::NodeRecord => put_node_record(alloc, given, out),
-        Kind::Transaction => put_transaction(alloc, given, out),
-        Kind::Withdrawal => put_record::<Withdrawal>(alloc, given, out),
-        Kind::Message(kind) => put_message(alloc, kind, given, out),
+    match given.kind {
+        Kind::AccessList => put_record::<ListOf<AccessListItem>>(given, out),
+        Kind::Account => put_record::<Account>(given, out),
+        Kind::Authorization => put_record::<SignedAuthorization>(given, out),
+        Kind::Block => put_record::<Block>(given, out),
+        Kind::Body => put_record::<Body>(given, out),
+        Kind::Header => put_record::<Header>(given, out),
+        Kind::Node => put_record::<TrieNode>(given, out),
+        Kind::Receipt => put_alone::<TypedReceipt>(given, out),
+        Kind::NodeRecord => put_node_record(given, out),
+        Kind::Transaction => put_transaction(given, out),
+        Kind::Withdrawal => put_record::<Withdrawal>(given, out),
+        Kind::Message(kind) => put_message(kind, given, out),
     }
 }
 
 /// Appends the answer to the bytes of a message.
-fn put_message(
-    alloc: Global,
-    kind: MessageKind,
-    given: &Given<'_>,
-    out: &mut String,
-) -> Result<(), AllocError>
+fn put_message(kind: MessageKind, given: &Given<'_>, out: &mut String) -> Result<(), AllocError>
     ensures { OnOk result (string_bytes out.new ≡ string_bytes out.old
-        ++ kind_text given.now.form given.now.kind given.now.name.now given.now.bytes.now
-        (message_shown kind given.now.bytes.now)) }
+        ++ given_text given.now (message_shown kind given.now.bytes.now)) }
 {
     match kind {
-        MessageKind::Hello => put_record::<Hello>(alloc, given, out),
-        MessageKind::Disconnect => put_record::<Disconnect>(alloc, given, out),
-        MessageKind::Ping => put_record::<Ping>(alloc, given, out),
-        MessageKind::Pong => put_record::<Pong>(alloc, given, out),
-        MessageKind::Status68 => put_record::<Status68>(alloc, given, out),
-        MessageKind::Status69 => put_record::<Status69>(alloc, given, out),
-        MessageKind::NewBlockHashes => put_record::<ListOf<NewBlockHash>>(alloc, given, out),
-        MessageKind::Transactions => put_record::<ListOf<AnyTransaction>>(alloc, given, out),
-        MessageKind::NewBlock => put_record::<NewBlock>(alloc, given, out),
+        MessageKind::Hello => put_record::<Hello>(given, out),
+        MessageKind::Disconnect => put_record::<Disconnect>(given, out),
+        MessageKind::Ping => put_record::<Ping>(given, out),
+        MessageKind::Pong => put_record::<Pong>(given, out),
+        MessageKind::Status68 => put_record::<Status68>(given, out),
+        MessageKind::Status69 => put_record::<Status69>(given, out),
+        MessageKind::NewBlockHashes => put_record::<ListOf<NewBlockHash>>(given, out),
+        MessageKind::Transactions => put_record::<ListOf<AnyTransaction>>(given, out),
+        MessageKind::NewBlock => put_record::<NewBlock>(given, out),
         MessageKind::NewPooledTransactionHashes => {
-            put_record::<NewPooledTransactionHashes>(alloc, given, out)
+            put_record::<NewPooledTransactionHashes>(given, out)
         }
-        MessageKind::BlockRangeUpdate => put_record::<BlockRangeUpdate>(alloc, given, out),
-        MessageKind::GetBlockHeaders => put_record::<WithRequestId<GetBlockHeaders>>(
-            alloc, given, out,
-        ),
-        MessageKind::BlockHeaders => put_record::<Numbered<Header>>(alloc, given, out),
-        MessageKind::GetBlockBodies => put_record::<Numbered<Hash>>(alloc, given, out),
-        MessageKind::GetPooledTransactions => put_record::<Numbered<Hash>>(alloc, given, out),
-        MessageKind::GetReceipts => put_record::<Numbered<Hash>>(alloc, given, out),
-        MessageKind::BlockBodies => put_record::<Numbered<Body>>(alloc, given, out),
-        MessageKind::PooledTransactions => {
-            put_record::<Numbered<PooledTransaction>>(alloc, given, out)
-        }
-        MessageKind::Receipts68 => put_record::<Numbered<BlockReceipts>>(alloc, given, out),
-        MessageKind::Receipts69 => put_record::<Numbered<BlockReceipts69>>(alloc, given, out),
+        MessageKind::BlockRangeUpdate => put_record::<BlockRangeUpdate>(given, out),
+        MessageKind::GetBlockHeaders => put_record::<WithRequestId<GetBlockHeaders>>(given, out),
+        MessageKind::BlockHeaders => put_record::<Numbered<Header>>(given, out),
+        MessageKind::GetBlockBodies => put_record::<Numbered<Hash>>(given, out),
+        MessageKind::GetPooledTransactions => put_record::<Numbered<Hash>>(given, out),
+        MessageKind::GetReceipts => put_record::<Numbered<Hash>>(given, out),
+        MessageKind::BlockBodies => put_record::<Numbered<Body>>(given, out),
+        MessageKind::PooledTransactions => put_record::<Numbered<PooledTransaction>>(given, out),
+        MessageKind::Receipts68 => put_record::<Numbered<BlockReceipts>>(given, out),
+        MessageKind::Receipts69 => put_record::<Numbered<BlockReceipts69>>(given, out),
     }
 }

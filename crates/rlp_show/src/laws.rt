@@ -12,7 +12,7 @@ ghost use Rattle.rlp_transactions.specs.{Transaction.any_transaction, UnsignedTr
 ghost use Rattle.rlp_transactions.specs.{declared.transaction.Transaction.Transaction, declared.unsigned_transaction.UnsignedTransaction.UnsignedTransaction};
 ghost use Rattle.rlp_trie.specs.{TrieNode.IsTrieNode, TrieNode.node_item, TrieNode.seen_node, TrieNodeLaws.trie_node, declared.trie_node.TrieNode.TrieNode};
 ghost use Rattle.rlp_show.specs.Answers.{IsAnswered, IsRead, answer_of};
-ghost use Rattle.rlp_show.specs.{Display.shown_of, Display.told_of, Items.node_display, Json.json_of, Records.any_receipt_display};
+ghost use Rattle.rlp_show.specs.{Display.shown_of, Display.told_of, ItemDisplays.node_display, Json.json_of, Records.any_receipt_display};
 ghost use Rattle.rlp_show.specs.{Transactions.any_transaction_display, Transactions.unsigned_display, Value.Value, Value.entry, Value.object, Kinds.kind_name};
 ghost use Rattle.rlp_show.specs.{Request.answers, Shown.ShowsAs, Shown.kind_shown, declared.answers.Form.TheVariants.Json, declared.kind.Kind.Kind};
 ghost use Rattle.rlp_show.specs.declared.kind.Kind.TheVariants as kind;

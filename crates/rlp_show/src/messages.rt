@@ -27,6 +27,7 @@ impl Show for ForkId {
 impl Show for Status68 {
     ghost display = { seen_as status68.reading.seen shown.status68_display };
 
+    #[tactic(auto, unfolding(crate::specs::Messages::status68_display))]
     fn show<S: Sink>(&self, alloc: Global, name: &str, sink: &mut S) -> Result<(), AllocError> {
         show_fields!(alloc, name, sink;
             self.version; self.network_id; self.total_difficulty; self.block_hash;
@@ -38,6 +39,7 @@ impl Show for Status68 {
 impl Show for Status69 {
     ghost display = { seen_as status69.reading.seen shown.status69_display };
 
+    #[tactic(auto, unfolding(crate::specs::Messages::status69_display, crate::specs::Messages::range_display))]
     fn show<S: Sink>(&self, alloc: Global, name: &str, sink: &mut S) -> Result<(), AllocError> {
         show_fields!(alloc, name, sink;
             self.version; self.network_id; self.genesis_hash; self.fork_id; self.earliest_block;
@@ -49,6 +51,7 @@ impl Show for Status69 {
 impl Show for BlockRangeUpdate {
     ghost display = { seen_as block_range_update.reading.seen (an_object shown.range_display) };
 
+    #[tactic(auto, unfolding(crate::specs::Messages::range_display))]
     fn show<S: Sink>(&self, alloc: Global, name: &str, sink: &mut S) -> Result<(), AllocError> {
         show_fields!(alloc, name, sink;
             self.earliest_block; self.latest_block; self.latest_block_hash;
@@ -59,6 +62,7 @@ impl Show for BlockRangeUpdate {
 impl Show for NewBlockHash {
     ghost display = { seen_as new_block_hash.reading.seen shown.new_block_hash_display };
 
+    #[tactic(auto, unfolding(crate::specs::Messages::new_block_hash_display))]
     fn show<S: Sink>(&self, alloc: Global, name: &str, sink: &mut S) -> Result<(), AllocError> {
         show_fields!(alloc, name, sink; self.hash; self.number;)
     }
@@ -68,6 +72,7 @@ impl Show for NewPooledTransactionHashes {
     ghost display = { seen_as new_pooled_transaction_hashes.reading.seen
         shown.new_pooled_transaction_hashes_display };
 
+    #[tactic(auto, unfolding(crate::specs::Messages::new_pooled_transaction_hashes_display))]
     fn show<S: Sink>(&self, alloc: Global, name: &str, sink: &mut S) -> Result<(), AllocError> {
         show_fields!(alloc, name, sink;
             self.types; "sizes" Items(&self.sizes); "hashes" Items(&self.hashes);
@@ -78,6 +83,7 @@ impl Show for NewPooledTransactionHashes {
 impl Show for NewBlock {
     ghost display = { seen_as new_block.reading.seen shown.new_block_display };
 
+    #[tactic(auto, unfolding(crate::specs::Messages::new_block_display))]
     fn show<S: Sink>(&self, alloc: Global, name: &str, sink: &mut S) -> Result<(), AllocError> {
         show_fields!(alloc, name, sink; self.block; self.total_difficulty;)
     }
@@ -106,6 +112,7 @@ impl Show for HashOrNumber {
 impl Show for GetBlockHeaders {
     ghost display = { seen_as get_block_headers.reading.seen shown.get_block_headers_display };
 
+    #[tactic(auto, unfolding(crate::specs::Messages::get_block_headers_display))]
     fn show<S: Sink>(&self, alloc: Global, name: &str, sink: &mut S) -> Result<(), AllocError> {
         show_fields!(alloc, name, sink;
             self.start_block; self.limit; self.skip; "reverse" number(self.reverse as u64);
@@ -163,6 +170,7 @@ impl Show for Pong {
 impl Show for Disconnect {
     ghost display = { seen_as disconnect.reading.seen shown.disconnect_display };
 
+    #[tactic(auto, unfolding(crate::specs::Messages::disconnect_display))]
     fn show<S: Sink>(&self, alloc: Global, name: &str, sink: &mut S) -> Result<(), AllocError> {
         match self {
             Disconnect::Listed(reason) | Disconnect::Bare(reason) => {
@@ -210,6 +218,7 @@ impl ShowFields for Further<'_> {
 impl Show for Hello {
     ghost display = { seen_as hello.reading.seen shown.hello_display };
 
+    #[tactic(auto, unfolding(crate::specs::Messages::hello_display))]
     fn show<S: Sink>(&self, alloc: Global, name: &str, sink: &mut S) -> Result<(), AllocError> {
         show_fields!(alloc, name, sink;
             self.protocol_version; self.client_id; "capabilities" Items(&self.capabilities);

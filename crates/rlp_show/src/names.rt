@@ -3,8 +3,7 @@
 ghost use Rattle.std.specs.Prelude.{◌≡◌, IfOk, OnOk, map, string_bytes};
 ghost use Rattle.rlp_show.specs.Names.{content, envelope, field_of, fields, in_field, in_list, in_part, is_list, item_in, kind_part, naming, node_kind, opened, payload, pooled_kind, transaction_kind};
 
-use crate::kind::Kind;
-use crate::message_kind::MessageKind;
+use crate::kind::{Kind, MessageKind};
 use crate::show::{put_inside, put_place};
 use rlp::Rlp;
 use rlp_trie::ends_in_leaf;

@@ -2,12 +2,13 @@
 
 ghost use Rattle.std.specs.Prelude.{◌≡◌};
 ghost use Rattle.rlp_node_record.specs.NodeFields.{node_fields, pair_fields};
+ghost use Rattle.rlp_show.specs.ItemDisplays.{node_fields_display, node_pair_display};
 ghost use Rattle.rlp_show.specs.{Display.seen_as, Value.content_of};
-ghost use Rattle.rlp_show.specs.NodeRecords.{is_ip, is_port_key, key_value_display, node_fields_display, node_pair_display, port_content, string_content};
+ghost use Rattle.rlp_show.specs.NodeRecords.{is_ip, is_port_key, port_content, string_content};
 
 use crate::show::{Items, Show, show_fields};
 use crate::sink::{BytesKind, Shown, Sink, bytes, number};
-use rlp::{RawItem, Rlp};
+use rlp::Rlp;
 use rlp_node_record::{NodeFields, NodePair};
 use std::alloc::{AllocError, Global};
 
@@ -55,35 +56,20 @@ fn string_at<'a>(key: &[u8], string: &'a [u8]) -> Shown<'a>
     bytes(string)
 }
 
-/// The value of a key.
-#[derive(Clone, Copy)]
-struct KeyValue<'a> {
-    key: &'a [u8],
-    value: &'a RawItem,
-}
-
-impl Show for KeyValue<'_> {
-    ghost display = { seen_as (λ v. (v.key.now, v.value.now)) key_value_display };
-
-    #[tactic(auto, using(crate::proofs::ItemLemmas::values_of_keys))]
-    fn show<S: Sink>(&self, alloc: Global, name: &str, sink: &mut S) -> Result<(), AllocError> {
-        match Rlp::new(self.value.as_bytes()).decoder().string() {
-            Ok(string) => sink.put(name, string_at(self.key, string)),
-            Err(_) => self.value.show(alloc, name, sink),
-        }
-    }
-}
-
 impl Show for NodePair {
     ghost display = { seen_as pair_fields.reading.seen node_pair_display };
 
+    #[tactic(auto, using(crate::proofs::ItemLemmas::values_of_keys))]
     fn show<S: Sink>(&self, alloc: Global, name: &str, sink: &mut S) -> Result<(), AllocError> {
-        let key = self.key.as_slice();
-        let value = KeyValue {
-            key,
-            value: &self.value,
-        };
-        show_fields!(alloc, name, sink; "key" Shown::Bytes(BytesKind::Word, key); "value" value)
+        let bytes = self.key.as_slice();
+        let key = Shown::Bytes(BytesKind::Word, bytes);
+        match Rlp::new(self.value.as_bytes()).decoder().string() {
+            Ok(string) => {
+                let value = string_at(bytes, string);
+                show_fields!(alloc, name, sink; "key" key; "value" value)
+            }
+            Err(_) => show_fields!(alloc, name, sink; "key" key; self.value;),
+        }
     }
 }
 

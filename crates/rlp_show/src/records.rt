@@ -83,6 +83,7 @@ impl Show for Address {
 impl Show for Withdrawal {
     ghost display = { seen_as withdrawal.reading.seen withdrawal_display };
 
+    #[tactic(auto, unfolding(crate::specs::Records::withdrawal_display))]
     fn show<S: Sink>(&self, alloc: Global, name: &str, sink: &mut S) -> Result<(), AllocError> {
         show_fields!(alloc, name, sink;
             self.index; self.validator_index; self.address; self.amount;
@@ -101,6 +102,7 @@ impl Show for Withdrawals {
 impl Show for Account {
     ghost display = { seen_as account.reading.seen account_display };
 
+    #[tactic(auto, unfolding(crate::specs::Records::account_display))]
     fn show<S: Sink>(&self, alloc: Global, name: &str, sink: &mut S) -> Result<(), AllocError> {
         show_fields!(alloc, name, sink;
             self.nonce; self.balance; self.storage_root "storageHash"; self.code_hash;
@@ -167,6 +169,7 @@ impl Show for TypedReceipt {
 impl Show for AnyReceipt {
     ghost display = { seen_as any_receipt.reading.seen any_receipt_display };
 
+    #[tactic(auto, unfolding(crate::specs::Records::any_receipt_display))]
     fn show<S: Sink>(&self, alloc: Global, name: &str, sink: &mut S) -> Result<(), AllocError> {
         match self {
             AnyReceipt::Known(receipt) => receipt.show(alloc, name, sink),

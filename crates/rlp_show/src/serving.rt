@@ -2,7 +2,7 @@
 
 ghost use Rattle.std.specs.{Prelude.{◌≡◌, ◌≢◌, false, map, string_bytes, IfOk}, IoError.error_kind};
 ghost use Rattle.rlp_lines.specs.{Lines.last_of, Run.RunLeaves, Run.TellsFault};
-ghost use Rattle.rlp_show.specs.{Program.{AnswersInput, AnswersWord, Prints, Refuses, Serves, line_answer}, Answers.exit_status, Request.request_of};
+ghost use Rattle.rlp_show.specs.{Program.{Prints, Refuses, Serves, line_answer}, Answers.exit_status, Request.request_of};
 
 use crate::answers::Answers;
 use crate::help::{HELP, UNKNOWN_ARGUMENTS, USAGE, VERSION};
@@ -41,29 +41,6 @@ pub fn exit_status(outcome: &Result<bool, RunFault>) -> u8
         Ok(true) => 5,
         Err(fault) => fault.status(),
     }
-}
-
-/// Answers the lines of the input, and returns the exit status.
-fn answer_input<R: Read, W: Write>(
-    alloc: Global,
-    answers: &Answers,
-    input: &mut Noted<R>,
-    output: &mut Noted<W>,
-) -> u8
-    requires input { input.old.failed ≡ false }
-    requires output { output.old.failed ≡ false }
-    ensures { AnswersInput answers.now R.remaining W.contents
-        input.old input.new output.old output.new result }
-{
-    exit_status(&run(alloc, answers, input, output))
-}
-
-/// Answers the lines of a word, and returns the exit status.
-fn answer_word<W: Write>(alloc: Global, answers: &Answers, word: &str, output: &mut Noted<W>) -> u8
-    requires { output.old.failed ≡ false }
-    ensures { AnswersWord answers.now word.now W.contents output.old output.new result }
-{
-    exit_status(&answer_text(alloc, answers, word.as_bytes(), output))
 }
 
 /// Prints a text, and returns the exit status.
@@ -118,12 +95,12 @@ pub fn serve_request<R: Read, W: Write, E: Write>(
         R.remaining W.contents E.contents
         input.old input.new output.old output.new errors.old errors.new result }
 {
-    let word = last_word(words);
+    let word = last_word(words).as_bytes();
     match Request::of(words) {
         Request::Help => print(HELP, output),
         Request::Version => print(VERSION, output),
-        Request::Lines(answers) => answer_input(alloc, &answers, input, output),
-        Request::Record(answers) => answer_word(alloc, &answers, word, output),
+        Request::Lines(answers) => exit_status(&run(alloc, &answers, input, output)),
+        Request::Record(answers) => exit_status(&answer_text(alloc, &answers, word, output)),
         Request::Unknown => refuse(errors),
     }
 }

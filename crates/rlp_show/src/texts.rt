@@ -98,15 +98,6 @@ pub(crate) fn put_v(v: &Uint<32>, out: &mut String) -> Result<(), AllocError>
     put_meaning(Eip155::from_v(v), out)
 }
 
-/// Appends a nibble as a hexadecimal digit.
-fn put_nibble(nibble: u8, out: &mut String) -> Result<(), AllocError>
-    requires { nibble < 16 }
-    ensures { OnOk result
-        (string_bytes out.new ≡ string_bytes out.old ++ digit_glyph false nibble ∷ []) }
-{
-    out.push(char::from(digit_char(nibble)))
-}
-
 /// Appends the nibbles of an encoded path.
 pub(crate) fn put_digits(path: &[u8], out: &mut String) -> Result<(), AllocError>
     ensures { OnOk result
@@ -116,7 +107,7 @@ pub(crate) fn put_digits(path: &[u8], out: &mut String) -> Result<(), AllocError
         return Ok(());
     };
     if first / 16 % 2 == 1 {
-        put_nibble(first % 16, out)?;
+        out.push(char::from(digit_char(first % 16)))?;
         return push_bytes(rest, out);
     }
     push_bytes(rest, out)

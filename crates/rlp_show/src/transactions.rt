@@ -36,6 +36,7 @@ impl Show for Recipient {
 impl Show for AccessListItem {
     ghost display = { seen_as access_list_item.reading.seen shown.access_list_item_display };
 
+    #[tactic(auto, unfolding(crate::specs::Transactions::access_list_item_display))]
     fn show<S: Sink>(&self, alloc: Global, name: &str, sink: &mut S) -> Result<(), AllocError> {
         show_fields!(alloc, name, sink; self.address; "storage_keys" Items(&self.storage_keys);)
     }
@@ -56,6 +57,7 @@ impl ShowFields for AccessListTransaction {
     ghost fields = { seen_as access_list_transaction_fields.reading.seen
         shown.access_list_transaction_display };
 
+    #[tactic(auto, unfolding(crate::specs::Transactions::access_list_transaction_display))]
     fn give<S: Sink>(&self, alloc: Global, name: &str, sink: &mut S) -> Result<(), AllocError> {
         give_fields!(alloc, name, sink;
             self.chain_id; self.nonce; self.gas_price; self.gas_limit "gas"; self.to; self.value;
@@ -67,6 +69,7 @@ impl ShowFields for AccessListTransaction {
 impl ShowFields for FeeMarketTransaction {
     ghost fields = { seen_as fee_market_transaction_fields.reading.seen shown.fee_market_display };
 
+    #[tactic(auto, unfolding(crate::specs::Transactions::fee_market_display))]
     fn give<S: Sink>(&self, alloc: Global, name: &str, sink: &mut S) -> Result<(), AllocError> {
         give_fields!(alloc, name, sink;
             self.chain_id; self.nonce; self.max_priority_fee_per_gas; self.max_fee_per_gas;
@@ -79,6 +82,7 @@ impl ShowFields for FeeMarketTransaction {
 impl ShowFields for BlobTransaction {
     ghost fields = { seen_as blob_transaction_fields.reading.seen shown.blob_display };
 
+    #[tactic(auto, unfolding(crate::specs::Transactions::blob_display))]
     fn give<S: Sink>(&self, alloc: Global, name: &str, sink: &mut S) -> Result<(), AllocError> {
         give_fields!(alloc, name, sink;
             self.chain_id; self.nonce; self.max_priority_fee_per_gas; self.max_fee_per_gas;
@@ -100,6 +104,7 @@ impl ShowFields for Authorization {
 impl ShowFields for SetCodeTransaction {
     ghost fields = { seen_as set_code_transaction_fields.reading.seen shown.set_code_display };
 
+    #[tactic(auto, unfolding(crate::specs::Transactions::set_code_display))]
     fn give<S: Sink>(&self, alloc: Global, name: &str, sink: &mut S) -> Result<(), AllocError> {
         give_fields!(alloc, name, sink;
             self.chain_id; self.nonce; self.max_priority_fee_per_gas; self.max_fee_per_gas;
@@ -137,6 +142,7 @@ impl Show for SignedAuthorization {
     ghost display = { seen_as signed_authorization.reading.seen
         shown.signed_authorization_display };
 
+    #[tactic(auto, unfolding(crate::specs::Transactions::signed_authorization_display))]
     fn show<S: Sink>(&self, alloc: Global, name: &str, sink: &mut S) -> Result<(), AllocError> {
         let hash = signing_hash_of(alloc, &self.payload)?;
         show_fields!(alloc, name, sink;
@@ -207,20 +213,12 @@ impl ShowFields for Transaction {
     }
 }
 
-/// Returns the hash of a transaction.
-#[tactic(auto, using(crate::proofs::Hashes::transaction_written))]
-fn transaction_hash(alloc: Global, tx: &AnyTransaction) -> Result<Hash, AllocError>
-    ensures { IfOk result
-        (λ h. h.0 ≡ shown.transaction_hash (any_transaction.reading.seen tx.now)) }
-{
-    tx.hash(alloc)
-}
-
 impl Show for AnyTransaction {
     ghost display = { seen_as any_transaction.reading.seen shown.any_transaction_display };
 
+    #[tactic(auto, using(crate::proofs::Hashes::transaction_written), unfolding(crate::specs::Transactions::any_transaction_display))]
     fn show<S: Sink>(&self, alloc: Global, name: &str, sink: &mut S) -> Result<(), AllocError> {
-        let hash = transaction_hash(alloc, self)?;
+        let hash = self.hash(alloc)?;
         match self {
             AnyTransaction::Known(tx) => show_fields!(alloc, name, sink; "hash" &hash; tx),
             AnyTransaction::Other(tx) => show_fields!(alloc, name, sink;
@@ -265,20 +263,12 @@ impl ShowFields for UnsignedTransaction {
     }
 }
 
-/// Returns the hash that is signed of a transaction.
-#[tactic(auto, using(crate::proofs::Hashes::payload_written))]
-fn payload_hash(alloc: Global, tx: &UnsignedTransaction) -> Result<Hash, AllocError>
-    ensures { IfOk result
-        (λ h. h.0 ≡ shown.payload_hash (unsigned_transaction.reading.seen tx.now)) }
-{
-    tx.signing_hash(alloc)
-}
-
 impl Show for UnsignedTransaction {
     ghost display = { seen_as unsigned_transaction.reading.seen shown.unsigned_display };
 
+    #[tactic(auto, using(crate::proofs::Hashes::payload_written))]
     fn show<S: Sink>(&self, alloc: Global, name: &str, sink: &mut S) -> Result<(), AllocError> {
-        let hash = payload_hash(alloc, self)?;
+        let hash = self.signing_hash(alloc)?;
         show_fields!(alloc, name, sink; self; "signing_hash" &hash)
     }
 }
@@ -371,20 +361,12 @@ impl ShowFields for PooledTransaction {
     }
 }
 
-/// Returns the hash of a transaction as it is sent.
-#[tactic(auto, using(crate::proofs::Hashes::pooled_written))]
-fn pooled_hash(alloc: Global, tx: &PooledTransaction) -> Result<Hash, AllocError>
-    ensures { IfOk result
-        (λ h. h.0 ≡ shown.pooled_hash (pooled_transaction.reading.seen tx.now)) }
-{
-    tx.hash(alloc)
-}
-
 impl Show for PooledTransaction {
     ghost display = { seen_as pooled_transaction.reading.seen shown.pooled_transaction_display };
 
+    #[tactic(auto, using(crate::proofs::Hashes::pooled_written), unfolding(crate::specs::Transactions::pooled_transaction_display))]
     fn show<S: Sink>(&self, alloc: Global, name: &str, sink: &mut S) -> Result<(), AllocError> {
-        let hash = pooled_hash(alloc, self)?;
+        let hash = self.hash(alloc)?;
         show_fields!(alloc, name, sink; "hash" &hash; self)
     }
 }

@@ -1,23 +1,25 @@
 -- Calls of a stream, one after another.
-use Rattle.std.proofs.Common.{◌≡◌, ℕ, zero, suc, ◌+◌, ◌^◌, ◌<◌, Bool, true, false, cond, List, [], ◌∷◌, ◌++◌, length, map}
-use Rattle.std.proofs.Common.{Option, Some, None, Result, Ok, Err, IfErr, OnOk, IsTrue, All, Vec, refl, sym}
-use Rattle.std.proofs.{Common.{ap, ◌∙◌, nat_le, arith, subst}, lemmas.Bool.cond-true}
-use Rattle.std.specs.{declared.alloc.Global.Global}
+use Rattle.std.proofs.Common.{◌≡◌, ℕ, zero, suc, ◌+◌, ◌^◌, ◌<◌, Bool, true, false, cond, List, [], ◌∷◌, ◌++◌, length, map, Option, Some, None, Result}
+use Rattle.std.proofs.Common.{Ok, Err, IfErr, OnOk, IsTrue, All, Vec, refl, sym, ap, ◌∙◌, nat_le, arith, subst, ◌-◌, ◌≤◌, replicate, append_assoc}
+use Rattle.std.proofs.{Common.{append-nil, length-append}, lemmas.Bool.cond-true, lemmas.List.{replicate-append-replicate, length-replicate}}
+use Rattle.std.specs.declared.alloc.Global.{Global}
 use Rattle.rlp.proofs.Streams.Descriptions.{steps_anyhow}
-use Rattle.rlp.specs.Format.Encoding.{Item, list, list_of, join, IsSized}
-use Rattle.rlp.specs.Streams.Stream.{OpenList, Stack, empty_stack, has_room, awaited, State, initial_state, IsFinished, after_from}
-use Rattle.rlp.specs.Streams.Stream.{Call, append_raw, begin_list, effect, is_admitted, after}
+use Rattle.rlp.specs.Format.Encoding.{Item, list_of, join, IsSized}
+use Rattle.rlp.specs.Streams.Stream.{OpenList, empty_stack, has_room, awaited, State, initial_state, IsFinished, after_from, Call, append_raw}
+use Rattle.rlp.specs.Streams.Stream.{begin_list, effect, is_admitted, after, unbounded_count, finalize_unbounded_list, finalized}
 use Rattle.rlp.specs.Streams.Described.{Step, brings, opens, finishes, clears, DescribesWhere, by_append, by_raw, by_empty_list, by_list}
-use Rattle.rlp.specs.Streams.Described.{by_unbounded_list, by_finalize, by_clear, AreDescribedWhere, AreDescribed, IsDescribedWhere}
-use Rattle.rlp.specs.Streams.Described.{items_after_all, joined_list, joined_stack}
+use Rattle.rlp.specs.Streams.Described.{by_unbounded_list, by_finalize, by_clear, AreDescribedWhere, AreDescribed, IsDescribedWhere, items_after_all}
+use Rattle.rlp.specs.Streams.Described.{joined_list, joined_stack}
 use Rattle.rlp_tool.specs.{declared.building.Built.Built, declared.building.Built.TheVariants.{Finished, Open}}
 use Rattle.rlp_tool.specs.declared.building.BuildFault.{BuildFault}
 use Rattle.rlp_tool.specs.declared.building.BuildFault.TheVariants.{TooManyItems, NothingToFinish, RawNotItems, OutOfMemory}
 use Rattle.rlp_tool.specs.declared.calls.StreamCall.{StreamCall}
 use Rattle.rlp_tool.specs.declared.calls.StreamCall.TheVariants.{Value, Values, Raw, Begin, BeginUnbounded, Finish, Clear}
 use Rattle.rlp_tool.specs.{RawItems.{AreRawItems, IsShallow}, StreamCalls.call_of}
-use Rattle.rlp_tool.specs.{Building.{AreRefused, AreTaken, BringsItems, IsBuilt, IsJoined, IsRefusal}, Building.{AreJoined, IsFinishedAs, IsSomeStep}}
-use Rattle.rlp_tool.specs.Making.{AreMade, IsHeld}
+use Rattle.rlp_tool.specs.Building.{AreRefused, AreTaken, BringsItems, IsBuilt, IsJoined, IsRefusal, AreJoined, IsFinishedAs, IsSomeStep}
+use Rattle.rlp_tool.specs.Making.{AreMade, IsHeld, Fails, Goes, IsStopped, IsTaken, MakesScript, MakesSome, NoneIsNext, StopsScript}
+use Rattle.rlp_tool.specs.Script.{IsUnread, prepend, script}
+use Rattle.rlp_tool.proofs.CutLemmas.{prepend-append, prepend-nil}
 
 -- room for k items, by the number of awaited items
 abbrev pub room_for : ℕ → Option ℕ → Bool
@@ -35,8 +37,7 @@ room k (l ∷ ls) = room_in l.awaits
 -- ---- calls that are made
 
 pub cond_ok : (b : Bool) (r : Result State ℕ) (n : ℕ) (s : State) → cond b r (Err n) ≡ Ok s → IsTrue b × (r ≡ Ok s)
-cond_ok true r n s e = (refl, e)
-cond_ok false r n s e = absurd (let no : ⊥ = cc in no)
+cond_ok b r n s e = grind arith
 
 -- the steps that they are, and the state after them
 pub made_steps : (n : ℕ) (s : State) (calls : List Call) (t : State) → AreMade s calls t
@@ -53,7 +54,7 @@ made_if n s [] [] t d e = let same : t ≡ s = cc in same
 made_if n s [] (m ∷ steps) t d e = absurd d
 made_if n s (c ∷ calls) [] t d e = absurd d
 made_if n s (c ∷ calls) (m ∷ steps) t d e =
-    (d.0, (m, d.1), made_if (n + 1) (effect c s) calls steps t d.2 (cond_ok (is_admitted c s) (after_from (n + 1) (effect c s) calls) n t e).1)
+    grind (arith, cond_ok, made_if (n + 1) (effect c s) calls steps t d.2 (cond_ok (is_admitted c s) (after_from (n + 1) (effect c s) calls) n t e).1)
 
 pub made-append : (s : State) (xs ys : List Call) (t u : State) → AreMade s xs t → AreMade t ys u → AreMade s (xs ++ ys) u
 made-append s [] ys t u is made = subst (λ (v : State). AreMade v ys u) is made
@@ -122,10 +123,13 @@ described-at : (before : List Call) (c : Call) (later : List Call) (steps : List
     → AreDescribedWhere IsShallow s (before ++ c ∷ later) steps → after_from n s before ≡ Ok t → IsTrue (is_admitted c t) × IsSomeStep c t
 described-at [] c later [] n s t d e = absurd d
 described-at (b ∷ before) c later [] n s t d e = absurd d
-described-at [] c later (m ∷ steps) n s t d e =
-    let same : s ≡ t = cc in (subst (λ (u : State). IsTrue (is_admitted c u)) same d.0, (m, subst (λ (u : State). DescribesWhere IsShallow u c m) same d.1))
+described-at [] c later (m ∷ steps) n s t d e = grind arith
 described-at (b ∷ before) c later (m ∷ steps) n s t d e =
-    described-at before c later steps (n + 1) (effect b s) t d.2 (cond_ok (is_admitted b s) (after_from (n + 1) (effect b s) before) n t e).1
+    grind (
+      arith,
+      cond_ok,
+      described-at before c later steps (n + 1) (effect b s) t d.2 (cond_ok (is_admitted b s) (after_from (n + 1) (effect b s) before) n t e).1,
+    )
 
 described_there : {reason : Call → State
     → Type 0} (front : List ℕ) (calls : List Call) (items : List Item) (place : ℕ) (r : AreRefused reason front calls place)
@@ -153,12 +157,7 @@ barred b h e = cc
 
 pub described_built : (front : List ℕ) (calls : List Call) (items : List Item) (b : Built) → Leaves front calls items → IsBuilt front calls b
     → IsFinishedAs (front ++ join items) b
-described_built front calls items (Finished bytes) left b =
-    let last : b.last ≡ left.0 = same_last (after front calls) b.last left.0 b.admitted left.1 in
-    b.buffer ∙ ap (λ (s : State). front ++ s.stack.inner) last ∙ ap (λ (k : Stack ℕ). front ++ k.inner) left.3
-described_built front calls items (Open size raw) left b =
-    let last : b.last ≡ left.0 = same_last (after front calls) b.last left.0 b.admitted left.1 in
-    absurd (b.unfinished (ap (λ (s : State). s.stack.lists) last ∙ ap (λ (k : Stack ℕ). k.lists) left.3))
+described_built front calls items b e f = grind (arith, same_last)
 
 pub described_refused : (front : List ℕ) (calls : List Call) (items : List Item) (fault : BuildFault) → IsDescribedWhere IsShallow front calls items
     → IsRefusal front calls fault → fault ≡ OutOfMemory
@@ -179,19 +178,7 @@ pub are_joined : (front : List ℕ) (calls : List Call) (s : State) (bytes : Lis
     → (AreDescribed (initial_state front) calls taken.steps → LeavesSteps front calls taken.steps) → after front calls ≡ Ok s → IsFinished s
     → bytes ≡ front ++ s.stack.inner
     → AreJoined front calls bytes
-are_joined front calls s bytes taken law made closed is =
-    let k : Stack Item = items_after_all taken.steps empty_stack in
-    let each : AreDescribed (initial_state front) calls taken.steps = steps_anyhow IsShallow front calls taken.steps taken.described in
-    let (last, admitted, same, stack) = law each in
-    let stacks : s.stack ≡ joined_stack k = ap (λ (u : State). u.stack) (same_last (after front calls) s last made admitted) ∙ stack in
-    let none : k.lists ≡ [] = no_lists k.lists (sym (ap (λ (t : Stack ℕ). t.lists) stacks) ∙ closed) in
-    let finished : k ≡ record { inner = k.inner; lists = [] } = ap (λ ls. record k { lists = ls }) none in
-    record {
-      items = k.inner;
-      shallow = record { steps = taken.steps; described = taken.described; finished = finished };
-      described = record { steps = taken.steps; described = each; finished = finished };
-      joined = is ∙ ap (λ (t : Stack ℕ). front ++ t.inner) stacks;
-    }
+are_joined front calls s bytes taken law made closed is = grind (arith, steps_anyhow, same_last, no_lists)
 
 -- all calls were made, and what the stream holds is their result
 module _ (front : List ℕ) (calls : List Call) (s : State) (made : AreMade (initial_state front) calls s)
@@ -222,9 +209,174 @@ module _ (front : List ℕ) (calls : List Call) (s : State) (made : AreMade (ini
 
 pub memory_refused : {T : Type 0} (front : List ℕ) (calls : List Call) (r : Result T BuildFault) → IfErr r (λ fault. fault ≡ OutOfMemory)
     → IfErr r (IsRefusal front calls)
-memory_refused front calls (Ok x) is = tt
-memory_refused front calls (Err fault) is = subst (IsRefusal front calls) (sym is) tt
+memory_refused front calls r e = grind arith
 
 pub OnOk-all : {T E P : Type 0} (r : Result T E) → P → OnOk r P
 OnOk-all (Ok x) p = p
 OnOk-all (Err e) p = tt
+
+-- ---- calls that are made one after another
+
+-- ---- calls `Finish`
+
+-- what the streams' law says: one of some unbounded lists is closed, and the others are unbounded
+abbrev pub InTurn : Type 0
+InTurn = (n : ℕ) (s : State) → n < unbounded_count s.stack.lists
+    → IsTrue (is_admitted finalize_unbounded_list s) × (n ≤ unbounded_count (effect finalize_unbounded_list s).stack.lists)
+
+made_in_turn : InTurn → (n : ℕ) (s : State) → n ≤ unbounded_count s.stack.lists → AreMade s (replicate n finalize_unbounded_list) (finalized n s)
+made_in_turn in_turn zero s many = refl
+made_in_turn in_turn (suc n) s many =
+    let next = in_turn n s (omega (arith, many)) in
+    (next.0, (finishes, by_finalize), made_in_turn in_turn n (effect finalize_unbounded_list s) next.1)
+
+-- more of them are made
+pub made_finishes : InTurn → (made n : ℕ) (s t u : State) → n ≤ unbounded_count t.stack.lists → u ≡ finalized n t
+    → AreMade s (replicate made finalize_unbounded_list) t → AreMade s (replicate (made + n) finalize_unbounded_list) u
+made_finishes in_turn made n s t u many is so_far =
+    let f = finalize_unbounded_list in
+    let more = made-append s (replicate made f) (replicate n f) t (finalized n t) so_far (made_in_turn in_turn n t many) in
+    subst (λ v. AreMade s (replicate (made + n) f) v) (sym is) (subst (λ cs. AreMade s cs (finalized n t)) (replicate-append-replicate made n f) more)
+
+-- one of them fails
+pub finish_fails : (made count place : ℕ) (s t : State) (fault : BuildFault) → made < count → AreMade s (replicate made finalize_unbounded_list) t
+    → Fails finalize_unbounded_list t (place + made) fault → IsStopped s (replicate count finalize_unbounded_list) place fault
+finish_fails made count place s t fault some so_far why =
+    let f = finalize_unbounded_list in
+    let number : made + suc (count - made - 1) ≡ count = omega (arith, some) in
+    record {
+      before = replicate made f;
+      call = f;
+      later = replicate (count - made - 1) f;
+      in_order = sym (replicate-append-replicate made (suc (count - made - 1)) f ∙ ap (λ n. replicate n f) number);
+      met = t;
+      made = so_far;
+      fails = subst (λ n. Fails f t (place + n) fault) (sym (length-replicate made f)) why;
+    }
+
+-- ---- the next calls of a source
+
+-- there is none
+pub makes_none : {T : Type 0} (end : T) (left : Result (List Call) ℕ) (place : ℕ) (s : State) → MakesSome left left place place s s (Ok end)
+makes_none end left place s = record { made = []; parts = sym (prepend-nil left); counted = omega arith; goes = refl }
+
+-- calls `Finish`
+pub makes_finishes : {T : Type 0} (old new : Result (List Call) ℕ) (place count : ℕ) (s t : State) (r : Result T BuildFault)
+    → old ≡ prepend (replicate count finalize_unbounded_list) new → Goes s (replicate count finalize_unbounded_list) place t r
+    → MakesSome old new place (place + count) s t r
+makes_finishes old new place count s t r parts goes = grind (arith, length-replicate)
+
+-- another call
+pub makes_one : {T : Type 0} (end : T) (c : Call) (old new : Result (List Call) ℕ) (place : ℕ) (s t : State) → old ≡ prepend (c ∷ []) new
+    → IsTaken c s t → MakesSome old new place (place + 1) s t (Ok end)
+makes_one end c old new place s t parts taken = record { made = c ∷ []; parts = parts; counted = refl; goes = taken }
+
+pub fails_at : (T : Type 0) (c : Call) (old new : Result (List Call) ℕ) (place : ℕ) (s t : State) (fault : BuildFault) → old ≡ prepend (c ∷ []) new
+    → Fails c s place fault → MakesSome {T = T} old new place (place + 1) s t (Err fault)
+fails_at T c old new place s t fault parts why = record {
+  made = c ∷ [];
+  parts = parts;
+  counted = refl;
+  goes = record {
+    before = [];
+    call = c;
+    later = [];
+    in_order = refl;
+    met = s;
+    made = refl;
+    fails = subst (λ n. Fails c s n fault) (let same : place ≡ place + 0 = omega arith in same) why;
+  };
+}
+
+-- a call `Finish`, and those after it
+pub one_more : (old mid new : Result (List Call) ℕ) (count : ℕ) → old ≡ prepend (finalize_unbounded_list ∷ []) mid
+    → mid ≡ prepend (replicate count finalize_unbounded_list) new → old ≡ prepend (replicate (1 + count) finalize_unbounded_list) new
+one_more old mid new count first others = grind (arith, prepend-append)
+
+-- no call `Finish` is next
+pub skip_none : (old left : Result (List Call) ℕ) (count : ℕ) → old ≡ prepend (replicate count finalize_unbounded_list) left → count ≤ 0 → old ≡ left
+skip_none old left count e f = grind (arith, prepend-nil)
+
+-- ---- all calls
+
+-- some calls are made, and then more
+pub makes_more : {U : Type 0} {end : U} {old new newer : Result (List Call) ℕ} {place next last : ℕ} {s t u : State}
+    → MakesSome {T = Unit {0}} old new place next s t (Ok tt) → MakesSome new newer next last t u (Ok end)
+    → MakesSome {T = Unit {0}} old newer place last s u (Ok tt)
+makes_more {newer = newer} {s = s} {t = t} {u = u} m n = grind (arith, prepend-append, length-append, made-append)
+
+-- and then one fails
+pub fails_more : {U : Type 0} {old new newer : Result (List Call) ℕ} {place next last : ℕ} {s t u : State} {fault : BuildFault}
+    → MakesSome {T = Unit {0}} old new place next s t (Ok tt) → MakesSome {T = U} new newer next last t u (Err fault)
+    → MakesSome {T = Unit {0}} old newer place last s u (Err fault)
+fails_more {newer = newer} {place} {next} {s = s} {t = t} {fault = fault} m n =
+    let r = n.goes in
+    let same : next + length r.before ≡ place + length (m.made ++ r.before) = omega (arith, m.counted, length-append m.made r.before) in
+    record {
+      made = m.made ++ n.made;
+      parts = m.parts ∙ ap (prepend m.made) n.parts ∙ sym (prepend-append m.made n.made newer);
+      counted = omega (arith, n.counted, m.counted, length-append m.made n.made);
+      goes = record {
+        before = m.made ++ r.before;
+        call = r.call;
+        later = r.later;
+        in_order = ap (λ cs. m.made ++ cs) r.in_order ∙ sym (append_assoc m.made r.before (r.call ∷ r.later));
+        met = r.met;
+        made = made-append s m.made r.before t r.met m.goes r.made;
+        fails = subst (λ k. Fails r.call r.met k fault) same r.fails;
+      };
+    }
+
+-- a call that fails is the first that does, whatever calls follow
+refused_for : {reason : Call → State → Type 0} {fault : BuildFault} (front : List ℕ) (calls later : List Call) (place : ℕ)
+    (r : IsStopped (initial_state front) calls 1 fault) → place ≡ 1 + length r.before → reason r.call r.met → AreRefused reason front (calls ++ later) place
+refused_for front calls later place r at why =
+    let (steps, described, admitted) = made_steps 1 (initial_state front) r.before r.met r.made in
+    record {
+      before = r.before;
+      call = r.call;
+      later = r.later ++ later;
+      in_order = ap (λ cs. cs ++ later) r.in_order ∙ append_assoc r.before (r.call ∷ r.later) later;
+      counted = omega (arith, at);
+      taken = record { steps = steps; described = described };
+      met = r.met;
+      admitted = admitted;
+      refused = why;
+    }
+
+pub refused : (front : List ℕ) (calls later : List Call) (fault : BuildFault) → IsStopped (initial_state front) calls 1 fault
+    → IsRefusal front (calls ++ later) fault
+refused front calls later (TooManyItems place) r = refused_for front calls later place r r.fails.0 r.fails.1
+refused front calls later (NothingToFinish place) r = refused_for front calls later place r r.fails.0 r.fails.1
+refused front calls later (RawNotItems place) r = refused_for front calls later place r r.fails.0 r.fails.1
+refused front calls later OutOfMemory r = tt
+
+same_calls : (calls others : List Call) → ◌≡◌ {A = Result (List Call) ℕ} (Ok calls) (Ok others) → calls ≡ others
+same_calls calls others e = cc
+
+-- all calls that are values are made, or one of them fails
+pub all_made : (all : List Call) (left : Result (List Call) ℕ) (place next : ℕ) (s t : State)
+    → MakesSome {T = Unit {0}} (Ok all) left place next s t (Ok tt) → NoneIsNext left → AreMade s all t
+all_made all (Ok others) place next s t m ended = grind (arith, same_calls, append-nil)
+all_made all (Err at) place next s t m ended = absurd (let parts = m.parts in let no : ⊥ = cc in no)
+
+pub one_fails : (front : List ℕ) (all : List Call) (left : Result (List Call) ℕ) (next : ℕ) (t : State) (fault : BuildFault)
+    → MakesSome {T = Unit {0}} (Ok all) left 1 next (initial_state front) t (Err fault) → IsRefusal front all fault
+one_fails front all (Ok others) next t fault m = grind (arith, same_calls, refused)
+one_fails front all (Err at) next t fault m = absurd (let parts = m.parts in let no : ⊥ = cc in no)
+
+-- ---- the calls of a script
+
+module _ (text : List ℕ) (old left : Result (List Call) ℕ) (place : ℕ) (t : State) (r : Result (Unit {0}) BuildFault) (whole : script text ≡ old)
+    (m : MakesSome old left 1 place (initial_state []) t r) where
+  -- a piece isn't a call
+  pub script_unread : (there : ℕ) → IsUnread place left (Some there) → script text ≡ Err there
+  script_unread there (calls, is, at) = grind arith
+
+  -- all pieces are calls, and are made
+  pub script_made : (end : Unit {0}) → r ≡ Ok end → OnOk r (NoneIsNext left) → IsUnread place left None → MakesScript text t
+  script_made end is ended (calls, all) = grind (arith, append-nil, made_front)
+
+  -- all pieces are calls, and one fails
+  pub script_stops : (fault : BuildFault) → r ≡ Err fault → IsUnread place left None → StopsScript text fault
+  script_stops fault is (calls, all) = grind (arith, refused)

@@ -1,7 +1,7 @@
 -- Pieces of a text, cut at a byte.
-use Rattle.std.proofs.Common.{◌≡◌, ◌≢◌, IsTrue, nat_eq, option_map, ℕ, ◌+◌, ◌-◌, ◌%◌, ◌<◌, ◌==◌, ◌&&◌, Bool, true, false, cond, nat_lt, List, []}
-use Rattle.std.proofs.Common.{◌∷◌, ◌++◌, length, take, drop, get_or, is_some, Option, Some, None, Result, Ok, Err, refl, sym, ap, ◌∙◌}
-use Rattle.std.proofs.{Common.{append_assoc, length-append, subst, arith, position, filter_map}, lemmas.List.{drop-drop, take_all, length-drop}}
+use Rattle.std.proofs.Common.{◌≡◌, ◌≢◌, IsTrue, ℕ, ◌+◌, ◌-◌, ◌%◌, ◌<◌, ◌==◌, ◌&&◌, Bool, true, false, cond, nat_lt, List, [], ◌∷◌, ◌++◌, length, take}
+use Rattle.std.proofs.Common.{drop, get_or, is_some, Option, Some, None, Result, Ok, Err, refl, sym, ap, ◌∙◌, append_assoc, length-append, arith}
+use Rattle.std.proofs.{Common.{position, filter_map}, lemmas.List.{drop-drop, take_all, length-drop}}
 use Rattle.std.proofs.{lemmas.List.Splits.{slice_split_first, slice_split_none}, lemmas.List.Elements.All-from_get_or}
 use Rattle.std.proofs.lemmas.List.Sums.{AllPass-from_list_all, fails_before_first, position_or_len_is}
 use Rattle.std.proofs.{lemmas.Bool.{and_parts, eqb-true, false_from_ne_true}, lemmas.Option.cond_some, lemmas.Bool.Decides.nat_tests}
@@ -16,24 +16,15 @@ use Rattle.rlp_tool.specs.Script.{raw_call, raw_parts, call_in, calls_in, is_cal
 -- the first such byte that a loop finds
 pub first_near : (a : ℕ) (bytes : List ℕ) (at : ℕ) → at < length bytes → ((k : ℕ) → k < at → get_or bytes k 0 ≢ a) → get_or bytes at 0 ≡ a
     → Some at ≡ position (λ b. b == a) bytes
-first_near a bytes at inside before here =
-    let found : position_or_len (λ b. b == a) bytes ≡ at = position_or_len_is (λ b. b == a) bytes at 0 (omega arith)
-    (λ k lt. false_from_ne_true (get_or bytes k 0 == a) (λ e. before k lt (eqb-true (get_or bytes k 0) a e))) (λ lt. grind (arith, here, nat_tests)) in
-    grind (arith, found, inside)
+first_near a bytes at inside before here = grind (arith, position_or_len_is, false_from_ne_true, eqb-true, nat_tests)
 
 none_is : (test : Bool) (end : ℕ) → cond test (Some end) None ≡ None → test ≡ false
-none_is true end e = absurd (let no : ⊥ = cc in no)
-none_is false end e = refl
+none_is test end e = grind arith
 
 -- the first piece ends at the first such byte
 pub cut-there : (a : ℕ) (xs : List ℕ) (at : ℕ) → position (λ b. b == a) xs ≡ Some at
     → slice_split (λ b. b == a) xs ≡ take at xs ∷ slice_split (λ b. b == a) (drop (at + 1) xs)
-cut-there a xs at e =
-    let end = position_or_len (λ b. b == a) xs in
-    let found = cond_some (nat_lt end (length xs)) end at e in
-    let test : nat_lt end (length xs) ≡ true = found.0 in
-    let inside : end < length xs = grind (arith, nat_tests) in
-    slice_split_first (λ b. b == a) xs 0 inside ∙ ap (λ (n : ℕ). take n xs ∷ slice_split (λ b. b == a) (drop (n + 1) xs)) found.1
+cut-there a xs at e = grind (arith, cond_some, nat_tests, slice_split_first)
 
 -- without such a byte there is one piece
 pub cut-nowhere : (a : ℕ) (xs : List ℕ) → position (λ b. b == a) xs ≡ None → slice_split (λ b. b == a) xs ≡ xs ∷ []
@@ -46,13 +37,10 @@ cut-nowhere a xs e =
 -- ---- reading piece by piece
 
 pub prepend-nil : (left : Result (List Call) ℕ) → prepend [] left ≡ left
-prepend-nil (Ok calls) = refl
-prepend-nil (Err place) = let same : 0 + place ≡ place = omega arith in ap (λ n. Err n) same
+prepend-nil left = grind arith
 
 pub prepend-append : (xs ys : List Call) (left : Result (List Call) ℕ) → prepend (xs ++ ys) left ≡ prepend xs (prepend ys left)
-prepend-append xs ys (Ok calls) = ap (λ cs. Ok cs) (append_assoc xs ys calls)
-prepend-append xs ys (Err place) =
-    let more : length (xs ++ ys) + place ≡ length xs + (length ys + place) = omega (arith, length-append xs ys) in ap (λ n. Err n) more
+prepend-append xs ys left = grind (arith, append_assoc, length-append)
 
 -- the result of a piece, by its call, and of the pieces after it
 abbrev read_by : Option Call → List (List ℕ) → Result (List Call) ℕ
@@ -72,22 +60,18 @@ read_by-some (Some c) call pieces is = by (list_all is_call pieces) (filter_map 
     by false calls k = refl
 
 read_by-none : (o : Option Call) (pieces : List (List ℕ)) → o ≡ None → read_by o pieces ≡ Err 1
-read_by-none None pieces is = refl
-read_by-none (Some c) pieces is = absurd (let no : ⊥ = cc in no)
+read_by-none o pieces e = grind arith
 
 -- the first of the pieces that are left is a call, if it is read as a piece
 pub read-next : (all others : Option (Bor (List ℕ))) (rest : Bor (List ℕ)) (cut : List ℕ) (o : Option Piece) (piece : Piece) → all ≡ Some rest
     → spaces rest.now ≡ cut ∷ pieces_left others → o ≡ Some piece → IsRead o (call_in cut)
     → calls_in (pieces_left all) ≡ prepend (piece_call piece ∷ []) (calls_in (pieces_left others))
-read-next all others rest cut o piece is cuts some read =
-    let here : IsRead (Some piece) (call_in cut) = subst (λ p. IsRead p (call_in cut)) some read in
-    ap (λ p. calls_in (pieces_left p)) is ∙ ap calls_in cuts ∙ read_by-some (call_in cut) (piece_call piece) (pieces_left others) here.1
+read-next all others rest cut o piece is cuts some read = grind (arith, read_by-some)
 
 -- it isn't a call, if it isn't read
 pub read-stray : (all others : Option (Bor (List ℕ))) (rest : Bor (List ℕ)) (cut : List ℕ) (o : Option Piece) → all ≡ Some rest
     → spaces rest.now ≡ cut ∷ pieces_left others → o ≡ None → IsRead o (call_in cut) → calls_in (pieces_left all) ≡ Err 1
-read-stray all others rest cut o is cuts none read =
-    ap (λ p. calls_in (pieces_left p)) is ∙ ap calls_in cuts ∙ read_by-none (call_in cut) (pieces_left others) (subst (λ p. IsRead p (call_in cut)) none read)
+read-stray all others rest cut o is cuts none read = grind (arith, read_by-none)
 
 -- behind some pieces that are calls
 pub record AreRead (first place : ℕ) (old new : Result (List Call) ℕ) : Type 0 where
@@ -141,18 +125,7 @@ no_digit c a other digit = by (c == a) refl
 
 -- digits don't begin with `0x`
 no_prefix : (digits : List ℕ) → IsTrue (list_all is_hex_digit digits) → digits_of digits ≡ digits
-no_prefix [] all = refl
-no_prefix (c ∷ []) all = elim (nat_eq 48 c) as (λ test. cond (test && false) (drop 2 (c ∷ [])) (c ∷ []) ≡ c ∷ []) [
-  | true ↦ refl
-  | false ↦ refl
-]
-no_prefix (c ∷ d ∷ digits) all =
-    let second = and_parts (is_hex_digit d) (list_all is_hex_digit digits) (and_parts (is_hex_digit c) (list_all is_hex_digit (d ∷ digits)) all).1 in
-    let not_x : nat_eq 120 d ≡ false = grind (arith, no_digit d 120 refl second.0, nat_tests) in
-    elim (nat_eq 48 c) as (λ test. cond (test && (nat_eq 120 d && true)) digits (c ∷ d ∷ digits) ≡ c ∷ d ∷ digits) [
-      | true ↦ ap (λ b. cond (b && true) digits (c ∷ d ∷ digits)) not_x
-      | false ↦ refl
-    ]
+no_prefix digits e = grind (arith, and_parts, no_digit, nat_tests)
 
 -- digits, two for each byte, are those of some bytes
 pub bytes_of_pairs : (digits : List ℕ) → length digits % 2 ≡ 0 → IsTrue (list_all is_hex_digit digits) → result_ok (decode_of digits) ≡ Some (bytes_of digits)
@@ -163,6 +136,4 @@ bytes_of_pairs digits even all =
 -- the call of such a piece
 pub byte_call : (digits : List ℕ) (byte : ℕ) → length digits % 2 ≡ 0 → IsTrue (list_all is_hex_digit digits) → bytes_of digits ≡ byte ∷ []
     → call_in (100 ∷ 58 ∷ digits) ≡ Some (append (string (byte ∷ [])))
-byte_call digits byte even all is =
-    ap (λ ds. option_map (λ bytes. append (string bytes)) (result_ok (decode_of ds))) (no_prefix digits all)
-    ∙ ap (option_map (λ bytes. append (string bytes))) (bytes_of_pairs digits even all ∙ ap (λ bs. Some bs) is)
+byte_call digits byte even all is = grind (arith, no_prefix, bytes_of_pairs)

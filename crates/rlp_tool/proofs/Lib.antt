@@ -6,9 +6,5 @@ pub mod CutLemmas
 pub mod RawLemmas
 -- calls of a stream, one after another
 pub mod CallsLemmas
--- calls that are made one after another
-pub mod MakingLemmas
--- the calls of a line whose answer is `out`
-pub mod SaidLemmas
 -- the answers to lines of calls
 pub mod AnswerLemmas

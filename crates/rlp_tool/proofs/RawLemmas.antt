@@ -1,12 +1,11 @@
 -- Raw bytes that are items.
-use Rattle.std.proofs.Common.{◌≡◌, ℕ, ◌-◌, ◌^◌, ◌<◌, ◌↔◌, true, false, List, [], ◌∷◌, ◌++◌, length, map, All, refl, sym, ap}
-use Rattle.std.proofs.{Common.{◌∙◌, subst, arith, IsTrue, Ok, nat_eq}, lemmas.Slice.Eq.bytes_eq-Decides}
-use Rattle.std.proofs.{lemmas.Bool.Decides.{nat_tests, Decides-eqb}, lemmas.Bool.and_parts, lemmas.List.append_cancel_left}
-use Rattle.std.proofs.lemmas.List.Elements.{recursion_from_All, All-from_recursion}
-use Rattle.std.specs.{Str.bytes_eq, Cmp.Derive.both_true, List.AllByRecursion}
+use Rattle.std.proofs.Common.{◌≡◌, ℕ, ◌-◌, ◌^◌, ◌<◌, ◌↔◌, true, false, List, [], ◌∷◌, ◌++◌, length, map, All, refl, sym, ap, ◌∙◌, arith, IsTrue, Ok, pos_of_ne-zero}
+use Rattle.std.proofs.{Common.nat_eq, lemmas.Slice.Eq.bytes_eq-Decides, lemmas.Bool.Decides.{nat_tests, Decides-eqb}, lemmas.Bool.and_parts}
+use Rattle.std.proofs.{lemmas.List.append_cancel_left, lemmas.List.Elements.{recursion_from_All, All-from_recursion}}
+use Rattle.std.specs.{Str.bytes_eq, List.AllByRecursion}
 use Rattle.rlp.specs.{Format.Encoding.{Item, encoding, join, BeginsWith, IsSized}, Format.Framing.{IsFramed, split, IsCanonicalWithin}}
 use Rattle.rlp_reading.specs.Format.Framing.{frame, framing, header}
-use Rattle.rlp_reading.proofs.{Lemmas.{Frames.split_join, Items.item_within-encoding, Views.sized_items}, RawLaws.shallow_within}
+use Rattle.rlp_reading.proofs.{Lemmas.Frames.split_join, Lemmas.Items.item_within-encoding, Lemmas.Views.sized_items, RawLaws.shallow_within}
 use Rattle.rlp_tool.specs.RawItems.{AreRawItems, IsShallow, are_raw_items, deepest_raw_item, item_within, raw_items}
 
 -- ---- the rest of raw bytes
@@ -22,15 +21,11 @@ nothing_framed x e = cc
 
 none_by : (b : List ℕ) (xs : List Item) → FramesEncodings b → b ≡ [] → b ≡ join xs → length xs ≡ 0
 none_by b [] frames none joined = refl
-none_by b (x ∷ xs) frames none joined =
-    absurd (nothing_framed x (subst (λ e. frame e ≡ Ok (encoding x)) none (frames x (join xs, joined)).1))
+none_by b (x ∷ xs) frames none joined = grind (arith, nothing_framed)
 
 -- an empty slice has no items
 pub no_items : (b : List ℕ) (count : ℕ) → FramesEncodings b → b ≡ [] → AreRawItems b count ↔ (count ≡ 0)
-no_items b count frames none = (
-  λ a. sym a.counted ∙ none_by b a.brought frames none a.joined,
-  λ zero_left. record { brought = []; joined = none; counted = sym zero_left; shallow = All-from_recursion IsShallow [] tt },
-)
+no_items b count frames none = grind (arith, none_by)
 
 stray_by : (b : List ℕ) (xs : List Item) → FramesEncodings b → 0 < length b → ¬ IsFramed b → b ≡ join xs → ⊥
 stray_by b [] frames some unframed joined = omega (arith, ap length joined)
@@ -84,8 +79,7 @@ no_bytes [] is = refl
 no_bytes (c ∷ b) is = absurd (let no : ⊥ = grind (arith, nat_tests) in no)
 
 pub not_empty : (b : List ℕ) → false ≡ nat_eq (length b) 0 → 0 < length b
-not_empty [] is = absurd (let no : ⊥ = cc in no)
-not_empty (c ∷ b) is = omega arith
+not_empty b e = grind arith
 
 pub not_true : {P : Type 0} → (P → IsTrue false) → P → ⊥
 not_true from p = never (from p)
@@ -95,17 +89,11 @@ not_true from p = never (from p)
 -- items that are written are read again
 raw_items-join : (xs : List Item) → AllByRecursion IsSized xs → AllByRecursion IsShallow xs → map (item_within deepest_raw_item) (map encoding xs) ≡ xs
 raw_items-join [] sized shallow = refl
-raw_items-join (x ∷ xs) sized shallow =
-    ap (λ y. y ∷ map (item_within deepest_raw_item) (map encoding xs)) (item_within-encoding deepest_raw_item x sized.0 shallow.0)
-    ∙ ap (λ ys. x ∷ ys) (raw_items-join xs sized.1 shallow.1)
+raw_items-join (x ∷ xs) sized shallow = grind (arith, item_within-encoding, raw_items-join xs sized.1 shallow.1)
 
 -- the joined encodings of items pass the test
 pub are_raw_items-join : (xs : List Item) → All IsSized xs → All IsShallow xs → IsTrue (are_raw_items (join xs) (length xs))
-are_raw_items-join xs sized shallow =
-    let again : raw_items (join xs) ≡ xs = ap (map (item_within deepest_raw_item)) (split_join xs sized)
-    ∙ raw_items-join xs (recursion_from_All IsSized xs sized) (recursion_from_All IsShallow xs shallow) in
-    both_true ((bytes_eq-Decides (join (raw_items (join xs))) (join xs)).1 (ap join again))
-    ((Decides-eqb (length (raw_items (join xs))) (length xs)).1 (ap length again))
+are_raw_items-join xs sized shallow = grind (arith, split_join, raw_items-join, recursion_from_All, bytes_eq-Decides)
 
 each_shallow : (fs : List (List ℕ)) → AllByRecursion IsShallow (map (item_within deepest_raw_item) fs)
 each_shallow [] = tt
@@ -124,7 +112,8 @@ are_raw_items-told b count passed =
 
 -- the joined encodings of items that a slice can hold pass the test
 pub are_raw_items-passed : (b : List ℕ) (count : ℕ) → length b < 2 ^ 64 → AreRawItems b count → IsTrue (are_raw_items b count)
-are_raw_items-passed b count fits a =
-    let sized : All IsSized a.brought = sized_items a.brought (2 ^ 64) (omega (arith, ap length a.joined)) in
-    let P : List ℕ → ℕ → Type 0 = λ bytes n. IsTrue (are_raw_items bytes n) in
-    subst (λ (n : ℕ). P b n) a.counted (subst (λ (bytes : List ℕ). P bytes (length a.brought)) (sym a.joined) (are_raw_items-join a.brought sized a.shallow))
+are_raw_items-passed b count fits a = grind (arith, sized_items, are_raw_items-join)
+
+pub ruleset tested = (are_raw_items-told, are_raw_items-passed)
+
+pub ruleset walked = (pos_of_ne-zero, first_item, no_bytes, no_items, not_empty, not_true, refuted, stray_bytes)

@@ -19,10 +19,10 @@ pub use Rattle.rlp_lines.specs.Run
 -- the calls of a script
 pub mod Script
 -- the exit status
-pub use Rattle.rlp_lines.specs.Status
+pub use Rattle.rlp_lines.specs.Run
 -- calls of a stream as values
 pub mod StreamCalls
 -- a reader or writer that is watched
-pub use Rattle.rlp_lines.specs.Watched
+pub use Rattle.rlp_lines.specs.Run
 -- why a run ended before the end of its input
 pub use Rattle.rlp_lines.specs.declared.serving.RunFault

@@ -73,6 +73,7 @@ fn first_item<'a>(bytes: &'a [u8]) -> Option<(&'a [u8], &'a [u8])>
 
 /// Whether raw bytes are the joined canonical encodings of `item_count` items, none deeper than
 /// 256.
+#[tactic(auto, using(crate::proofs::RawLemmas::walked))]
 fn raw_items_are_canonical(bytes: &[u8], item_count: usize) -> bool
     ensures { IsTrue result ↔ AreRawItems bytes.now item_count }
 {
@@ -204,6 +205,7 @@ pub(crate) fn take_raw(
 
 /// Makes `Finish` this number of times. Consecutive unbounded lists are closed by one call, so that
 /// each byte moves only once. `place` is the place of the first call.
+#[tactic(auto, using(crate::proofs::CallsLemmas::finish_fails, crate::proofs::CallsLemmas::made_finishes))]
 pub(crate) fn take_finishes(
     stream: &mut RlpStream,
     count: usize,

@@ -50,6 +50,7 @@ pub(crate) trait Calls {
 
 /// Makes all calls, up to the first call that fails.
 #[inline(always)]
+#[tactic(auto, using(std::proofs::lemmas::Result::err_from_is_err_and, crate::proofs::CallsLemmas::fails_more, crate::proofs::CallsLemmas::makes_more, crate::proofs::CallsLemmas::makes_none))]
 pub(crate) fn make_calls<C: Calls>(
     calls: &mut C,
     stream: &mut RlpStream,

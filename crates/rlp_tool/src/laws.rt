@@ -11,6 +11,7 @@ use rlp::laws::{parts_of_sized_are_sized, stream_joins_what_is_described};
 
 /// Raw bytes pass the test of the answers if and only if they are the joined encodings of the
 /// announced number of items, and no item is too deep.
+#[tactic(auto, using(crate::proofs::RawLemmas::tested))]
 pub fn raw_items_are_tested(bytes: &[u8])
     ensures { (count : ℕ) → IsTrue (are_raw_items bytes.now count) ↔ AreRawItems bytes.now count }
 {}

@@ -106,15 +106,9 @@ fn read_labelled(letter: u8, text: &[u8]) -> Option<Piece<'_>>
     ensures { IsRead result (labelled_call letter text.now) }
 {
     match letter {
-        b'l' => match read_number(text) {
-            Some(count) => Some(Piece::Begin(count)),
-            None => None,
-        },
+        b'l' => Some(Piece::Begin(read_number(text)?)),
         b'r' => read_raw(text),
-        b'd' => match digits_in(text) {
-            Some(digits) => Some(Piece::Value(digits)),
-            None => None,
-        },
+        b'd' => Some(Piece::Value(digits_in(text)?)),
         _ => None,
     }
 }

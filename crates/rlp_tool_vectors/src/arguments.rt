@@ -1,7 +1,7 @@
 //! What arguments of the program that shows records ask for. A row has the arguments, and what they ask
 //! for: `json` or `bytes`, `lines` or `record`, and the name of the kind.
 
-use crate::rows::{Row, note};
+use crate::rows::Row;
 use rlp_show::{Answers, Form, Request};
 use rlp_vectors::rows::Line;
 use std::alloc::{AllocError, Global};
@@ -32,8 +32,7 @@ pub(crate) fn check(alloc: Global, row: &Row, wrong: &mut Line) -> Result<(), Al
         Request::Lines(answers) => told(alloc, "lines", answers),
         Request::Record(answers) => told(alloc, "record", answers),
     }?;
-    note(
-        wrong,
+    wrong.note(
         "arguments",
         row.given.as_str(),
         said.as_str(),

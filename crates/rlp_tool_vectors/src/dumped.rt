@@ -1,6 +1,5 @@
 //! Whether the rows that the program answers to `--bytes` show the bytes of a record.
 
-use crate::rows::note;
 use crate::shown::{Asked, answered};
 use rlp::Rlp;
 use rlp_show::{Form, Kind};
@@ -88,7 +87,7 @@ pub(crate) fn note_rows(
     for row in rows.as_str().lines() {
         let cells = Cells::of(row);
         if !cells.is_right(shown.as_str(), bytes.as_slice()) {
-            note(wrong, "row", asked.given, row, "at its place");
+            wrong.note("row", asked.given, row, "at its place");
         }
         shown.push_str(cells.header.trim_matches('-'))?;
         shown.push_str(cells.payload.trim_matches('-'))?;
@@ -97,15 +96,9 @@ pub(crate) fn note_rows(
             lines.push('\n')?;
         }
     }
-    note(
-        wrong,
-        "lines of rows",
-        asked.given,
-        lines.as_str(),
-        asked.want,
-    );
+    wrong.note("lines of rows", asked.given, lines.as_str(), asked.want);
     if !are_all(shown.as_str(), digits, asked.want) {
-        note(wrong, "bytes of rows", asked.given, shown.as_str(), digits);
+        wrong.note("bytes of rows", asked.given, shown.as_str(), digits);
     }
     match asked.kind {
         Some(kind) if bytes.len() > 1 && !are_unsigned(asked.want) => {
@@ -161,7 +154,7 @@ fn note_names(
         let found = name_at_fault(answer.as_str());
         let is_any = name.contains("pairs[") || name.contains("further[") || name.contains("child");
         if !is_any || !name.starts_with(found) {
-            note(wrong, "name", digits.as_str(), found, name);
+            wrong.note("name", digits.as_str(), found, name);
         }
     }
     Ok(())

@@ -2,38 +2,26 @@
 //!
 //! In an answer `'` is a quote, and the ends of lines don't count.
 
-use crate::rows::{Row, note};
+use crate::rows::Row;
 use crate::shown::{answered, line_of};
 use rlp::DecoderError;
 use rlp_headers::Log;
 use rlp_records::Enveloped;
-use rlp_show::{Form, Kind, Show, json_of};
-use rlp_transactions::{BlobTransactionWithCellProofs, BlobTransactionWithProofs};
+use rlp_show::{Form, Kind, json_of};
+use rlp_transactions::{BlobTransactionWithCellProofs as CellProofs, BlobTransactionWithProofs};
 use rlp_vectors::rows::{Line, at_length, cut, named};
 use serde_json::Value;
 use std::alloc::{AllocError, Global};
 
-/// Returns the JSON of a value.
-fn json<T: Show>(alloc: Global, value: &T) -> Result<String, DecoderError> {
-    match json_of(alloc, value) {
-        Ok(text) => Ok(text),
-        Err(AllocError) => Err(DecoderError::OutOfMemory),
-    }
-}
-
 /// Reads a record of a type of this name that is no kind, and returns its JSON.
 fn other_json(alloc: Global, name: &str, bytes: &[u8]) -> Result<String, DecoderError> {
-    match name {
-        "log" => json(alloc, &rlp::decode_whole::<Log>(alloc, bytes)?),
-        "with_proofs" => json(alloc, &BlobTransactionWithProofs::from_bytes(alloc, bytes)?),
-        "with_cell_proofs" => {
-            json(
-                alloc,
-                &BlobTransactionWithCellProofs::from_bytes(alloc, bytes)?,
-            )
-        }
-        _ => Err(DecoderError::Custom("no such kind")),
-    }
+    let text = match name {
+        "log" => json_of(alloc, &rlp::decode_whole::<Log>(alloc, bytes)?),
+        "with_proofs" => json_of(alloc, &BlobTransactionWithProofs::from_bytes(alloc, bytes)?),
+        "with_cell_proofs" => json_of(alloc, &CellProofs::from_bytes(alloc, bytes)?),
+        _ => return Err(DecoderError::Custom("no such kind")),
+    };
+    Ok(text?)
 }
 
 /// Returns the JSON of a record of this kind or of this type, and the end of a line.
@@ -64,13 +52,7 @@ pub(crate) fn check(
     let want = at_length(alloc, row.want.as_str(), names)?;
     let mut want = want.replace(alloc, "\n", "")?.replace(alloc, "'", "\"")?;
     want.push('\n')?;
-    note(
-        wrong,
-        "JSON",
-        row.given.as_str(),
-        answer.as_str(),
-        want.as_str(),
-    );
+    wrong.note("JSON", row.given.as_str(), answer.as_str(), want.as_str());
     Ok(())
 }
 
@@ -85,13 +67,13 @@ pub(crate) fn check_members(
     let digits = at_length(alloc, named("BLOCK", names), names)?;
     let text = printed(alloc, "block", digits.as_str())?;
     let Ok(answer) = Value::from_str(alloc, text.as_str()) else {
-        note(wrong, "members", row.given.as_str(), text.as_str(), "JSON");
+        wrong.note("members", row.given.as_str(), text.as_str(), "JSON");
         return Ok(());
     };
     let object = answer.pointer(row.given.as_str());
     for name in row.want.split_whitespace() {
         if object.and_then(|o| o.get(name)).is_none() {
-            note(wrong, "members", row.given.as_str(), "missing", name);
+            wrong.note("members", row.given.as_str(), "missing", name);
         }
     }
     Ok(())

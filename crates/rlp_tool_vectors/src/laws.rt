@@ -41,7 +41,7 @@ fn laws_of_lines() {
 }
 
 #[test]
-fn encodings_are_shown_as_lines(_rt: HostRuntime) -> Result<(), Fail> {
+fn encodings_are_shown_as_lines() {
     encodings_are_shown::<Header>(b"c0");
     encodings_are_shown::<Block>(b"c0");
     encodings_are_shown::<AccessList>(b"c0");
@@ -58,7 +58,6 @@ fn encodings_are_shown_as_lines(_rt: HostRuntime) -> Result<(), Fail> {
     nodes_are_shown(b"c0");
     only_nodes_are_shown(b"c0");
     shown_values_are_told_apart::<Header>();
-    Ok(())
 }
 
 /// A withdrawal of 4 Gwei, worked out by the rules of the format.
@@ -128,15 +127,13 @@ fn laws_hold_of_nodes(rt: HostRuntime) -> Result<(), Fail> {
 }
 
 #[test]
-fn bytes_tell_messages_apart(_rt: HostRuntime) -> Result<(), Fail> {
+fn bytes_tell_messages_apart() {
     bytes_tell_messages::<P2pMessage>();
     bytes_tell_messages::<Eth68Message>();
     bytes_tell_messages::<Eth69Message>();
-    Ok(())
 }
 
 #[test]
-fn both_ends_find_the_same_offsets(_rt: HostRuntime) -> Result<(), Fail> {
+fn both_ends_find_the_same_offsets() {
     both_ends_agree();
-    Ok(())
 }

@@ -1,16 +1,16 @@
 //! Tests of both programs, `rlp_tool` and the program that shows records, and of the records of
 //! Ethereum.
 //!
-//! The program asks what the rows of the files in `data/` ask, and prints for each file the number
-//! of its rows and how many are answered otherwise than they say. It ends with status 1 if there are
-//! such rows. Tests that are no tables are functions.
+//! The program asks what the rows of the files in `data/` ask, also about the codec, and prints for each
+//! file that `files.txt` names the number of its rows and how many are answered otherwise than they say.
+//! It ends with status 1 if there are such rows. Names that several rows use stand in `named.txt`. Tests
+//! that are no tables are functions.
 #![tactic(auto)]
 
 mod answered;
 mod arguments;
 #[cfg(test)]
 mod bounded;
-mod calls;
 mod devices;
 mod dumped;
 mod json;
@@ -18,8 +18,6 @@ mod json;
 mod laws;
 #[cfg(test)]
 mod never;
-#[cfg(test)]
-mod offsets;
 #[cfg(test)]
 mod refused;
 mod rows;
@@ -30,41 +28,15 @@ mod tool;
 mod values;
 
 use rlp_show::Form;
+use rlp_vectors::note_row;
 use rlp_vectors::rows::Line;
 use rows::{Row, names_in, rows_in};
 use std::alloc::{AllocError, Global};
 use std::process::ExitCode;
 use std::{fs, io};
 
-/// The files with rows. Names that several rows use stand in `named.txt`.
-const FILES: [&str; 23] = [
-    "records.txt",
-    "transactions.txt",
-    "hashes.txt",
-    "nodes.txt",
-    "places.txt",
-    "messages.txt",
-    "show_values.txt",
-    "show_text.txt",
-    "show_records.txt",
-    "show_blocks.txt",
-    "show_messages.txt",
-    "show_nodes.txt",
-    "show_guessed.txt",
-    "show_faults.txt",
-    "show_bytes.txt",
-    "json_records.txt",
-    "json_transactions.txt",
-    "json_messages.txt",
-    "json_members.txt",
-    "arguments.txt",
-    "tool_lines.txt",
-    "tool_devices.txt",
-    "tool_calls.txt",
-];
-
 /// Notes what is wrong with the answer to a row of a file.
-fn note_row(
+fn check_row(
     alloc: Global,
     file: &str,
     names: &str,
@@ -79,6 +51,11 @@ fn note_row(
         _ if file.starts_with("show_") => shown::check(alloc, None, names, row, wrong),
         _ if file.starts_with("json_") => json::check(alloc, names, row, wrong),
         _ if file.starts_with("tool_") => tool::check(alloc, row, wrong),
+        _ if file.starts_with("codec_") => {
+            let (calls, given) = row.given.split_once(" | ").unwrap_or(("", ""));
+            note_row(alloc, calls, given, row.want.as_str(), wrong);
+            Ok(())
+        }
         _ => answered::check(alloc, names, row, wrong),
     }
 }
@@ -91,7 +68,7 @@ fn tell_file(rt: &HostRuntime, file: &str, names: &str) -> io::Result<bool> {
     let mut differ = 0usize;
     for row in &rows {
         let mut wrong = Line::new();
-        note_row(rt.alloc(), file, names, row, &mut wrong)?;
+        check_row(rt.alloc(), file, names, row, &mut wrong)?;
         if !wrong.as_str().is_empty() {
             differ = differ.saturating_add(1);
             println!(rt; "{file}:{}: {}", row.number, wrong.as_str())?;
@@ -105,7 +82,7 @@ fn tell_file(rt: &HostRuntime, file: &str, names: &str) -> io::Result<bool> {
 fn tell_files(rt: &HostRuntime) -> io::Result<bool> {
     let names = names_in(rt.alloc(), fs::read_to_string(rt, "named.txt")?.as_str())?;
     let mut all = true;
-    for file in FILES {
+    for file in fs::read_to_string(rt, "files.txt")?.lines() {
         all = tell_file(rt, file, names.as_str())? && all;
     }
     Ok(all)

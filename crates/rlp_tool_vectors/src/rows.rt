@@ -5,7 +5,6 @@
 //! line without ` | ` only stands what is given, and the answer stands in the lines below it, up to
 //! an empty line.
 
-use rlp_vectors::rows::Line;
 use std::alloc::{AllocError, Global};
 
 /// A whole line of a file, and the number of the line where it begins.
@@ -81,25 +80,4 @@ pub(crate) fn rows_in(alloc: Global, text: &str) -> Result<Vec<Row>, AllocError>
         }
     }
     Ok(rows)
-}
-
-/// Notes what was answered to a row if that isn't as wanted. Both are told from shortly before where
-/// they differ.
-pub(crate) fn note(wrong: &mut Line, call: &str, given: &str, answer: &str, want: &str) {
-    if answer == want {
-        return;
-    }
-    let mut same = 0usize;
-    for (one, other) in answer.bytes().zip(want.bytes()) {
-        if one != other {
-            break;
-        }
-        same = same.saturating_add(1);
-    }
-    let from = same.saturating_sub(40);
-    let (answer, want) = (
-        answer.get(from..).unwrap_or(answer),
-        want.get(from..).unwrap_or(want),
-    );
-    wrong.note(call, given, answer, want);
 }

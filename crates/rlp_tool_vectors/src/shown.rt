@@ -10,7 +10,7 @@
 //! number, ` = `, and what replaces the field or the number: an item, several items, or no item.
 
 use crate::dumped::note_rows;
-use crate::rows::{Row, note};
+use crate::rows::Row;
 use rlp_show::{Answers, Form, Kind, Noted, run};
 use rlp_vectors::rows::{Line, at_length, cut, named, number, with_item};
 use std::alloc::{AllocError, Global};
@@ -112,7 +112,7 @@ fn note_answer(
     wrong: &mut Line,
 ) -> Result<(), AllocError> {
     let answer = answered(alloc, asked.kind, form, asked.line)?;
-    note(wrong, "show", asked.given, answer.as_str(), asked.want);
+    wrong.note("show", asked.given, answer.as_str(), asked.want);
     Ok(())
 }
 
@@ -121,7 +121,7 @@ fn note_guess(alloc: Global, asked: Asked<'_>, wrong: &mut Line) -> Result<(), A
     let (name, _) = cut(asked.given);
     let answer = answered(alloc, None, Form::Text, asked.line)?;
     if !answer.starts_with(name) {
-        note(wrong, "guess", asked.given, answer.as_str(), name);
+        wrong.note("guess", asked.given, answer.as_str(), name);
     }
     Ok(())
 }

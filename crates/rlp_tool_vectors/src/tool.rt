@@ -10,8 +10,12 @@
 //! each call from that number on fails.
 
 use crate::devices::{Calls, Left, Plan, SOUND, ran, reader, writer};
-use crate::rows::{Row, note};
-use crate::{calls, sweeps};
+use crate::rows::Row;
+use crate::sweeps;
+use bytes::BytesMut;
+use rlp::Encodable;
+use rlp_examples::{Pair, Refusing, Trio};
+use rlp_tool::{BuildFault, Built, StreamCall, build, finish_alike, finished_buffer, read_calls};
 use rlp_vectors::rows::{Line, at_length, cut, number, push_header};
 use std::alloc::{AllocError, Global};
 use std::io;
@@ -159,6 +163,69 @@ fn tell_reads(left: &Left<'_>, out: &mut String) -> Result<(), AllocError> {
     write!(out, "{reads} {} {lines}", text.len())
 }
 
+/// Tells the result of calls after a front: finished bytes, or the size and the bytes with open lists,
+/// or the fault.
+fn tell_built<E: Encodable>(
+    alloc: Global,
+    front: &str,
+    calls: &[StreamCall<E>],
+    out: &mut String,
+) -> Result<(), AllocError> {
+    let mut buffer = BytesMut::new(alloc);
+    buffer.extend_from_slice(front.as_bytes())?;
+    match build(alloc, buffer, calls) {
+        Ok(Built::Finished(bytes)) => write!(out, "finished {:?}", bytes.as_slice()),
+        Ok(Built::Open { size, raw }) => write!(out, "open {size} {:?}", raw.as_slice()),
+        Err(fault) => write!(out, "{fault:?}"),
+    }
+}
+
+/// Tells the result of a list of a value and of a list of no values.
+fn tell_pairs(alloc: Global, out: &mut String) -> Result<(), AllocError> {
+    let calls = [
+        StreamCall::Begin(2),
+        StreamCall::Value(Pair(1, 2)),
+        StreamCall::Values(Vec::new(alloc)),
+    ];
+    tell_built(alloc, "", calls.as_slice(), out)
+}
+
+/// Tells the result of a list with a value whose writing fails.
+fn tell_refused(alloc: Global, out: &mut String) -> Result<(), AllocError> {
+    let calls = [
+        StreamCall::Begin(1),
+        StreamCall::Value(Trio(1, Refusing, 3)),
+    ];
+    tell_built(alloc, "", calls.as_slice(), out)
+}
+
+/// Tells what a call of a row about a script, or two of them, answers.
+fn tell_script(
+    alloc: Global,
+    call: &str,
+    script: &str,
+    out: &mut String,
+) -> Result<(), AllocError> {
+    let (one, other) = script.split_once(" / ").unwrap_or((script, ""));
+    if call == "read" {
+        return write!(out, "{:?}", read_calls(alloc, one.as_bytes()));
+    }
+    let (Ok(calls), Ok(second)) = (
+        read_calls(alloc, one.as_bytes()),
+        read_calls(alloc, other.as_bytes()),
+    ) else {
+        return out.push_str("scripts that aren't read");
+    };
+    let (first, second) = (calls.as_slice(), second.as_slice());
+    match call {
+        "built" => tell_built(alloc, "junk", first, out),
+        "finished" => write!(out, "{:?}", finished_buffer(alloc, b"junk", first)),
+        "alike" => write!(out, "{:?}", finish_alike(alloc, b"junk", first, second)),
+        "pairs" => tell_pairs(alloc, out),
+        _ => tell_refused(alloc, out),
+    }
+}
+
 /// Tells what a call answers.
 fn tell(
     alloc: Global,
@@ -179,7 +246,7 @@ fn tell(
         }
         "needed" => sweeps::tell_needed(alloc, plan.most, out),
         "any" => sweeps::tell_any(alloc, plan, given, out),
-        _ => calls::tell(alloc, call, given, out),
+        _ => tell_script(alloc, call, given, out),
     }
 }
 
@@ -193,8 +260,7 @@ pub(crate) fn check(alloc: Global, row: &Row, wrong: &mut Line) -> Result<(), Al
     let (given, want) = (text_of(alloc, given)?, text_of(alloc, row.want.as_str())?);
     let mut said = String::new(alloc);
     tell(alloc, name, &plan_of(settings), given.as_str(), &mut said)?;
-    note(
-        wrong,
+    wrong.note(
         "tool",
         row.given.as_str(),
         said.trim_end_matches(' '),

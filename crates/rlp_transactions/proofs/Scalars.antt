@@ -1,7 +1,7 @@
 -- What views give as numbers of a signature.
 use Rattle.std.proofs.{Common.{ℕ, ◌∙◌, ◌≡◌, Err, Ok, ap, codes, false, true}, lemmas.Bool.{cond-false, cond-true}}
 use Rattle.rlp.specs.{Codec.number, Form.{and_then, custom}, Views.View.View}
-use Rattle.rlp_records.specs.Tested.{passing}
+use Rattle.rlp_records.specs.TestedForm.{passing}
 use Rattle.rlp_transactions.specs.{NonZeroScalar.scalar, Secp256k1.is_scalar}
 
 -- a number that a signature has

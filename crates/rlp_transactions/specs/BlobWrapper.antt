@@ -1,9 +1,9 @@
 -- How transactions of type 3 are written and read with their blobs, as they are sent between nodes.
-use Rattle.std.proofs.{Common.{inl, inr}, lemmas.Bool.cond-false, lemmas.Slice.Eq.bytes_eq-Decides}
-use Rattle.std.specs.{Prelude.{ℕ, ⊤, ◌∷◌, ◌≡◌, ◌⊎◌, Bool, Err, List, Ok, Result, [], codes, false, if◌then◌else◌, refl, true}, Str.bytes_eq, Vec.vec_items}
-use Rattle.rlp.specs.Codec.{Codec, Fields, byte_array, end, field, list_type, newtype, string_type, struct_of}
-use Rattle.rlp_reading.specs.Form.{Fault, custom}
-use Rattle.rlp_transactions.specs.{Blob.blob, BlobTransaction.signed_blob_transaction, ItemCounts.struct_by_count}
+use Rattle.std.proofs.Common.{inl, inr}
+use Rattle.std.specs.{Prelude.{⊤, ◌==◌, ◌∷◌, ◌≡◌, ◌⊎◌, Bool, [], false, refl, true}, Str.bytes_eq, Vec.vec_items}
+use Rattle.rlp.specs.Codec.{Codec, Fields, byte_array, end, field, lawful, list_type, newtype, plain_fields, string_type, struct_of}
+use Rattle.rlp_transactions.specs.{Blob.blob, BlobTransaction.signed_blob_transaction, ItemCountLaws.by_count_lawful, ItemCounts.by_count}
+use Rattle.rlp_transactions.specs.{StringKindLaws.version_by, StringKinds.{version_bytes, version_of}}
 use Rattle.rlp_transactions.specs.declared.blob_transaction.BlobTransaction.{BlobTransaction}
 use Rattle.rlp_transactions.specs.declared.blob_wrapper.BlobTransactionWithCellProofs.{BlobTransactionWithCellProofs}
 use Rattle.rlp_transactions.specs.declared.blob_wrapper.BlobTransactionWithProofs.{BlobTransactionWithProofs}
@@ -22,19 +22,6 @@ proofs_fields =
 -- the list of the fields
 abbrev pub with_proofs : Codec BlobTransactionWithProofs
 with_proofs = struct_of proofs_fields
-
--- EIP-7594: the version of the wrapper is 1
-abbrev pub version_bytes : WrapperVersion → List ℕ
-version_bytes version = 1 ∷ []
-
--- whether a string is the version
-abbrev pub version_of : List ℕ → Result ⊤ Fault
-version_of d = if bytes_eq d (1 ∷ []) then Ok tt else Err (custom (codes "unknown wrapper version"))
-
-pub version_by : (d : List ℕ) (same : Bool) → bytes_eq d (1 ∷ []) ≡ same → version_of d ≡ Ok tt → d ≡ 1 ∷ []
-version_by d true same is = (bytes_eq-Decides d (1 ∷ [])).0 same
-version_by d false same is =
-    let r : version_of d ≡ Err (custom (codes "unknown wrapper version")) = cond-false (bytes_eq d (1 ∷ [])) _ _ same in absurd (let no : ⊥ = cc in no)
 
 -- the string of the byte 1
 abbrev pub wrapper_version : Codec WrapperVersion
@@ -57,6 +44,12 @@ cell_proofs_fields =
 -- the list of the fields
 abbrev pub with_cell_proofs : Codec BlobTransactionWithCellProofs
 with_cell_proofs = struct_of cell_proofs_fields
+
+-- A value of a first struct or of a second. `refl` proves that each struct always has the same number of fields, and that the two numbers differ.
+abbrev pub struct_by_count : {A B : Type 0} (f : Fields A) (g : Fields B) → f.reading.is_fixed ≡ true → g.reading.is_fixed ≡ true
+    → (g.reading.width == f.reading.width) ≡ false → Codec (A ⊎ B)
+struct_by_count f g fixed also differ =
+    lawful (by_count (plain_fields f) (plain_fields g)) (by_count_lawful (plain_fields f) (plain_fields g) fixed also differ f.laws g.laws)
 
 -- a transaction in one of the two forms
 abbrev pub blob_sum : PooledBlobTransaction → BlobTransactionWithProofs ⊎ BlobTransactionWithCellProofs

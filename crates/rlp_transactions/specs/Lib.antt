@@ -6,6 +6,7 @@ pub mod BlobWrapper
 pub mod DepositTransaction
 pub mod Eip155
 pub mod FeeMarketTransaction
+pub mod ItemCountLaws
 pub mod ItemCounts
 pub mod LegacyTransaction
 pub mod NonZeroScalar
@@ -15,6 +16,8 @@ pub mod Secp256k1
 pub mod SetCodeTransaction
 pub mod Signed
 pub mod Signing
+pub mod StringKindLaws
+pub mod StringKinds
 pub mod Transaction
 pub mod TransactionParts
 pub mod UnsignedTransaction

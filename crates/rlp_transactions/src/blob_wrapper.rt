@@ -3,7 +3,8 @@
 ghost use Rattle.std.specs.Prelude.{◌≡◌, Err, IfErr, IfOk, Ok};
 ghost use Rattle.rlp.specs.Views.View.{item_count};
 ghost use Rattle.rlp_reading.specs.Form.{fault_of};
-ghost use Rattle.rlp_transactions.specs.{BlobWrapper.{pooled_blob_transaction, version_of, with_cell_proofs, with_proofs, without_blobs, wrapper_version}, ItemCounts.is_count};
+ghost use Rattle.rlp_transactions.specs.{BlobWrapper.{pooled_blob_transaction, with_cell_proofs, with_proofs, without_blobs, wrapper_version}, ItemCounts.is_count};
+ghost use Rattle.rlp_transactions.specs.StringKinds.{version_of};
 
 use crate::{Blob, BlobTransaction, Signed};
 use rlp::{

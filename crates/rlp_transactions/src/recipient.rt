@@ -2,7 +2,7 @@
 
 ghost use Rattle.std.specs.Prelude.{◌≡◌, Err, IfErr, IfOk, Ok};
 ghost use Rattle.rlp_reading.specs.{Form.fault_of, Kinds.read_kind};
-ghost use Rattle.rlp_transactions.specs.Recipient.{account_of, is_account, recipient, recipient_bytes};
+ghost use Rattle.rlp_transactions.specs.{Recipient.recipient, StringKinds.{account_of, is_account, recipient_bytes}};
 
 use rlp::{DecoderError, Encodable, Record, Rlp, RlpStream};
 use rlp_records::Address;

@@ -2,11 +2,11 @@
 use Rattle.std.proofs.Common.{◌≡◌, ◌≢◌, ◌<◌, ◌+◌, ◌++◌, ℕ, zero, suc, Bool, true, false, if◌then◌else◌, IfSome, List, [], ◌∷◌, length, get_or, drop, refl, sym, ap, ◌∙◌, subst, arith, length-append}
 use Rattle.std.proofs.{Common.{Option, Some, None}, lemmas.Bool.Decides.Decides-eqb, lemmas.List.Elements.{All-drop, All-head, All-tail}}
 use Rattle.std.proofs.lemmas.Slice.Eq.{starts_is}
-use Rattle.std.specs.{List.starts_with, Prelude.nat_eq, Str.bytes_eq, Vec.vec_items}
+use Rattle.std.specs.{List.starts_with, Prelude.nat_eq, Vec.vec_items}
 use Rattle.rlp.specs.{Codec.{Codec, Fields, byte_string, each, end, field}, Format.Encoding.{Item, string, items_from, listed, list_of}}
 use Rattle.rlp_format.proofs.Lemmas.Encodings.{listed_from}
 use Rattle.rlp_trie.specs.{BranchChild.place_item, BranchChildLaws.branch_child, Child.{IsChild, child_item}, ChildLaws.child_some}
-use Rattle.rlp_trie.specs.{HexPrefix.{AreNibbles, path_nibbles}, Lookup.{branch_value, ends, extension_step, goes, place_step, step}}
+use Rattle.rlp_trie.specs.{HexPrefix.{AreNibbles, path_nibbles}, Lookup.{branch_value, ends, goes, place_step, step}}
 use Rattle.rlp_trie.specs.{Trie.{branch, branch_fields, child_at, extension, leaf}, TrieNode.{IsTrieNode, node_item}, declared.branch.Branch.Branch}
 use Rattle.rlp_trie.specs.{declared.child.Child.Child, declared.leaf.Extension.Extension, declared.leaf.Leaf.Leaf}
 use Rattle.rlp_trie.specs.declared.trie_node.TrieNode.{TrieNode}
@@ -22,9 +22,8 @@ module _ {A P : Type 0} (value : ℕ → P → A) (c : Codec A) (more : Fields P
   -- the item of each of the first fields
   each_at : (d : Item) (n k j : ℕ) → j < n → get_or ((each value c more k n).items p) j d ≡ c.item (value (k + j) p)
   each_at d zero k j few = absurd (omega (arith, few))
-  each_at d (suc n) k zero few = ap (λ i. c.item (value i p)) (let same : k ≡ k + 0 = omega arith in same)
-  each_at d (suc n) k (suc j) few =
-      each_at d n (suc k) j (omega (arith, few)) ∙ ap (λ i. c.item (value i p)) (let same : suc k + j ≡ k + suc j = omega arith in same)
+  each_at d (suc n) k zero few = grind arith
+  each_at d (suc n) k (suc j) few = grind (arith, each_at d n (suc k) j)
 
   -- each of them fits
   each_fit_at : (n k j : ℕ) → j < n → (each value c more k n).Fits p → c.Fits (value (k + j) p)
@@ -61,15 +60,13 @@ leaf_same : (l m : Leaf) (path : List ℕ) → leaf.item l ≡ leaf.item m → s
 leaf_same l m path same =
     let paths : vec_items l.path.bytes ≡ vec_items m.path.bytes = cc in
     let values : vec_items l.value ≡ vec_items m.value = cc in
-    ap (λ (p : List ℕ). ends (if bytes_eq (path_nibbles p) path then Some (vec_items l.value) else None)) paths
-    ∙ ap (λ (v : List ℕ). ends (if bytes_eq (path_nibbles (vec_items m.path.bytes)) path then Some v else None)) values
+    cc
 
 extension_same : (e f : Extension) (path : List ℕ) → extension.item e ≡ extension.item f → step (node.Extension e) path ≡ step (node.Extension f) path
 extension_same e f path same =
     let paths : vec_items e.path.bytes ≡ vec_items f.path.bytes = cc in
     let children : child_item e.child ≡ child_item f.child = cc in
-    ap (λ (p : List ℕ). extension_step (path_nibbles p) (child_item e.child) path) paths
-    ∙ ap (λ (x : Item). extension_step (path_nibbles (vec_items f.path.bytes)) x path) children
+    cc
 
 branch_same : (b c : Branch) (path : List ℕ) → branch.Fits b → branch.Fits c → AreNibbles path → branch.item b ≡ branch.item c
     → step (node.Branch b) path ≡ step (node.Branch c) path

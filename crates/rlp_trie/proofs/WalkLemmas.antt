@@ -9,7 +9,7 @@ use Rattle.rlp_reading.proofs.Corollaries.{not_both}
 use Rattle.rlp_reading.proofs.RawLaws.{string_kind}
 use Rattle.rlp_records.specs.Keccak.{keccak256}
 use Rattle.rlp_trie.proofs.StepLemmas.{same_step, step_rest}
-use Rattle.rlp_trie.specs.{Child.child_item, EmptyString.empty_string, HexPrefix.AreNibbles}
+use Rattle.rlp_trie.specs.{Child.child_item, EmptyStringLaws.empty_string, HexPrefix.AreNibbles}
 use Rattle.rlp_trie.specs.{Lookup.{Encodes, HasValue, StandsFor, by_hash, ends, ends_here, goes, in_parent, leads_on, step}, Next.{Agrees, IsEnd, read_fault}}
 use Rattle.rlp_trie.specs.ProofWalk.{IsKnown, IsNoNode, IsSameKind, IsUnread, TakesNode, Walk, ends_at_last, ends_early, next_node, next_unread, no_next, stops, unread, walks_on}
 use Rattle.rlp_trie.specs.{TrieNode.node_item, TrieNodeLaws.trie_node, declared.child.Child.Child, declared.inline_node.InlineNode.InlineNode}
@@ -64,15 +64,12 @@ inline_next c inline b nodes is same written =
 -- with no node left, only the hash of the empty trie stands for one
 pub no_next_of : (h : List ℕ) (nodes : List (Vec ℕ)) → length nodes < 1 → bytes_eq h (keccak256 (0x80 ∷ [])) ≡ false
     → next_node (string h) (map vec_items nodes) ≡ Err MissingNode
-no_next_of h [] few other =
-    ap (λ (t : Bool). taken_if t (encoding (string [])) [] MissingNode) (ap (λ (b : List ℕ). bytes_eq h (keccak256 b)) empty_string ∙ other)
+no_next_of h [] few other = grind (arith, empty_string)
 no_next_of h (v ∷ more) few other = absurd (omega (arith, few))
 
 pub empty_next : (h : List ℕ) (nodes : List (Vec ℕ)) → length nodes < 1 → bytes_eq h (keccak256 (0x80 ∷ [])) ≡ true
     → next_node (string h) (map vec_items nodes) ≡ Ok (0x80 ∷ [], map vec_items nodes)
-empty_next h [] few is =
-    ap (λ (t : Bool). taken_if t (encoding (string [])) [] MissingNode) (ap (λ (b : List ℕ). bytes_eq h (keccak256 b)) empty_string ∙ is)
-    ∙ ap (λ (b : List ℕ). Ok (b, [])) empty_string
+empty_next h [] few is = grind (arith, empty_string)
 empty_next h (v ∷ more) few is = absurd (omega (arith, few))
 
 -- why the next encoding isn't that of a node

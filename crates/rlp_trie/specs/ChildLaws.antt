@@ -1,9 +1,9 @@
 -- Children are read back, and are read only from their encodings.
-use Rattle.std.proofs.Common.{◌≡◌, ◌≢◌, ◌<◌, ◌^◌, ◌⊎◌, inl, inr, ℕ, Bool, true, false, List, [], length, refl, sym, ap, ◌∙◌, subst, arith, Ok, Err}
+use Rattle.std.proofs.Common.{◌≡◌, ◌≢◌, ◌<◌, ◌^◌, inl, inr, ℕ, true, false, List, [], length, refl, sym, ap, ◌∙◌, subst, arith, Ok}
 use Rattle.std.proofs.lemmas.Bool.{cond-true, cond-false}
 use Rattle.std.specs.Prelude.{nat_le}
 use Rattle.rlp.specs.{Format.Encoding.{string, IsSized, encoding, AreBytes}, Format.Framing.begins_as_list, Values.RawItem.raw_item_of}
-use Rattle.rlp.specs.{Form.{here, is_too_big, map_value, raw_of}, Codec.{Codec, lawful}}
+use Rattle.rlp.specs.{Form.{here, map_value, raw_of}, Codec.{Codec, lawful}}
 use Rattle.rlp_reading.proofs.{RawLaws.{raw_is, string_kind, ReadsItems, items_lawful, raw_fits, raw_given, raw_of-canonical}, StringLaws.array_lawful}
 use Rattle.rlp_reading.specs.FirstItems.{item_type}
 use Rattle.rlp_records.proofs.Alone.{left_only, not_left, not_right, right_only}
@@ -29,28 +29,13 @@ child_back (Inline node) is sized = ap child_of (sym is) ∙ inline_back node is
 
 -- ---- and nothing else
 
-inline_only : (b x : List ℕ) (long : Bool) → nat_le 32 (length b) ≡ long → inline_of b ≡ Ok x → raw_of b ≡ Ok x
-inline_only b x true long is =
-    let r : inline_of b ≡ Err is_too_big = cond-true (nat_le 32 (length b)) _ _ long in absurd (let no : ⊥ = cc in no)
-inline_only b x false long is = sym (cond-false (nat_le 32 (length b)) _ _ long) ∙ is
-
-list_only : (b : List ℕ) (c : Child) → map_value {B = List ℕ ⊎ List ℕ} inr (inline_of b) ≡ Ok (seen_child c) → IsChild c × (b ≡ encoding (child_item c))
-list_only b (Node hash) is = absurd (not_right (inline_of b) hash.0 is)
-list_only b (Inline node) is =
-    let h = raw_given b node.item (inline_only b node.item (nat_le 32 (length b)) refl (right_only (inline_of b) node.item is)) in (h.0, h.1 ∙ h.0)
-
-string_only : (b : List ℕ) (c : Child) → AreBytes b → length b < 2 ^ 64 → map_value {B = List ℕ ⊎ List ℕ} inl (hash_of b) ≡ Ok (seen_child c)
-    → IsChild c × (b ≡ encoding (child_item c))
-string_only b (Node hash) bytes fits is = (array_lawful 32).exact.only b hash.0 bytes fits (left_only (hash_of b) hash.0 is)
-string_only b (Inline node) bytes fits is = absurd (not_left (hash_of b) node.item is)
-
-child_by : (b : List ℕ) (c : Child) (kind : Bool) → AreBytes b → length b < 2 ^ 64 → begins_as_list b ≡ kind → child_of b ≡ Ok (seen_child c)
-    → IsChild c × (b ≡ encoding (child_item c))
-child_by b c true bytes fits kind is = list_only b c (sym (cond-true (begins_as_list b) _ _ kind) ∙ is)
-child_by b c false bytes fits kind is = string_only b c bytes fits (sym (cond-false (begins_as_list b) _ _ kind) ∙ is)
-
 pub child_only : (b : List ℕ) (c : Child) → AreBytes b → length b < 2 ^ 64 → child_of b ≡ Ok (seen_child c) → IsChild c × (b ≡ encoding (child_item c))
-child_only b c bytes fits is = child_by b c (begins_as_list b) bytes fits refl is
+child_only b (Node hash) bytes fits is =
+    let read : hash_of b ≡ Ok hash.0 = grind (arith, left_only {N = List ℕ} (hash_of b) hash.0, not_right {M = List ℕ} (inline_of b) hash.0) in
+    (array_lawful 32).exact.only b hash.0 bytes fits read
+child_only b (Inline node) bytes fits is =
+    let read : raw_of b ≡ Ok node.item = grind (arith, right_only {M = List ℕ} (inline_of b) node.item, not_left {N = List ℕ} (hash_of b) node.item) in
+    let h = raw_given b node.item read in (h.0, h.1 ∙ h.0)
 
 pub child_fits : (c d : Child) → seen_child c ≡ seen_child d → IsChild c → IsChild d
 child_fits (Node hash) (Node other) same is = subst (λ d. length d ≡ 32) (let bytes : hash.0 ≡ other.0 = cc in bytes) is

@@ -2,7 +2,7 @@ pub mod BranchChild
 pub mod BranchChildLaws
 pub mod Child
 pub mod ChildLaws
-pub mod EmptyString
+pub mod EmptyStringLaws
 pub mod HexPrefix
 pub mod Inline
 pub mod Lookup

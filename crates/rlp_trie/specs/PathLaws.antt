@@ -1,5 +1,5 @@
 -- Paths of leaves and of extensions are read back, and are read only from their encodings.
-use Rattle.std.specs.{Prelude.{ℕ, ◌≡◌, ⊤, Bool, true, false, List, Option, Some, None, Ok}, Vec.vec_items}
+use Rattle.std.specs.{Prelude.{ℕ, ◌≡◌, ⊤, Bool, true, false, List, Option, Some, Ok}, Vec.vec_items}
 use Rattle.std.proofs.{Common.{refl, ap, ◌∙◌}, lemmas.Bool.cond-false}
 use Rattle.rlp_reading.proofs.StringLaws.{ReadsStrings}
 use Rattle.rlp.specs.Codec.{Codec, string_type}

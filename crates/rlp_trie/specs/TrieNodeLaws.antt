@@ -1,17 +1,17 @@
 -- Nodes of the trie are read back, and are read only from their encodings.
-use Rattle.std.proofs.Common.{ℕ, ◌<◌, ◌==◌, ◌^◌, ◌∙◌, ◌∷◌, ◌≡◌, ◌≢◌, Bool, Err, List, Ok, Result, [], ap, false, inl, inr, length, refl, sym, true, unwrap_or}
+use Rattle.std.proofs.Common.{arith, ℕ, ◌<◌, ◌==◌, ◌^◌, ◌∙◌, ◌∷◌, ◌≡◌, ◌≢◌, ◌⊎◌, if◌then◌else◌, Bool, Err, List, Ok, Result, [], ap, false, inl, inr, length, refl, sym, true, unwrap_or}
 use Rattle.std.proofs.lemmas.Bool.{cond-false, cond-true}
-use Rattle.std.specs.Vec.{vec_items}
-use Rattle.rlp.specs.{Codec.{Codec, lawful}, Form.{Fault, and_then, incorrect_list_len, map_value, seen_fault}}
+use Rattle.std.specs.{Prelude.⊤, Vec.vec_items}
+use Rattle.rlp.specs.{Codec.{Codec, lawful}, Form.{Answer, Fault, and_then, here, incorrect_list_len, map_answer, map_value, seen_fault}}
 use Rattle.rlp.specs.{Format.Encoding.{AreBytes, IsSized, Item, encoding, list_of, string}, Views.View.{item_count, strict_view_of}}
 use Rattle.rlp_reading.proofs.Lemmas.StringsHeld.{held_only}
 use Rattle.rlp_reading.proofs.RawLaws.{ReadsItems, items_lawful}
-use Rattle.rlp_reading.proofs.{Lemmas.WholeLists.{held_at, held_count}, ListLaws.{goes_on, is_mapped, items_sized}}
+use Rattle.rlp_reading.proofs.{Lemmas.WholeLists.{held_at, held_count}, ListLaws.{goes_on, items_sized}}
 use Rattle.rlp_reading.specs.FirstItems.{item_type}
 use Rattle.rlp_records.proofs.Alone.{result_same}
-use Rattle.rlp_trie.specs.{Child.child_item, EmptyString.{empty_found, empty_only, is_empty_string, other_item}, HexPrefix.is_leaf_flag}
+use Rattle.rlp_trie.specs.{BranchChild.is_empty_string, Child.child_item, EmptyStringLaws.{empty_found, empty_only, other_item}, HexPrefix.is_leaf_flag}
 use Rattle.rlp_trie.specs.Trie.{branch, branch_fields, extension, extension_fields, leaf, leaf_fields}
-use Rattle.rlp_trie.specs.TrieNode.{IsTrieNode, SeenNode, begins_as_leaf, is_leaf_item, is_leaf_string, list_of_len, node_item, node_of, pair_of, seen_node, written_node}
+use Rattle.rlp_trie.specs.TrieNode.{IsTrieNode, SeenNode, begins_as_leaf, is_leaf_item, is_leaf_string, list_of_len, node_item, node_of, seen_node, written_node}
 use Rattle.rlp_trie.specs.{declared.branch.Branch.Branch, declared.leaf.Extension.Extension, declared.leaf.Leaf.Leaf, declared.path.Path.Path}
 use Rattle.rlp_trie.specs.declared.trie_node.TrieNode.{TrieNode}
 use Rattle.rlp_trie.specs.declared.trie_node.TrieNode.TheVariants as node
@@ -65,49 +65,35 @@ node_back (node.Branch x) fit sized = branch_back x fit sized
 
 -- ---- and nothing else
 
-abbrev as_leaf : leaf.reading.M → SeenNode
-as_leaf m = inr (inl m)
+-- what a list gives: a leaf or an extension for two items, a branch for seventeen
+module _ {L E X : Type 0} (two leaf many : Bool) (l : Answer L Fault) (e : Answer E Fault) (x : Answer X Fault) where
+  abbrev sided : Result (⊤ ⊎ (L ⊎ (E ⊎ X))) Fault
+  sided =
+      (if two then (if leaf then map_answer (λ l. inr (inl l)) l else map_answer (λ e. inr (inr (inl e))) e)
+      else if many then map_answer (λ c. inr (inr (inr c))) x else here (Err incorrect_list_len)).result
 
-abbrev as_extension : extension.reading.M → SeenNode
-as_extension m = inr (inr (inl m))
+  on_none : sided ≡ Ok (inl tt) → ⊥
+  on_none is = grind arith
 
-abbrev as_branch : branch.reading.M → SeenNode
-as_branch m = inr (inr (inr m))
+  on_first : (v : L) → sided ≡ Ok (inr (inl v)) → l.result ≡ Ok v
+  on_first v is = grind arith
+
+  on_second : (v : E) → sided ≡ Ok (inr (inr (inl v))) → e.result ≡ Ok v
+  on_second v is = grind arith
+
+  on_third : (v : X) → sided ≡ Ok (inr (inr (inr v))) → x.result ≡ Ok v
+  on_third v is = grind arith
 
 module _ (b : List ℕ) (bytes : AreBytes b) (fits : length b < 2 ^ 64) where
   abbrev IsNode : TrieNode → Type 0
   IsNode n = IsTrieNode n × (b ≡ encoding (node_item n))
 
-  leaf_only : (n : TrieNode) (m : leaf.reading.M) → (leaf.reading.read (strict_view_of b)).result ≡ Ok m → as_leaf m ≡ seen_node n → IsNode n
-  leaf_only (node.Leaf l) m is same = leaf.reads_strictly.exact.only b l bytes fits (is ∙ ap Ok (let one : m ≡ leaf.reading.seen l = cc in one))
-  leaf_only n m is same = absurd (let no : ⊥ = cc in no)
-
-  extension_only : (n : TrieNode) (m : extension.reading.M) → (extension.reading.read (strict_view_of b)).result ≡ Ok m → as_extension m ≡ seen_node n → IsNode n
-  extension_only (node.Extension e) m is same =
-      extension.reads_strictly.exact.only b e bytes fits (is ∙ ap Ok (let one : m ≡ extension.reading.seen e = cc in one))
-  extension_only n m is same = absurd (let no : ⊥ = cc in no)
-
-  branch_only : (n : TrieNode) (m : branch.reading.M) → (branch.reading.read (strict_view_of b)).result ≡ Ok m → as_branch m ≡ seen_node n → IsNode n
-  branch_only (node.Branch x) m is same = branch.reads_strictly.exact.only b x bytes fits (is ∙ ap Ok (let one : m ≡ branch.reading.seen x = cc in one))
-  branch_only n m is same = absurd (let no : ⊥ = cc in no)
-
-  pair_only : (n : TrieNode) (kind : Bool) → begins_as_leaf b ≡ kind → (pair_of b).result ≡ Ok (seen_node n) → IsNode n
-  pair_only n true kind is =
-      let m = is_mapped (leaf.reading.read (strict_view_of b)).result as_leaf (seen_node n) (sym (result_same (cond-true (begins_as_leaf b) _ _ kind)) ∙ is) in
-      leaf_only n m.value m.is m.then
-  pair_only n false kind is =
-      let m = is_mapped (extension.reading.read (strict_view_of b)).result as_extension (seen_node n) (sym (result_same (cond-false (begins_as_leaf b) _ _ kind)) ∙ is) in
-      extension_only n m.value m.is m.then
-
-  many_only : (n : TrieNode) (k : ℕ) (two many : Bool) → (k == 2) ≡ two → (k == 17) ≡ many → (list_of_len b k).result ≡ Ok (seen_node n) → IsNode n
-  many_only n k true many two all is = pair_only n (begins_as_leaf b) refl (sym (result_same (cond-true (k == 2) _ _ two)) ∙ is)
-  many_only n k false true two all is =
-      let m = is_mapped (branch.reading.read (strict_view_of b)).result as_branch (seen_node n)
-      (sym (result_same (cond-false (k == 2) _ _ two) ∙ result_same (cond-true (k == 17) _ _ all)) ∙ is) in
-      branch_only n m.value m.is m.then
-  many_only n k false false two all is =
-      let r : (list_of_len b k).result ≡ Err incorrect_list_len = result_same (cond-false (k == 2) _ _ two) ∙ result_same (cond-false (k == 17) _ _ all) in
-      absurd (let no : ⊥ = cc in no)
+  -- what a list with this number of items gives
+  len_only : (n : TrieNode) (k : ℕ) → (list_of_len b k).result ≡ Ok (seen_node n) → IsNode n
+  len_only node.Empty k is = absurd (on_none (k == 2) (begins_as_leaf b) (k == 17) _ _ _ is)
+  len_only (node.Leaf l) k is = leaf.reads_strictly.exact.only b l bytes fits (on_first (k == 2) (begins_as_leaf b) (k == 17) _ _ _ _ is)
+  len_only (node.Extension e) k is = extension.reads_strictly.exact.only b e bytes fits (on_second (k == 2) (begins_as_leaf b) (k == 17) _ _ _ _ is)
+  len_only (node.Branch x) k is = branch.reads_strictly.exact.only b x bytes fits (on_third (k == 2) (begins_as_leaf b) (k == 17) _ _ _ _ is)
 
   empty_by : (n : TrieNode) → (let s : Result SeenNode Fault = Ok (inl tt) in s) ≡ Ok (seen_node n) → b ≡ encoding (string []) → IsNode n
   empty_by node.Empty same is = (tt, is)
@@ -118,7 +104,7 @@ module _ (b : List ℕ) (bytes : AreBytes b) (fits : length b < 2 ^ 64) where
   node_by n false empty is =
       let g = goes_on (seen_fault (item_count (strict_view_of b))) (λ k. (list_of_len b k).result) (seen_node n)
       (sym (result_same (cond-false (is_empty_string b) _ _ empty)) ∙ is) in
-      many_only n g.value (g.value == 2) (g.value == 17) refl refl g.then
+      len_only n g.value g.then
 
 pub node_only : (b : List ℕ) (n : TrieNode) → AreBytes b → length b < 2 ^ 64 → (node_of b).result ≡ Ok (seen_node n) → IsTrieNode n × (b ≡ encoding (node_item n))
 node_only b n bytes fits is = node_by b bytes fits n (is_empty_string b) refl is

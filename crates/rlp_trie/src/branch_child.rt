@@ -1,7 +1,7 @@
 //! The places of branches of the trie: a child or no child.
 
 ghost use Rattle.std.specs.Prelude.{◌≡◌};
-ghost use Rattle.rlp_trie.specs.{BranchChildLaws.branch_child, EmptyString.is_empty_string};
+ghost use Rattle.rlp_trie.specs.{BranchChild.is_empty_string, BranchChildLaws.branch_child};
 
 use crate::Child;
 use crate::child::child_of;

@@ -3,8 +3,7 @@
 mod views;
 
 use crate::script::buffer_of;
-use crate::streams::FULL;
-use crate::tables::{check_each, check_rows};
+use crate::tables::check_rows;
 use bytes::BytesMut;
 use rlp::RlpStream;
 use std::alloc::{AllocError, Global};
@@ -303,9 +302,16 @@ fn test_rlp_nested_empty_list_encode(rt: HostRuntime) -> Result<(), Fail> {
     check_rows(rt.alloc(), "script:\nlist 2; no_u32s; u32 40 | c2c028")
 }
 
+// Single bytes 00 are appended until one more would be over a limit.
 #[test]
 fn test_rlp_stream_size_limit(rt: HostRuntime) -> Result<(), Fail> {
-    check_each(rt.alloc(), 40, 269, FULL)
+    let full = "script:\n# times within # 00; !within # 00; is # done 00*# | 00*#";
+    for limit in 1..=269usize {
+        let digits = format!(in rt.alloc(); "{limit}")?;
+        let table = full.replace(rt.alloc(), '#', digits.as_str())?;
+        check_rows(rt.alloc(), table.as_str())?;
+    }
+    Ok(())
 }
 
 // The list isn't finished before it is closed, and is finished then.

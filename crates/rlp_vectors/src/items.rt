@@ -1,14 +1,14 @@
-//! The items of a list, items that are split off bytes, and trees in flat form. The answers were
-//! worked out by hand.
+//! The items of a list, also as fields, items that are split off bytes, and trees in flat form.
 
-use crate::rows::{Hex, Line, number};
-use crate::tables::Asked;
-use rlp::{DecoderError, Rlp};
+use crate::answers::{Asked, view_of};
+use crate::rows::{Hex, Line, cut, number};
+use rlp::{DecoderError, Fields, Rlp};
 use std::alloc::Global;
 use std::fmt;
 use std::fmt::Write;
 
-/// Rows of items and values. No call takes memory.
+/// Rows of items and values, whose answers were worked out by hand. No call takes memory.
+#[cfg(test)]
 pub(crate) const ROWS: &str = "
     items: The framed items up to the first that isn't framed, and the fault behind them.
     c983636174c20102c103 | Ok(3) Ok(83636174) 1 Ok(c20102) 5 Ok(c103) 8 Err(RlpIsTooShort)
@@ -40,55 +40,6 @@ pub(crate) const ROWS: &str = "
     810500 | Some(RlpIsTooBig) Some(RlpIsTooBig)
     taken: An item stays after the view that it is taken from.
     c88363617483646f67 | Ok(83636174)
-";
-
-/// Rows of items that are split off, and of trees.
-pub(crate) const WITH_MEMORY: &str = "
-    split: Bytes that consist of items, and bytes that don't begin with one.
-    none | RlpIsTooShort
-    05 | Ok(05) RlpIsTooShort
-    c106 | Ok(c106) RlpIsTooShort
-    05c106 | Ok(05) Ok(c106) RlpIsTooShort
-    8363617480c000 | Ok(83636174) Ok(80) Ok(c0) Ok(00) RlpIsTooShort
-    810506 | Ok(8105) Ok(06) RlpIsTooShort
-    836361 | RlpIsTooShort 836361
-    c505 | RlpIsTooShort c505
-    b8 | RlpIsTooShort b8
-    b83800 | RlpIsTooShort b83800
-    b80005 | RlpDataLenWithZeroPrefix b80005
-    f80005 | RlpListLenWithZeroPrefix f80005
-    strict split: A strict view is split only if it is one item. If it isn't framed, this fault
-    comes first.
-    none | RlpIsTooShort
-    c106 | Ok(c106) RlpIsTooShort
-    8105 | Ok(8105) RlpIsTooShort
-    05c106 | RlpIsTooBig 05c106
-    8363617480 | RlpIsTooBig 8363617480
-    c505 | RlpIsTooShort c505
-    b80005 | RlpDataLenWithZeroPrefix b80005
-    first: Items that are framed but not canonical, with an empty list after them.
-    8105c0 | false Some(RlpInvalidIndirection) c0
-    c28105c0 | false Some(RlpInvalidIndirection) c0
-    c3058200c0 | false None c0
-    strict first: The same items alone, as strict views.
-    8105 | false Some(RlpInvalidIndirection)
-    c28105 | false Some(RlpInvalidIndirection)
-    c3058200 | false Some(RlpIsTooShort)
-    tree: Bytes and the greatest depth, and the items of their tree.
-    05 0 | string 0+0+1 in 0;
-    80 0 | string 0+1+0 in 0;
-    83636174 0 | string 0+1+3 in 0;
-    c0 1 | list 0+1+0 in 0;
-    c683636174c105 2 | list 0+1+6 in 0; string 1+1+3 in 1; list 5+1+1 in 1; string 6+0+1 in 2;
-    c3c0c1c0 3 | list 0+1+3 in 0; list 1+1+0 in 1; list 2+1+1 in 1; list 3+1+0 in 2;
-    c3c0c1c0 2 | TooDeep
-    c0 0 | TooDeep
-    none 9 | RlpIsTooShort
-    c005 9 | RlpIsTooBig
-    c28105 9 | RlpInvalidIndirection
-    c3058201 9 | RlpIsTooShort
-    c4c1c08105 1 | TooDeep
-    c48105c1c0 1 | RlpInvalidIndirection
 ";
 
 /// Tells the number of items, and each item with its place and the fault behind them. They are the
@@ -166,11 +117,7 @@ pub(crate) fn tell_split(asked: &Asked<'_>, out: &mut Line) -> fmt::Result {
             Ok((item, rest)) => {
                 out.debug(asked.raw(Ok(item)))?;
                 out.write_str(" ")?;
-                left = if asked.strict {
-                    Rlp::new_strict(rest)
-                } else {
-                    Rlp::new(rest)
-                };
+                left = view_of(rest, asked.strict);
             }
             Err(fault) => {
                 out.debug(fault)?;
@@ -233,4 +180,35 @@ pub(crate) fn tell_third(alloc: Global, view: &Rlp<'_>, out: &mut Line) -> fmt::
 /// Returns the third number of the third item.
 fn third_of_third(alloc: Global, view: &Rlp<'_>) -> Result<u16, DecoderError> {
     view.at(2)?.val_at::<u16>(alloc, 2)
+}
+
+/// Reads the fields of a view in steps, and finishes. `v` reads a view, `n` a number, `t` a text and `l` a
+/// list of numbers.
+pub(crate) fn tell_fields(asked: &Asked<'_>, out: &mut Line) -> fmt::Result {
+    let (count, steps) = cut(asked.rest);
+    let opened = if asked.call == "fields_of" {
+        asked.view().fields_of(number(count))
+    } else {
+        asked.view().fields()
+    };
+    match opened {
+        Ok(mut fields) => {
+            for step in steps.bytes() {
+                tell_step(asked, &mut fields, step, out)?;
+                out.write_str(" ")?;
+            }
+            out.debug(fields.finish())
+        }
+        Err(fault) => out.display(fault),
+    }
+}
+
+/// Writes what one step reads.
+fn tell_step(asked: &Asked<'_>, fields: &mut Fields<'_>, step: u8, out: &mut Line) -> fmt::Result {
+    match step {
+        b'v' => out.debug(asked.raw(fields.next_view())),
+        b'n' => out.debug(fields.next_value::<u8>(asked.alloc)),
+        b't' => out.debug(fields.next_value::<String>(asked.alloc)),
+        _ => out.debug(fields.next_list::<u8>(asked.alloc)),
+    }
 }

@@ -1,17 +1,17 @@
-//! Tests of `rlp`: of values that are written and read, of streams, of headers and views, of all
-//! inputs of two bytes and of large inputs, also with all memory refused, and calls of each law.
-//! Besides tests, the crate has [`rows`], which reads the rows of tests.
+//! What rows of tests ask about the codec: about values that are read and written, streams, items and
+//! texts. The program in `rlp_tool_vectors` reads the rows and calls [`note_row`]. [`rows`] reads the
+//! parts of rows.
+//!
+//! The tests of this crate ask what rows in text files can't: calls with all memory refused, the tests
+//! that the Rust crate has too, all inputs of two bytes, all small trees, and large inputs. They call
+//! each law.
 #![tactic(auto)]
 
-#[cfg(test)]
+mod answers;
 mod appended;
 #[cfg(test)]
 mod carried;
-#[cfg(test)]
-mod fields;
-#[cfg(test)]
 mod guarded;
-#[cfg(test)]
 mod items;
 #[cfg(test)]
 mod large;
@@ -24,21 +24,17 @@ mod never;
 #[cfg(test)]
 mod refused;
 pub mod rows;
-#[cfg(test)]
 mod script;
-#[cfg(test)]
-mod streams;
 #[cfg(test)]
 mod tables;
 #[cfg(test)]
 mod trees;
 #[cfg(test)]
 mod two_bytes;
-#[cfg(test)]
 mod typed;
 #[cfg(test)]
 mod uses;
-#[cfg(test)]
 mod views;
-#[cfg(test)]
 mod written;
+
+pub use answers::note_row;

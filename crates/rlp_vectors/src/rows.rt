@@ -22,17 +22,6 @@ pub fn bytes_of(alloc: Global, text: &str) -> Result<Vec<u8>, AllocError> {
     Ok(bytes)
 }
 
-/// The bytes of a text whose parts, which are joined by `+`, may also be names: lines of the second text
-/// give the name, ` = `, and the bytes as a text without names. Fails as [`bytes_of`] does.
-pub fn bytes_named(alloc: Global, text: &str, names: &str) -> Result<Vec<u8>, AllocError> {
-    let mut bytes = Vec::new(alloc);
-    for part in text.split('+') {
-        let part = bytes_of(alloc, named(part, names))?;
-        bytes.extend_from_slice(part.as_slice())?;
-    }
-    Ok(bytes)
-}
-
 /// The text that a line of the second text gives with this name, or the name itself if no line has it.
 pub fn named<'a>(name: &'a str, names: &'a str) -> &'a str {
     for line in names.lines() {

@@ -13,10 +13,10 @@
 //! `finalize_up_to N M` closes at most N lists, and must close M. `is SIZE AWAITED BYTES`,
 //! `size SIZE` and `estimate MORE SIZE` compare the stream.
 
+use crate::answers::Asked;
 use crate::appended::{Counted, Wrapper};
 use crate::guarded::{estimates, finalize, is_as, put_raw, put_undotted, takes_items};
 use crate::rows::{Line, bytes_of, cut, number};
-use crate::tables::Asked;
 use bytes::BytesMut;
 use rlp::{Encodable, RawItem, RlpStream};
 use rlp_examples::{Nonce, Pair, Refusing, Trio};

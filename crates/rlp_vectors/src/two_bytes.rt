@@ -1,8 +1,9 @@
 //! All inputs of two bytes, by each call of a view and each type that is read from a string. The
 //! expected numbers were counted by the tables of the format, not by these calls.
 
+use crate::answers::view_of;
 use crate::rows::{Line, cut, number};
-use crate::tables::{Asked, check_rows};
+use crate::tables::check_rows;
 use crate::views::FAULTS;
 use bytes::{Bytes, BytesMut};
 use rlp::{BasicDecoder, Decodable, DecoderError, PayloadInfo, Prototype, Rlp, Uint};
@@ -15,20 +16,27 @@ use std::test::Fail;
 /// or a fault.
 type Answer = Result<usize, DecoderError>;
 
+/// Notes a row that tells otherwise how all inputs are answered.
+pub(crate) fn note_tally(alloc: Global, call: &str, given: &str, want: &str, wrong: &mut Line) {
+    let mut said = Line::new();
+    let _ = tell_tally(alloc, call, given, &mut said);
+    wrong.note(call, given, said.as_str(), want);
+}
+
 /// Tells how all inputs are answered: the number of `Ok` results, the numbers of each fault, in the
 /// order in which the faults are declared, and then the sum of what the results measure. Or the sum
 /// alone.
-pub(crate) fn tell_tally(asked: &Asked<'_>, out: &mut Line) -> fmt::Result {
+fn tell_tally(alloc: Global, call: &str, given: &str, out: &mut Line) -> fmt::Result {
     let mut counts = [0usize; 13];
     let mut sum = 0usize;
     for word in 0..=u16::MAX {
-        let answer = answered(asked.alloc, &word.to_be_bytes(), asked.given);
+        let answer = answered(alloc, &word.to_be_bytes(), given);
         if let Some(count) = counts.get_mut(place_of(&answer)) {
             *count = count.saturating_add(1);
         }
         sum = sum.saturating_add(answer.unwrap_or(0));
     }
-    if asked.call == "sum" {
+    if call == "sum" {
         return out.debug(sum);
     }
     for count in counts {
@@ -117,11 +125,7 @@ fn text_of(view: &Rlp<'_>) -> Line {
 
 /// Returns whether a view of the bytes and its clone have these bytes and are of this kind.
 fn is_sound(bytes: &[u8], is_strict: bool) -> bool {
-    let view = if is_strict {
-        Rlp::new_strict(bytes)
-    } else {
-        Rlp::new(bytes)
-    };
+    let view = view_of(bytes, is_strict);
     let copy = view.clone();
     let are_same = view.as_raw() == bytes && copy.as_raw() == bytes;
     !view.is_null() && view.is_strict() == is_strict && copy.is_strict() == is_strict && are_same

@@ -1,12 +1,16 @@
 //! The calls of a view about all its bytes, headers at the lengths at which their form changes, and
 //! the texts of views and of faults.
 
+use crate::answers::Asked;
+#[cfg(test)]
+use crate::answers::note_row;
+#[cfg(test)]
 use crate::carried::HASHES;
 use crate::rows::{Line, number};
-use crate::tables::{Asked, check_row};
 use rlp::{DecoderError, PayloadInfo, Rlp};
 use std::fmt;
 use std::fmt::Write;
+#[cfg(test)]
 use std::test::Fail;
 
 /// The faults, in the order of their declaration.
@@ -26,6 +30,7 @@ pub(crate) const FAULTS: [DecoderError; 12] = [
 ];
 
 /// Rows of headers and views. No call takes memory.
+#[cfg(test)]
 pub(crate) const ROWS: &str = "
     header: The first bytes of strings, at the least and the greatest length of each form.
     00 | 0 + 1 = Some(1)
@@ -123,40 +128,6 @@ pub(crate) const ROWS: &str = "
      101010101010101010101 0 | false
 ";
 
-/// Rows of texts.
-pub(crate) const TEXTS: &str = "
-    view text: A string prints as its bytes, a list as its framed items, and other bytes as
-    a fault.
-    none | null
-    c0 | []
-    80 | \"0x\"
-    c20582 | [\"0x05\"]
-    c405c20182 | [\"0x05\", [\"0x01\"]]
-    c88363617483646f | RlpIsTooShort
-    84636174 | RlpIsTooShort
-    c5 | RlpIsTooShort
-    b800 | RlpDataLenWithZeroPrefix
-    f800 | RlpListLenWithZeroPrefix
-    c3830102 | []
-    8105 | \"0x05\"
-    fault: The faults in the order of their declaration, with their texts, which are their names,
-    of each and of its clone.
-    0 | RlpIsTooBig RlpIsTooBig true
-    1 | RlpIsTooShort RlpIsTooShort true
-    2 | RlpExpectedToBeList RlpExpectedToBeList true
-    3 | RlpExpectedToBeData RlpExpectedToBeData true
-    4 | RlpIncorrectListLen RlpIncorrectListLen true
-    5 | RlpDataLenWithZeroPrefix RlpDataLenWithZeroPrefix true
-    6 | RlpListLenWithZeroPrefix RlpListLenWithZeroPrefix true
-    7 | RlpInvalidIndirection RlpInvalidIndirection true
-    8 | RlpInconsistentLengthAndData RlpInconsistentLengthAndData true
-    9 | RlpInvalidLength RlpInvalidLength true
-    10 | Custom(\"text\") Custom(\"text\") true
-    11 | OutOfMemory OutOfMemory true
-    flags: A view and a fault, whatever the flags.
-    none | [\"0x05\", \"0x06\"]|Custom(\"a \"b\"\")|Custom(\"a \"b\"\")
-";
-
 /// Tells the lengths of a header and of its value, and their sum if a `usize` can hold it.
 pub(crate) fn tell_header(bytes: &[u8], out: &mut Line) -> fmt::Result {
     match PayloadInfo::from(bytes) {
@@ -213,7 +184,7 @@ fn texts_of_cut_lists(rt: HostRuntime) -> Result<(), Fail> {
     for len in 0..79usize {
         let want = if len == 0 { "null" } else { "RlpIsTooShort" };
         let digits = HASHES.get(..2 * len).unwrap_or("");
-        check_row(rt.alloc(), "view text", digits, want, &mut wrong);
+        note_row(rt.alloc(), "view text", digits, want, &mut wrong);
     }
     wrong.none_noted()
 }

@@ -1,87 +1,15 @@
-//! Values of each type, and the bytes that they are written as. The bytes were worked out by hand.
+//! Values of each type, and the bytes that they are written as.
 
+use crate::answers::Asked;
 use crate::appended::{Columns, LastField, Tagged};
 use crate::guarded::finishes_as;
 use crate::rows::{Line, cut, number};
-use crate::tables::Asked;
 use bytes::{Bytes, BytesMut};
 use rlp::{Decodable, Encodable, RlpStream};
 use rlp_examples::{Inner, Nest, Nonce, Pair};
 use std::alloc::{AllocError, Global};
 use std::fmt;
 use std::fmt::Write;
-
-/// Rows of what a value is made from, and its bytes.
-pub(crate) const ROWS: &str = "
-    written u32: A number.
-    40 | 28
-    written u64, written Nonce: A number of eight bytes is written under its own name too.
-    127 | 7f
-    128 | 8180
-    256 | 820100
-    18446744073709551615 | 88ffffffffffffffff
-    written usize: The greatest number.
-    18446744073709551615 | 88ffffffffffffffff
-    written array: Arrays of no byte, one and three.
-    0 | 80
-    1 | 05
-    3 | 83636174
-    written some: Options, of a text and of an array of 55 bytes.
-    cat | c483636174
-    written some some: An option in an option.
-    cat | c5c483636174
-    written none, listed u32, listed u64: No value, and lists of no numbers.
-    none | c0
-    written some array: An array of 55 bytes.
-    none | f838b7+61*55
-    written pair: A pair.
-    1 256 | c401820100
-    written columns: Structs of no field, one, 55, 56, and 256, which have a header of one, two or
-    three bytes. A row has the number of each field, and their number.
-    5 0 | c0
-    128 1 | c28180
-    5 55 | f7+05*55
-    5 56 | f838+05*56
-    5 256 | f90100+05*256
-    written last_field: A struct of one field that may be missing.
-    none | c0
-    256 | c3820100
-    written tagged: Envelopes, each with its tag.
-    0 5 | 820005
-    4 0 | 820480
-    127 5 | 827f05
-    128 5 | 828005
-    255 256 | 84ff820100
-    listed pairs: A list of pairs.
-    none | c6c20102c20304
-    listed zeros, listed empty: Lists of equal values, which are 0 and the empty text, and their number.
-    0 | c0
-    1 | c1+80
-    55 | f7+80*55
-    56 | f838+80*56
-    255 | f8ff+80*255
-    256 | f90100+80*256
-    1025 | f90401+80*1025
-    65535 | f9ffff+80*65535
-    65536 | fa010000+80*65536
-    listed sevens: Lists of the number 7.
-    65537 | fa010001+07*65537
-    listed same_pairs: Lists of a pair of 1 and 2.
-    600 | f90708+c20102*600
-    written slice, written Vec, written Bytes, written BytesMut: Strings, which are a single byte, or
-    have lengths at which the header gets longer.
-    80 | 8180
-    00*55 | b7+00*55
-    00*56 | b838+00*56
-    00*255 | b8ff+00*255
-    00*256 | b90100+00*256
-    00*65535 | b9ffff+00*65535
-    00*65536 | ba010000+00*65536
-    00*1048576 | ba100000+00*1048576
-    07*2097152 | ba200000+07*2097152
-    07*16777215 | baffffff+07*16777215
-    00*16777216 | bb01000000+00*16777216
-";
 
 /// Tells the bytes that a value of a type is written as. Most types are read again.
 pub(crate) fn tell_value(asked: &Asked<'_>, out: &mut Line) -> fmt::Result {
@@ -140,31 +68,24 @@ fn tell_numbers(asked: &Asked<'_>, out: &mut Line) -> fmt::Result {
 
 /// Tells the bytes that a list of values is written as.
 pub(crate) fn tell_listed(asked: &Asked<'_>, out: &mut Line) -> fmt::Result {
-    let count = number(asked.given);
     match asked.of {
         "u32" => tell_list::<u32>(asked, &[], out),
         "u64" => tell_list(asked, numbers_of(asked)?.as_slice(), out),
         "texts" => tell_list(asked, &["cat", "dog"], out),
         "pairs" => tell_list(asked, &[Pair(1, 2), Pair(3, 4)], out),
-        "zeros" => { tell_list(asked, vec![in asked.alloc; 0u64; count]?.as_slice(), out) }
-        "empty" => tell_list(asked, vec![in asked.alloc; ""; count]?.as_slice(), out),
-        "greatest" => {
-            tell_list(
-                asked,
-                vec![in asked.alloc; u64::MAX; count]?.as_slice(),
-                out,
-            )
-        }
-        "sevens" => tell_list(asked, vec![in asked.alloc; 7u8; count]?.as_slice(), out),
-        "same_pairs" => {
-            tell_list(
-                asked,
-                vec![in asked.alloc; Pair(1, 2); count]?.as_slice(),
-                out,
-            )
-        }
+        "zeros" => tell_copies(asked, 0u64, out),
+        "empty" => tell_copies(asked, "", out),
+        "greatest" => tell_copies(asked, u64::MAX, out),
+        "sevens" => tell_copies(asked, 7u8, out),
+        "same_pairs" => tell_copies(asked, Pair(1, 2), out),
         _ => Err(fmt::Error),
     }
+}
+
+/// Tells the bytes that a list of as many copies of a value as a row says is written as.
+fn tell_copies<E: Encodable + Copy>(asked: &Asked<'_>, value: E, out: &mut Line) -> fmt::Result {
+    let copies = vec![in asked.alloc; value; number(asked.given)]?;
+    tell_list(asked, copies.as_slice(), out)
 }
 
 /// Returns the numbers of a row.

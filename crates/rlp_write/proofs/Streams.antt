@@ -2,10 +2,6 @@
 pub mod Written
 -- the texts of a state, as bytes are put and lists closed
 pub mod States
--- the number of items that open lists await
-pub mod Awaits
--- bytes that are moved to a later place
-pub mod MovedBytes
 -- closing, step by step
 pub mod Closings
 -- the state that a flat buffer represents

@@ -175,6 +175,7 @@ impl RlpStream {
 
     /// The same if the count closes a list. It is out of line, since most calls close no list.
     #[inline(never)]
+    #[tactic(auto, using(crate::proofs::Streams::FlatBuffer::closings))]
     fn put_closing(&mut self, bytes: &[u8], items: usize) -> Result<(), AllocError>
         requires { IsTrue (is_counted_after items self.old.state.stack.lists false) }
         ensures ok { OnOk result (self.new.state ≡ count items (put bytes.now self.old.state)) }

@@ -71,7 +71,7 @@ pub fn growth_of_moves()
 
 /// A bounded list is open only while it awaits an item. No call leaves a bounded list open that
 /// awaits no item.
-#[tactic(auto, using(crate::proofs::Streams::Awaits::awaiting))]
+#[tactic(auto, using(crate::proofs::Streams::Finalizing::awaiting))]
 pub fn open_lists_await_items()
     ensures { (c : Call) (s : State) → AllAwait s.stack.lists → AllAwait (effect c s).stack.lists }
 {}

@@ -228,6 +228,7 @@ pub(crate) fn is_last(items: usize, awaits: Option<usize>) -> bool
 }
 
 /// Sets the number of items that each of the last `count` lists awaits.
+#[tactic(auto, using(crate::proofs::Streams::Closings::awaits_changed))]
 fn set_last(lists: &mut Vec<Placeholder>, count: usize, awaits: Option<usize>)
     requires { count ≤ length lists.old.items }
     ensures { reverse lists.new.items ≡ with_awaits count awaits (reverse lists.old.items) }

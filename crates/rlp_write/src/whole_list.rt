@@ -66,6 +66,7 @@ pub fn encode_list<E: Encodable>(alloc: Global, values: &[E]) -> Result<BytesMut
 /// Turns joined encodings into the encoding of the list of their items. The joined encodings follow
 /// one byte, which keeps the place of the header. An empty buffer becomes the encoding of the empty
 /// list.
+#[tactic(auto, using(crate::proofs::Streams::Joined::alone))]
 fn list_alone(bytes: BytesMut) -> Result<BytesMut, AllocError>
     ensures { IfOk result (λ b. b.items ≡ list_encoding (drop 1 bytes.items)) }
 {

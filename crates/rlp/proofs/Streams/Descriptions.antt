@@ -1,18 +1,16 @@
 -- What a stream writes is the join of the items that its calls describe.
-use Rattle.std.proofs.Common.{◌≡◌, ◌<◌, ◌^◌, ℕ, suc, ◌+◌, arith, length-append, Bool, true, false, cond, List, [], ◌∷◌, ◌++◌, length, map, Some, None}
-use Rattle.std.proofs.{Common.{refl, sym, ap, ◌∙◌, append-nil, Result, Ok, Err, IsTrue, not, All}, lemmas.Bool.{cond-true, cond-false, cond_both}, lemmas.List.append_cancel_left}
-use Rattle.std.proofs.lemmas.List.Concat.{flat_map-append}
+use Rattle.std.proofs.Common.{◌≡◌, ◌<◌, ◌^◌, ℕ, ◌+◌, arith, length-append, Bool, true, false, cond, List, [], ◌∷◌, ◌++◌, length, map, refl, sym, ap}
+use Rattle.std.proofs.{Common.{◌∙◌, append-nil, Result, Ok, IsTrue, not, All}, lemmas.Bool.{cond-true, cond-false, cond_both}}
+use Rattle.std.proofs.{lemmas.List.append_cancel_left, lemmas.List.Concat.flat_map-append}
 use Rattle.rlp_format.specs.Format.Encoding.{big_endian, written_header, Item, string, list_of, encoding, join, IsSized}
-use Rattle.rlp_write.specs.Streams.Stream.{OpenList, Stack, empty_stack, stack_put, stack_shut, shut_around, stack_count, count_around, is_last}
-use Rattle.rlp_write.specs.Streams.Stream.{State, initial_state, list_encoding}
-use Rattle.rlp_write.specs.Streams.Stream.{Call, effect, is_within_size, is_admitted, after, after_from}
+use Rattle.rlp_write.specs.Streams.Stream.{OpenList, Stack, empty_stack, stack_put, stack_shut, shut_around, stack_count, count_around, State}
+use Rattle.rlp_write.specs.Streams.Stream.{initial_state, list_encoding, Call, effect, is_within_size, after, after_from}
 use Rattle.rlp.specs.Streams.Described.{Step, one_list, items_after, items_after_all, Describes, by_append, by_empty_data, by_raw, by_checked_raw}
 use Rattle.rlp.specs.Streams.Described.{by_refused_raw, by_empty_list, by_list, by_unbounded_list, by_finalize, by_internal_list, by_clear}
 use Rattle.rlp.specs.Streams.Described.{AreDescribed, IsDescribed, DescribesWhere, AreDescribedWhere, IsDescribedWhere, joined_stack, joined_list}
 use Rattle.rlp.specs.Streams.Described.{FinishAs}
 use Rattle.rlp_format.proofs.Lemmas.Encodings.{encoding_list}
-use Rattle.rlp_reading.proofs.Lemmas.Items.{join_same}
-use Rattle.rlp_reading.proofs.Lemmas.Views.{sized_items}
+use Rattle.rlp_reading.proofs.{Lemmas.Items.join_same, Lemmas.Views.sized_items}
 
 one_list_joined : (xs : List Item) → list_encoding (join xs) ≡ join (one_list xs)
 one_list_joined xs = sym (encoding_list xs) ∙ sym (append-nil (encoding (list_of xs)))
@@ -27,23 +25,18 @@ put_joined xs s = ap (λ (p : List ℕ). record (joined_stack s) { inner = p }) 
 shut_around_joined : (p : List Item) (ls : List (OpenList Item)) → shut_around list_encoding (join p) (map joined_list ls)
     ≡ joined_stack (shut_around one_list p ls)
 shut_around_joined p [] = refl
-shut_around_joined p (l ∷ ls) =
-    let stack : List ℕ → Stack ℕ = λ b. record { inner = b; lists = map joined_list ls } in ap stack (closed_joined l.outer p)
+shut_around_joined p (l ∷ ls) = grind (arith, closed_joined)
 
 shut_joined : (s : Stack Item) → stack_shut list_encoding (joined_stack s) ≡ joined_stack (stack_shut one_list s)
 shut_joined s = shut_around_joined s.inner s.lists
 
 cond_joined : (b : Bool) (x y : Stack ℕ) (s t : Stack Item) → x ≡ joined_stack s → y ≡ joined_stack t → cond b x y ≡ joined_stack (cond b s t)
-cond_joined true x y s t e f = e
-cond_joined false x y s t e f = f
+cond_joined b x y s t e f = grind arith
 
 count_around_joined : (k : ℕ) (p : List Item) (ls : List (OpenList Item))
     → count_around list_encoding k (join p) (map joined_list ls) ≡ joined_stack (count_around one_list k p ls)
 count_around_joined k p [] = refl
-count_around_joined k p (l ∷ ls) =
-    cond_joined (is_last k l.awaits) _ _ _ _
-    (ap (λ (b : List ℕ). count_around list_encoding 1 b (map joined_list ls)) (closed_joined l.outer p) ∙ count_around_joined 1 (l.outer ++ one_list p) ls)
-    refl
+count_around_joined k p (l ∷ ls) = grind (arith, cond_joined, closed_joined, count_around_joined 1 (l.outer ++ one_list p) ls)
 
 count_joined : (k : ℕ) (s : Stack Item) → stack_count list_encoding k (joined_stack s) ≡ joined_stack (stack_count one_list k s)
 count_joined k s = count_around_joined k s.inner s.lists
@@ -61,46 +54,26 @@ unfolding encoding written_header big_endian
 empty_string = refl
 
 untrue : (b : Bool) → IsTrue (not b) → b ≡ false
-untrue true h = absurd (let no : ⊥ = cc in no)
-untrue false h = refl
+untrue b e = grind arith
 
 effect_joined : (s : State) {c : Call} {m : Step} → Describes s c m → (t : Stack Item) → s.stack ≡ joined_stack t
     → (effect c s).stack ≡ joined_stack (items_after m t)
 effect_joined s (by_append x) t e = ap (λ (k : Stack ℕ). stack_count list_encoding 1 (stack_put (encoding x) k)) e ∙ one_joined x t
-effect_joined s by_empty_data t e =
-    ap (λ (k : Stack ℕ). stack_count list_encoding 1 (stack_put (0x80 ∷ []) k)) e
-    ∙ ap (λ (b : List ℕ). stack_count list_encoding 1 (stack_put b (joined_stack t))) (sym empty_string) ∙ one_joined (string []) t
+effect_joined s by_empty_data t e = grind (arith, empty_string, one_joined)
 effect_joined s (by_raw xs a p) t e = ap (λ (k : Stack ℕ). stack_count list_encoding (length xs) (stack_put (join xs) k)) e ∙ brought_joined xs (length xs) t
-effect_joined s (by_checked_raw xs limit a p h) t e =
-    ap (λ (u : State). u.stack) (cond-true (is_within_size (join xs) limit s) _ _ h)
-    ∙ ap (λ (k : Stack ℕ). stack_count list_encoding (length xs) (stack_put (join xs) k)) e ∙ brought_joined xs (length xs) t
+effect_joined s (by_checked_raw xs limit a p h) t e = grind (arith, cond-true, brought_joined)
 effect_joined s (by_refused_raw b k limit h) t e = ap (λ (u : State). u.stack) (cond-false (is_within_size b limit s) _ _ (untrue _ h)) ∙ e
 effect_joined s by_empty_list t e = ap (λ (k : Stack ℕ). stack_count list_encoding 1 (stack_put (encoding (list_of [])) k)) e ∙ one_joined (list_of []) t
-effect_joined s (by_list n) t e = let with_list : Stack ℕ → Stack ℕ = λ k.
-    record { inner = []; lists = record { awaits = Some (suc n); outer = k.inner } ∷ k.lists } in ap with_list e
-effect_joined s by_unbounded_list t e = let with_list : Stack ℕ → Stack ℕ = λ k.
-    record { inner = []; lists = record { awaits = None; outer = k.inner } ∷ k.lists } in ap with_list e
-effect_joined s by_finalize t e =
-    ap (λ (k : Stack ℕ). stack_count list_encoding 1 (stack_shut list_encoding k)) e ∙ ap (stack_count list_encoding 1) (shut_joined t)
-    ∙ count_joined 1 (stack_shut one_list t)
-effect_joined s (by_internal_list xs) t e = ap (λ (k : Stack ℕ). stack_count list_encoding 1 (stack_put (encoding (list_of xs)) k)) e
-    ∙ one_joined (list_of xs) t
+effect_joined s (by_list n) t e = grind arith
+effect_joined s by_unbounded_list t e = grind arith
+effect_joined s by_finalize t e = grind (arith, shut_joined, count_joined)
+effect_joined s (by_internal_list xs) t e = grind (arith, one_joined)
 effect_joined s by_clear t e = refl
 
 -- ---- the front stays
 
 effect_front : (s : State) {c : Call} {m : Step} → Describes s c m → (effect c s).front ≡ s.front
-effect_front s (by_append x) = refl
-effect_front s by_empty_data = refl
-effect_front s (by_raw xs a p) = refl
-effect_front s (by_checked_raw xs limit a p h) = cond_both (is_within_size (join xs) limit s) _ _ (λ (u : State). u.front ≡ s.front) (λ _. refl) (λ _. refl)
-effect_front s (by_refused_raw b k limit h) = cond_both (is_within_size b limit s) _ _ (λ (u : State). u.front ≡ s.front) (λ _. refl) (λ _. refl)
-effect_front s by_empty_list = refl
-effect_front s (by_list n) = refl
-effect_front s by_unbounded_list = refl
-effect_front s by_finalize = refl
-effect_front s (by_internal_list xs) = refl
-effect_front s by_clear = refl
+effect_front s e = grind (arith, cond_both)
 
 -- ---- all calls
 
@@ -115,9 +88,7 @@ after_described [] [] n s t d e = (s, refl, refl, e)
 after_described [] (m ∷ steps) n s t d e = absurd d
 after_described (c ∷ calls) [] n s t d e = absurd d
 after_described (c ∷ calls) (m ∷ steps) n s t d e =
-    let r : Leaves (after_from (n + 1) (effect c s) calls) (effect c s).front (joined_stack (items_after_all steps (items_after m t))) =
-    after_described calls steps (n + 1) (effect c s) (items_after m t) d.2 (effect_joined s d.1 t e) in
-    (r.0, cond-true (is_admitted c s) (after_from (n + 1) (effect c s) calls) (Err n) d.0 ∙ r.1, r.2 ∙ effect_front s d.1, r.3)
+    grind (arith, effect_joined, cond-true, effect_front, after_described calls steps (n + 1) (effect c s) (items_after m t) d.2 (effect_joined s d.1 t e))
 
 -- after described calls, each payload is the join of its items
 pub described_joins : (front : List ℕ) (calls : List Call) (steps : List Step) → AreDescribed (initial_state front) calls steps
@@ -127,14 +98,11 @@ described_joins front calls steps d = after_described calls steps 1 (initial_sta
 -- if no list is left open, the top payload is the join of the items
 pub described_finishes : (front : List ℕ) (calls : List Call) (xs : List Item) → IsDescribed front calls xs
     → Leaves (after front calls) front (record { inner = join xs; lists = [] })
-described_finishes front calls xs d =
-    let r = described_joins front calls d.steps d.described in (r.0, r.1, r.2, r.3 ∙ ap joined_stack d.finished)
+described_finishes front calls xs d = grind (arith, described_joins)
 
 -- calls leave one state
 same_stack : (r : Result State ℕ) (f g : List ℕ) (s t : Stack ℕ) → Leaves r f s → Leaves r g t → s ≡ t
-same_stack r f g s t one other =
-    let last : one.0 ≡ other.0 = let both : Ok one.0 ≡ Ok other.0 = sym one.1 ∙ other.1 in cc in
-    sym one.3 ∙ ap (λ (u : State). u.stack) last ∙ other.3
+same_stack r f g s t one other = grind arith
 
 -- no other items are described
 pub described_once : (front : List ℕ) (calls : List Call) (xs ys : List Item) → All IsSized xs → All IsSized ys → IsDescribed front calls xs
@@ -181,15 +149,12 @@ items_anyhow P front calls xs d = record { steps = d.steps; described = steps_an
 -- calls that leave a closed state finish with its bytes
 finish_left : (front : List ℕ) (calls : List Call) (inner : List ℕ) → Leaves (after front calls) front (record { inner = inner; lists = [] })
     → FinishAs front calls (front ++ inner)
-finish_left front calls inner r =
-    record { last = r.0; admitted = r.1; closed = ap (λ (s : Stack ℕ). s.lists) r.3; buffer = sym (ap (λ (s : Stack ℕ). front ++ s.inner) r.3) }
+finish_left front calls inner r = grind arith
 
 -- and with no others
 only_left : (front : List ℕ) (calls : List Call) (inner bytes : List ℕ) → Leaves (after front calls) front (record { inner = inner; lists = [] })
     → FinishAs front calls bytes → bytes ≡ front ++ inner
-only_left front calls inner bytes r f =
-    let last : f.last ≡ r.0 = let both : Ok f.last ≡ Ok r.0 = sym f.admitted ∙ r.1 in cc in
-    f.buffer ∙ ap (λ (s : State). front ++ s.stack.inner) last ∙ ap (λ (s : Stack ℕ). front ++ s.inner) r.3
+only_left front calls inner bytes r f = grind arith
 
 -- the finished bytes of described calls are the front and the join
 pub described_buffer : (front : List ℕ) (calls : List Call) (xs : List Item) → IsDescribed front calls xs → FinishAs front calls (front ++ join xs)

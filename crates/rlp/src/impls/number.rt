@@ -1,10 +1,11 @@
 //! Numbers: written as the string of their digits to the base 256, the most significant first.
+//! `bool`: written as the numbers 0 and 1.
 
 ghost use Rattle.std.specs.{Prelude.{◌≡◌, ◌≤◌, ◌<◌, false, length, Ok, Err, IfOk, IfErr, IfSome}, Int.Digits.number_from_digits};
 ghost use Rattle.rlp_format.specs.Values.Value.{FitsBytes};
 ghost use Rattle.rlp_reading.specs.Form.{and_then, fault_of, number_of, string_of};
-ghost use Rattle.rlp_reading.proofs.{ListLaws.value_only, StringLaws.number_scalar};
-ghost use Rattle.rlp.specs.Codec.{number, plain, uint};
+ghost use Rattle.rlp_reading.proofs.{ListLaws.value_only, StringLaws.{number_scalar, truth_scalar}};
+ghost use Rattle.rlp.specs.Codec.{number, plain, truth_value, uint};
 
 use crate::rlpin::{Rlp, may_end_at, short_string};
 use crate::traits::{Decodable, RoundTrip, Scalar, StrictRead};
@@ -264,4 +265,31 @@ impl<const N: usize> Scalar for Uint<N> {
 
 impl<const N: usize> StrictRead for Uint<N> {
     ghost strict = { (uint N).reads_strictly };
+}
+
+/// Reads a number as `u8` does: 0 is `false` and 1 is `true`. Fails with
+/// `Custom("invalid boolean value")` for other numbers. It doesn't allocate.
+impl Decodable for bool {
+    ghost reading = { truth_value.reading };
+
+    #[tactic(auto, using(rlp_reading::proofs::StringLaws::other_bool))]
+    fn decode(alloc: Global, rlp: &Rlp<'_>) -> Result<bool, DecoderError> {
+        match u8::decode(alloc, rlp)? {
+            0 => Ok(false),
+            1 => Ok(true),
+            _ => Err(DecoderError::Custom("invalid boolean value")),
+        }
+    }
+}
+
+impl RoundTrip for bool {
+    ghost round_trip = { truth_value.reads_back };
+}
+
+impl Scalar for bool {
+    ghost exact = { truth_scalar };
+}
+
+impl StrictRead for bool {
+    ghost strict = { truth_value.reads_strictly };
 }

@@ -11,6 +11,7 @@ use std::alloc::Global;
 
 /// A slice that begins with the encoding of a value that fits gives exactly the values that fit and
 /// are alike to that value, and has no fault.
+#[tactic(auto, using(rlp_reading::proofs::Corollaries::gives_back))]
 pub fn encoding_is_read_back<T: RoundTrip>(bytes: &[u8])
     ensures { (v : T) → T.fits v → HoldsItem (view_of bytes.now) (T.item v)
         → ReadsBack T.fits T.item (Gives T.reading) (Faults T.reading) (view_of bytes.now) v }
@@ -18,6 +19,7 @@ pub fn encoding_is_read_back<T: RoundTrip>(bytes: &[u8])
 
 /// Bytes give a value of a type with [`Scalar`] if and only if the value fits and the bytes begin with
 /// its encoding.
+#[tactic(auto, using(rlp_format::proofs::Lemmas::Digits::bytes_held, rlp_reading::proofs::Corollaries::gives_exactly))]
 pub fn scalar_is_read<T: Scalar>(bytes: &[u8])
     ensures { (v : T) → Gives T.reading (view_of bytes.now) v
         ↔ GivesValue T.fits T.item (view_of bytes.now) v }
@@ -40,6 +42,7 @@ pub fn list_is_read_back<T: RoundTrip>(bytes: &[u8])
 
 /// The value that bytes begin with. If they begin with the encoding of a value that fits, the
 /// result is alike to that value, or memory is refused.
+#[tactic(auto, using(rlp_reading::proofs::Corollaries::answers_alike, rlp_reading::proofs::Corollaries::answers_memory))]
 pub fn encoding_is_decoded<T: RoundTrip>(alloc: Global, bytes: &[u8]) -> Result<T, DecoderError>
     ensures alike { (v : T) → T.fits v → BeginsWith bytes.now (encoding (T.item v))
         → IfOk result (λ w. T.fits w × AreAlike T.item w v) }
@@ -51,6 +54,7 @@ pub fn encoding_is_decoded<T: RoundTrip>(alloc: Global, bytes: &[u8]) -> Result<
 
 /// The value that bytes begin with. It is alike to a value that fits if and only if they begin with
 /// the encoding of that value. If they do, the call fails only if memory is refused.
+#[tactic(auto, using(rlp_format::proofs::Lemmas::Digits::bytes_held, rlp_reading::proofs::Corollaries::answers_alike, rlp_reading::proofs::Corollaries::answers_begin, rlp_reading::proofs::Corollaries::answers_memory))]
 pub fn scalar_is_decoded<T: Scalar>(alloc: Global, bytes: &[u8]) -> Result<T, DecoderError>
     ensures only { (v : T) → IsOkAnd result (λ w. AreAlike T.item w v)
         → BeginsWith bytes.now (encoding (T.item v)) }

@@ -16,7 +16,9 @@ pub fn equal_numbers_are_equal_uints<const N: usize>(one: &Uint<N>, other: &Uint
 fn equal_numbers_are_equal_digits(one: &[u8], other: &[u8])
     requires { length one.now ≡ length other.now }
     ensures { number_from_digits 256 one.now ≡ number_from_digits 256 other.now → one.now ≡ other.now }
-{}
+{
+    digits_compare_as_numbers(one, other)
+}
 
 /// Two values of one `Uint` type compare as their numbers do.
 pub fn uints_compare_as_numbers<const N: usize>(one: &Uint<N>, other: &Uint<N>)

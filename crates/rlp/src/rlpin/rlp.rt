@@ -201,6 +201,7 @@ impl<'a> Rlp<'a> {
     ///
     /// Fails as [`Rlp::at`] does, and reads the same headers.
     #[inline(always)]
+    #[tactic(auto, using(crate::proofs::Readers::walks))]
     pub fn at_with_offset(&self, index: usize) -> Result<(Rlp<'a>, usize), DecoderError>
         ensures { result ≡ item_with_place self.now index }
     {

@@ -1,10 +1,11 @@
 -- `big_endian` writes a number's digits: they denote the number, begin with no zero, and are the only digits that do both.
-use Rattle.std.proofs.Common.{◌≡◌, ℕ, zero, suc, ◌+◌, ◌*◌, ◌/◌, ◌%◌, ◌^◌, ◌<◌, ◌≤◌, List, [], ◌∷◌, ◌++◌, length, get_or, lt_of_lt_of_le, refl, false}
+use Rattle.std.proofs.Common.{◌≡◌, ℕ, zero, suc, ◌+◌, ◌*◌, ◌/◌, ◌%◌, ◌^◌, ◌<◌, ◌≤◌, List, [], ◌∷◌, ◌++◌, length, get_or, refl, false}
 use Rattle.std.proofs.Common.{Fits, w8, eqb, ne_eqb, sym, ap, ◌∙◌, arith, append_assoc, length-append, append-nil, zero-add}
 use Rattle.std.proofs.lemmas.Int.Digits.{number_lt, number_digits_of, first_digits_of, length-digits_of-le, all_below_base_digits_of, digits_of_step}
-use Rattle.std.proofs.{lemmas.Nat.{div-mul-add, mod-mul-add, pow-add}, Math.Nat.{pow-suc, pow-le-pow_right}}
+use Rattle.std.proofs.{lemmas.Nat.pow-add, Math.Nat.{pow-suc, pow-le-pow_right}}
 use Rattle.std.proofs.{lemmas.List.Elements.{All-from_get_or, All-from_recursion, recursion_from_All}, lemmas.Bool.cond-false}
 use Rattle.std.specs.Int.Digits.{digits_of, digits_with_fuel, number_from_digits, number_from_digits_after, AllBelowBase}
+use Rattle.std.proofs.lemmas.Grind.{common_steps}
 use Rattle.rlp_format.specs.{Format.Encoding.{big_endian, big_endian_within, AreBytes}, Values.Value.FitsBytes}
 
 -- digits by a number of turns, in the words of the standard library
@@ -51,11 +52,7 @@ big_endian_some n h = rw (big_endian_step n h) (simp length-append (omega arith)
 
 -- one more digit at the end
 pub big_endian_push : (n d : ℕ) → 0 < n → d < 256 → big_endian (n * 256 + d) ≡ big_endian n ++ d ∷ []
-big_endian_push n d h l =
-    let above : 0 < n * 256 + d = omega arith in
-    let quotient : (n * 256 + d) / 256 ≡ n = div-mul-add n 256 d l in
-    let remainder : (n * 256 + d) % 256 ≡ d = mod-mul-add n 256 d l in
-    big_endian_step (n * 256 + d) above ∙ ap (λ q. big_endian q ++ ((n * 256 + d) % 256) ∷ []) quotient ∙ ap (λ r. big_endian n ++ r ∷ []) remainder
+big_endian_push n d h l = grind (arith, big_endian_step)
 
 -- more digits after those of n
 pub big_endian_after : (n : ℕ) (ds : List ℕ) → 0 < n → AllBelowBase 256 ds → big_endian (number_from_digits_after 256 n ds) ≡ big_endian n ++ ds
@@ -71,10 +68,7 @@ big_endian_zero = refl
 
 -- a number below the base is its only digit
 pub big_endian_digit : (d : ℕ) → 0 < d → d < 256 → big_endian d ≡ d ∷ []
-big_endian_digit d h l =
-    let none : d / 256 ≡ 0 = omega arith in
-    let whole : d % 256 ≡ d = omega arith in
-    big_endian_step d h ∙ ap (λ q. big_endian q ++ (d % 256) ∷ []) none ∙ ap (λ r. big_endian 0 ++ r ∷ []) whole ∙ ap (λ s. s ++ d ∷ []) big_endian_zero
+big_endian_digit d h l = grind (arith, big_endian_step, big_endian_zero)
 
 -- bytes that begin with no zero are the digits of the number that they write
 pub big_endian_again : (d : ℕ) (ds : List ℕ) → 0 < d → AllBelowBase 256 (d ∷ ds) → big_endian (number_from_digits 256 (d ∷ ds)) ≡ d ∷ ds
@@ -91,11 +85,7 @@ pow-bytes (suc width) =
 
 -- digits that are at most `width` bytes write a number of that width
 pub digits_fit : (width : ℕ) (digits : List ℕ) → AreBytes digits → length digits ≤ width → FitsBytes width (number_from_digits 256 digits)
-digits_fit width digits bytes few =
-    let below : number_from_digits 256 digits < 256 ^ length digits = number_lt 256 digits (recursion_from_All (λ byte. byte < 2 ^ 8) digits bytes) in
-    let base : 0 < 256 = omega arith in
-    let most : 256 ^ length digits ≤ 256 ^ width = pow-le-pow_right base few in
-    rw (sym (pow-bytes width)) (lt_of_lt_of_le below most)
+digits_fit width digits bytes few = grind (arith, number_lt, recursion_from_All, pow-le-pow_right, pow-bytes)
 
 -- bytes that begin with no zero are the digits of the number that they write
 pub digits_again : (first : ℕ) (rest : List ℕ) → AreBytes (first ∷ rest) → 0 < first → big_endian (number_from_digits 256 (first ∷ rest)) ≡ first ∷ rest
@@ -104,8 +94,7 @@ digits_again first rest bytes leading = big_endian_again first rest leading (rec
 -- no digits write 0
 pub none_is_zero : (width : ℕ) (digits : List ℕ) → length digits < 1 → FitsBytes width (number_from_digits 256 digits)
     × (big_endian (number_from_digits 256 digits) ≡ digits)
-none_is_zero width [] h = (digits_fit width [] (All-from_recursion (λ byte. byte < 2 ^ 8) [] tt) (omega arith), big_endian_zero)
-none_is_zero width (d ∷ ds) h = absurd (omega arith)
+none_is_zero width digits h = grind (arith, common_steps, digits_fit, big_endian_zero)
 
 -- what a slice of `u8` holds, as `type_inv` says it
 pub bytes_held : (b : List ℕ) → ((i : ℕ) → Fits w8 (get_or b i 0)) → AreBytes b

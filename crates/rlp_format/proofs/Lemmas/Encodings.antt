@@ -1,6 +1,6 @@
 -- The forms of encodings.
-use Rattle.std.proofs.Common.{◌≡◌, ℕ, ◌^◌, ◌<◌, ◌≤◌, ◌⊎◌, inl, inr, ⊎_elim, List, [], ◌∷◌, ◌++◌, length, refl, ap, ◌∙◌, arith, true, ltb-true}
-use Rattle.std.proofs.{Common.{length-append}, lemmas.Bool.{cases_Bool, cond-true, cond-false}}
+use Rattle.std.proofs.Common.{◌≡◌, ℕ, ◌^◌, ◌<◌, ◌≤◌, ◌⊎◌, inl, inr, ⊎_elim, List, [], ◌∷◌, ◌++◌, length, refl, ap, ◌∙◌, arith, true}
+use Rattle.std.proofs.{Common.{length-append}}
 use Rattle.rlp_format.specs.Format.Encoding.{Item, string, list, Items, no_items, item_and, items_from, listed, list_of, written_header, IsBase}
 use Rattle.rlp_format.specs.Format.Encoding.{encoding, join, join_items, string_encoding, is_low_byte, IsSized}
 use Rattle.rlp_format.proofs.Lemmas.Headers.{shape}
@@ -23,8 +23,7 @@ IsForm b = IsLone b ⊎ ((base : ℕ) × (payload : List ℕ) × IsWritten base 
 
 -- a string that is its own encoding is one low byte
 pub low_byte : (s : List ℕ) → is_low_byte s ≡ true → IsLone s
-low_byte (c ∷ []) e = record { byte = c; low = ltb-true c 0x80 e; is = refl }
-low_byte s e = cc
+low_byte s e = grind arith
 
 -- a payload is shorter than 2^64 where the whole is
 pub small_payload : (base : ℕ) (payload b : List ℕ) → b ≡ written_header base (length payload) ++ payload → length b < 2 ^ 64 → length payload < 2 ^ 64
@@ -32,12 +31,7 @@ small_payload base payload b e h = omega (arith, ap length e, length-append (wri
 
 -- the encoding of a string is a low byte, or a header and the string
 pub string_cases : (s : List ℕ) → length (string_encoding s) < 2 ^ 64 → (IsLone s × (string_encoding s ≡ s)) ⊎ IsWritten 0x80 s (string_encoding s)
-string_cases s h =
-    ⊎_elim
-    (λ low. inl (low_byte s low, cond-true (is_low_byte s) s (written_header 0x80 (length s) ++ s) low))
-    (λ other. let e : string_encoding s ≡ written_header 0x80 (length s) ++ s = cond-false (is_low_byte s) s (written_header 0x80 (length s) ++ s) other in
-    inr (record { is_base = inl refl; small = small_payload 0x80 s (string_encoding s) e h; is = e }))
-    (cases_Bool (is_low_byte s))
+string_cases s h = grind (arith, small_payload)
 
 -- the encoding of a list is a header and the joined items
 pub list_written : (xs : Items) → IsSized (list xs) → IsWritten 0xc0 (join_items xs) (encoding (list xs))

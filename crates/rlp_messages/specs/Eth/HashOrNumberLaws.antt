@@ -1,6 +1,6 @@
 -- Hashes or numbers are read back, and are read only from their encodings.
 use Rattle.std.specs.Prelude.{ℕ, ◌≡◌, ◌==◌, Bool, true, false, List, length, Ok}
-use Rattle.std.proofs.{Common.{◌^◌, ◌<◌, inl, inr, ap, arith, eq-eqb, ne_eqb, refl, subst, sym, ◌∙◌}, lemmas.Bool.{cond-true, cond-false, eqb-true}}
+use Rattle.std.proofs.{Common.{◌^◌, ◌<◌, inl, inr, ap, arith, eq-eqb, ne_eqb, refl, subst, sym, ◌∙◌}, lemmas.Bool.{cond-true, cond-false}, lemmas.Bool.Decides.nat_tests}
 use Rattle.rlp.specs.{Codec.{Codec, string_type}, Form.{map_value, number_of}, Format.Encoding.{AreBytes, big_endian}, Values.Value.FitsBytes}
 use Rattle.rlp_reading.proofs.StringLaws.{ReadsStrings, number_strings}
 use Rattle.rlp_reading.proofs.Lemmas.StringsHeld.{few_digits}
@@ -16,17 +16,11 @@ found_back (Number n) fit short =
     cond-false (length (big_endian n) == 32) _ _ (ne_eqb (length (big_endian n)) 32 (λ same. omega (arith, same, few_digits 8 n fit)))
     ∙ ap (map_value inr) ((number_strings 8).back n fit short)
 
-found_by : (d : List ℕ) (x : HashOrNumber) (long : Bool) → AreBytes d → length d < 2 ^ 64 → (length d == 32) ≡ long
-    → hash_or_number_of d ≡ Ok (seen_hash_or_number x) → IsHashOrNumber x × (d ≡ hash_or_number_bytes x)
-found_by d (Hash h) true bytes short long is =
-    let r : Ok (inl d) ≡ Ok (inl h.0) = sym (cond-true (length d == 32) _ _ long) ∙ is in
-    let same : d ≡ h.0 = cc in
-    (subst (λ d. length d ≡ 32) same (eqb-true (length d) 32 long), same)
-found_by d (Number n) true bytes short long is =
-    let r : hash_or_number_of d ≡ Ok (inl d) = cond-true (length d == 32) _ _ long in absurd (let no : ⊥ = cc in no)
-found_by d (Hash h) false bytes short long is = absurd (not_right (number_of 8 d) h.0 (sym (cond-false (length d == 32) _ _ long) ∙ is))
-found_by d (Number n) false bytes short long is =
-    (number_strings 8).only d n bytes short (right_only (number_of 8 d) n (sym (cond-false (length d == 32) _ _ long) ∙ is))
+found_only : (d : List ℕ) (x : HashOrNumber) → AreBytes d → length d < 2 ^ 64 → hash_or_number_of d ≡ Ok (seen_hash_or_number x)
+    → IsHashOrNumber x × (d ≡ hash_or_number_bytes x)
+found_only d (Hash h) bytes short is = grind (arith, nat_tests, not_right (number_of 8 d) h.0)
+found_only d (Number n) bytes short is =
+    (number_strings 8).only d n bytes short (let read : number_of 8 d ≡ Ok n = grind (arith, right_only {M = List ℕ} (number_of 8 d) n) in read)
 
 found_same : (x : HashOrNumber) → written_hash_or_number (seen_hash_or_number x) ≡ hash_or_number_bytes x
 found_same (Hash h) = refl
@@ -40,7 +34,7 @@ found_fits x y same fit = absurd (let no : ⊥ = cc in no)
 pub hash_or_number_strings : ReadsStrings IsHashOrNumber hash_or_number_bytes seen_hash_or_number written_hash_or_number hash_or_number_of
 hash_or_number_strings = record {
   back = found_back;
-  only = λ d x bytes short is. found_by d x (length d == 32) bytes short refl is;
+  only = found_only;
   fits = found_fits;
   same = found_same;
 }

@@ -48,6 +48,7 @@ impl Protocol<'_> {
 }
 
 /// Returns the first id after the ids of the shared capabilities whose names come before this name.
+#[tactic(auto, using(crate::proofs::BothEnds::asking))]
 fn first_id(name: &[u8], ours: &[Protocol<'_>], peer: &Hello) -> u128
     ensures { result ≡ offset_of (map known_of ours.now) (offered peer.now) name.now }
 {
@@ -70,6 +71,7 @@ fn is_used(protocol: &Protocol<'_>, ours: &[Protocol<'_>], peer: &Hello) -> bool
 }
 
 /// Whether a capability is one of ours.
+#[tactic(auto, using(crate::proofs::BothEnds::asking))]
 fn is_one_of(protocol: &Protocol<'_>, ours: &[Protocol<'_>]) -> bool
     ensures { result ≡ speaks (announced (map known_of ours.now)) protocol.now.name.now
         protocol.now.version }
@@ -83,6 +85,7 @@ fn is_one_of(protocol: &Protocol<'_>, ours: &[Protocol<'_>]) -> bool
 }
 
 /// Whether the client of a greeting speaks a capability in its version.
+#[tactic(auto, using(crate::proofs::BothEnds::asking))]
 fn speaks(peer: &Hello, protocol: &Protocol<'_>) -> bool
     ensures { result ≡ speaks (offered peer.now) protocol.now.name.now protocol.now.version }
 {
@@ -95,6 +98,7 @@ fn speaks(peer: &Hello, protocol: &Protocol<'_>) -> bool
 }
 
 /// Whether both clients speak a capability in a higher version.
+#[tactic(auto, using(crate::proofs::BothEnds::asking))]
 fn is_superseded(protocol: &Protocol<'_>, ours: &[Protocol<'_>], peer: &Hello) -> bool
     ensures { result ≡ is_superseded (map known_of ours.now) (offered peer.now) protocol.now.name.now
         protocol.now.version }

@@ -2,10 +2,11 @@
 use Rattle.std.proofs.Common.{◌≡◌, ℕ, zero, suc, ◌+◌, ◌-◌, ◌^◌, ◌<◌, ◌≤◌, ◌⊎◌, inl, inr, ⊎_elim, List, [], ◌∷◌, ◌++◌, length, take, drop, map, All, refl}
 use Rattle.std.proofs.Common.{sym, ap, ◌∙◌, subst, arith, Ok, Err, Result, leb, le-leb, leb-true, length-append, length-take-le, append_assoc, get_or}
 use Rattle.std.proofs.Common.{append-nil, take_at, drop_at, take-append-drop, MatchResult, IsTrue, is_ok, ◌↔◌}
-use Rattle.std.proofs.lemmas.Bool.{leb-false, false≢true, cases_lt, cond_both, cond-true, cond-false}
+use Rattle.std.proofs.lemmas.Bool.{leb-false, cases_lt, cond_both, cond-true}
 use Rattle.std.proofs.lemmas.List.Elements.{All-drop, All-same, recursion_from_All, All-from_recursion}
 use Rattle.std.proofs.{lemmas.List.{append_cancel_left, nil_from_length}, Math.Seq.take-append-add}
 use Rattle.std.specs.List.{concat, AllByRecursion}
+use Rattle.std.proofs.lemmas.Grind.{common_steps}
 use Rattle.rlp_reading.specs.{declared.error.DecoderError.DecoderError, declared.header.PayloadInfo.PayloadInfo}
 use Rattle.rlp_reading.specs.declared.error.DecoderError.TheVariants.{RlpIsTooShort}
 use Rattle.rlp_reading.specs.Format.Framing.{HasHeader, lone, written, header, ReadsHeader, payload_info}
@@ -28,8 +29,7 @@ header_some (written base n rest b small) = let (first, more, is, high) = first_
 
 -- it lies within them
 pub header_within : {b : List ℕ} {h n : ℕ} → HasHeader b h n → h ≤ length b
-header_within (lone byte rest low) = omega arith
-header_within (written base n rest b small) = omega (arith, length-append (written_header base n) rest)
+header_within has = grind (arith, length-append)
 
 -- ---- framing
 
@@ -94,10 +94,7 @@ cuts_agree (f ∷ fs) [] x y a b e = inr (f ∷ fs, refl)
 cuts_agree (f ∷ fs) (g ∷ gs) x y a b e =
     let cells : f ++ (concat fs ++ x) ≡ g ++ (concat gs ++ y) = sym (append_assoc f (concat fs) x) ∙ e ∙ append_assoc g (concat gs) y in
     let (fronts, tails) = framed_same f g (concat fs ++ x) (concat gs ++ y) a.0 b.0 cells in
-    ⊎_elim
-    (λ (more, is). inl (more, cc))
-    (λ (more, is). inr (more, cc))
-    (cuts_agree fs gs x y a.1 b.1 tails)
+    grind (arith, append_assoc, framed_same, cuts_agree fs gs x y a.1 b.1 tails)
 
 -- of two cuts of the same bytes one begins the other
 pub cuts_begin : (p : List ℕ) (fs gs : List (List ℕ)) → IsCut p fs → IsCut p gs → BeginsWith gs fs ⊎ BeginsWith fs gs
@@ -106,8 +103,7 @@ cuts_begin p fs gs a b =
 
 -- a list no longer than its own prefix equals the prefix
 pub longer_same : (fs gs more : List (List ℕ)) → gs ≡ fs ++ more → length gs ≤ length fs → fs ≡ gs
-longer_same fs gs [] e l = sym (append-nil fs) ∙ sym e
-longer_same fs gs (m ∷ more) e l = absurd (omega (arith, ap length e, length-append fs (m ∷ more)))
+longer_same fs gs more e l = grind (arith, common_steps)
 
 -- the longest cut is the only longest one
 pub split_unique : (p : List ℕ) (fs gs : List (List ℕ)) → IsSplit p fs → IsSplit p gs → fs ≡ gs
@@ -121,8 +117,7 @@ split_unique p fs gs a b =
 
 -- the first item is split off
 pub split_step : (turns : ℕ) (f more : List ℕ) → IsFramedItem f → split_within (suc turns) (f ++ more) ≡ f ∷ split_within turns more
-split_step turns f more is = ap (frame_and_more (split_within turns) (f ++ more)) (frame_front f more is)
-    ∙ ap (λ s. f ∷ split_within turns s) (drop_at f more (length f) refl)
+split_step turns f more is = grind (arith, frame_front, drop_at)
 
 -- if x begins with no framed item, splitting `concat fs ++ x` gives fs
 pub split_of : (turns : ℕ) (fs : List (List ℕ)) (x : List ℕ) (e : DecoderError) → AllFramed fs → frame x ≡ Err e → length (concat fs ++ x) ≤ turns
@@ -164,18 +159,11 @@ split_join xs a = ap split (join_is xs) ∙ split_items (map encoding xs) (encod
 
 -- bytes that begin with a framed item are framed
 pub front_framed : (f more : List ℕ) → IsFramedItem f → IsFramed (f ++ more)
-front_framed f more is = record {
-  header_len = is.header_len;
-  value_len = is.value_len;
-  has_header = longer more is.has_header;
-  within =
-      omega (arith, is.whole, length-append f more);
-}
+front_framed f more is = grind (arith, longer, length-append)
 
 no_more : (fs gs more : List (List ℕ)) (x y : List ℕ) → ¬ IsFramed x → AllFramed gs → gs ≡ fs ++ more → concat fs ++ x ≡ concat gs ++ y → length gs ≤ length fs
 no_more [] [] more x y stop a e is = omega arith
-no_more [] (g ∷ gs) more x y stop a e is =
-    absurd (stop (subst IsFramed (sym (is ∙ append_assoc g (concat gs) y)) (front_framed g (concat gs ++ y) a.0)))
+no_more [] (g ∷ gs) more x y stop a e is = grind (arith, append_assoc, front_framed)
 no_more (f ∷ fs) [] more x y stop a e is = omega arith
 no_more (f ∷ fs) (g ∷ gs) more x y stop a e is =
     let heads : g ≡ f = cc in
@@ -187,15 +175,8 @@ no_more (f ∷ fs) (g ∷ gs) more x y stop a e is =
 
 -- fs is the longest cut of `concat fs ++ x` if x begins with no framed item
 pub stopped_split : (fs : List (List ℕ)) (x : List ℕ) → AllFramed fs → ¬ IsFramed x → IsSplit (concat fs ++ x) fs
-stopped_split fs x a stop = record {
-  cut = record { each = All-from_recursion IsFramedItem fs a; begins = (x, refl) };
-  longest = λ gs b.
-      let each : AllFramed gs = recursion_from_All IsFramedItem gs b.each in
-      ⊎_elim
-      (λ (more, is). no_more fs gs more x b.begins.0 stop each is b.begins.1)
-      (λ (more, is). omega (arith, ap length is, length-append gs more))
-      (cuts_agree fs gs x b.begins.0 a each b.begins.1);
-}
+stopped_split fs x a stop =
+    grind (arith, All-from_recursion, recursion_from_All, no_more, length-append, cuts_agree)
 
 -- ---- what `frame` gives
 
@@ -212,17 +193,9 @@ frame_item b h n has within = record { header_len = h; value_len = n; has_header
 abbrev pub Frames : List ℕ → Result PayloadInfo DecoderError → Type 0
 Frames b answer = MatchResult answer (λ p. HasHeader b p.header_len p.value_len × (total_len p ≤ length b)) (λ e. ¬ IsFramed b)
 
-framing_unframed : (b : List ℕ) (e : DecoderError) → framing b ≡ Err e → ¬ IsFramed b
-framing_unframed b e is framed =
-    let same = sym (framing_is b framed.header_len framed.value_len framed.has_header framed.within) ∙ is in cc
-
 framing_by : (b : List ℕ) (r : Result PayloadInfo DecoderError) → header b ≡ r → ReadsHeader b r → Frames b (framing_in b r)
 unfolding framing
-framing_by b (Err e) is reads = framing_unframed b e (ap (framing_in b) is)
-framing_by b (Ok p) is reads =
-    cond_both (leb (total_len p) (length b)) _ _ (Frames b)
-    (λ e. (reads, leb-true _ _ e))
-    (λ e. framing_unframed b RlpIsTooShort (ap (framing_in b) is ∙ cond-false _ _ _ e))
+framing_by b r is reads = grind (arith, framing_is)
 
 -- `framing` gives the header of framed bytes, and a fault of others
 pub framing_reads : (b : List ℕ) → AreBytes b → Frames b (framing b)
@@ -234,10 +207,7 @@ abbrev pub Fronts : List ℕ → Result (List ℕ) DecoderError → Type 0
 Fronts b answer = MatchResult answer (λ f. IsFramedItem f × (b ≡ f ++ drop (length f) b)) (λ e. ¬ IsFramed b)
 
 frame_by : (b : List ℕ) (r : Result PayloadInfo DecoderError) → Frames b r → Fronts b (map_ok (λ p. take (total_len p) b) r)
-frame_by b (Err e) is = is
-frame_by b (Ok p) (has, within) =
-    let long : length (take (total_len p) b) ≡ p.header_len + p.value_len = length-take-le (total_len p) b within in
-    (frame_item b p.header_len p.value_len has within, sym (take-append-drop (total_len p) b) ∙ ap (λ k. take (total_len p) b ++ drop k b) (sym long))
+frame_by b r is = grind (arith, length-take-le, frame_item, take-append-drop)
 
 -- `frame` gives the framed item in front, where one is
 pub frame_reads : (b : List ℕ) → AreBytes b → Fronts b (frame b)
@@ -255,16 +225,7 @@ pub record Walk (p : List ℕ) (fs : List (List ℕ)) : Type 0 where
 
 walk_by : (turns : ℕ) (p : List ℕ) (r : Result (List ℕ) DecoderError) → length p ≤ suc turns → Fronts p r
     → ((q : List ℕ) → length q ≤ turns → (f : List ℕ) → p ≡ f ++ q → Walk q (split_within turns q)) → Walk p (frame_and_more (split_within turns) p r)
-walk_by turns p (Err e) l stop again = record { left = p; is = refl; each = tt; stopped = stop }
-walk_by turns p (Ok f) l (item, whole) again =
-    let rest_short : length (drop (length f) p) ≤ turns = omega (arith, ap length whole, length-append f (drop (length f) p), item_some f item) in
-    let below = again (drop (length f) p) rest_short f whole in
-    record {
-      left = below.left;
-      is = whole ∙ ap (λ s. f ++ s) below.is ∙ sym (append_assoc f (concat (split_within turns (drop (length f) p))) below.left);
-      each = (item, below.each);
-      stopped = below.stopped;
-    }
+walk_by turns p r l stop again = grind (arith, length-append, item_some, append_assoc)
 
 -- a split of as many turns as bytes finds all
 pub walk : (turns : ℕ) (p : List ℕ) → AreBytes p → length p ≤ turns → Walk p (split_within turns p)
@@ -287,23 +248,19 @@ split_only p fs bytes is = split_unique p fs (split p) is (split_longest p bytes
 
 -- an encoding frames itself
 pub encoding_framed : (x : Item) (b : List ℕ) → IsSized x → BeginsWith b (encoding x) → IsFramed b × (frame b ≡ Ok (encoding x))
-encoding_framed x b h (more, is) =
-    let item = encoding_item x h in
-    (subst IsFramed (sym is) (front_framed (encoding x) more item), ap frame is ∙ frame_front (encoding x) more item)
+encoding_framed x b h begins = grind (arith, encoding_item, front_framed, frame_front)
 
 -- ---- `frame` and the relations
 
 fronts_framed : (b : List ℕ) (r : Result (List ℕ) DecoderError) → frame b ≡ r → Fronts b r → IsTrue (is_ok r) ↔ IsFramed b
-fronts_framed b (Err e) is stop = (λ t. absurd (false≢true t), λ framed. absurd (stop framed))
-fronts_framed b (Ok f) is (item, whole) = (λ _. subst IsFramed (sym whole) (front_framed f (drop (length f) b) item), λ _. refl)
+fronts_framed b r is stop = grind (arith, front_framed)
 
 -- `frame` gives an item exactly of framed bytes
 pub frame_framed : (b : List ℕ) → AreBytes b → IsTrue (is_ok (frame b)) ↔ IsFramed b
 frame_framed b bytes = fronts_framed b (frame b) refl (frame_reads b bytes)
 
 fronts_whole : (b : List ℕ) (r : Result (List ℕ) DecoderError) → Fronts b r → r ≡ Ok b → IsFramedItem b
-fronts_whole b (Err e) stop is = absurd (let different : ⊥ = cc in different)
-fronts_whole b (Ok f) (item, whole) is = let same : f ≡ b = cc in subst IsFramedItem same item
+fronts_whole b r stop is = grind arith
 
 -- `frame` gives the whole exactly of a framed item
 pub frame_whole : (b : List ℕ) → AreBytes b → (frame b ≡ Ok b) ↔ IsFramedItem b
@@ -359,7 +316,7 @@ split_short (first ∷ rest) n bytes some short total within =
 
 -- where `framing` answers a fault there are no items
 pub split_unframed : (p : List ℕ) (e : DecoderError) → AreBytes p → framing p ≡ Err e → split p ≡ []
-split_unframed p e bytes is = split_none p bytes (framing_unframed p e is)
+split_unframed p e bytes is = grind (arith, split_none, framing_is)
 
 -- ---- why bytes aren't framed
 

@@ -1,26 +1,22 @@
 -- The first item of bytes, by the header that was read.
-use Rattle.std.proofs.Common.{ltb-false, Bool, ◌≡◌, ℕ, ◌-◌, ◌≤◌, List, length, length-take-le, take, drop, Option, None, Some, Ok, Err, true, sym, ap, ◌∙◌, arith, ◌<◌, false}
-use Rattle.std.proofs.Common.{not, ◌==◌, ltb, lt-ltb, le-ltb, [], ◌∷◌, ◌++◌, length-append, subst, ◌+◌, ◌^◌, if◌then◌else◌, refl, append-nil, Result}
+use Rattle.rlp_format.proofs.Lemmas.Digits.{bytes_held}
+use Rattle.rlp_reading.proofs.Lemmas.{Frames.{split_framed, split_unframed}, Numbered.fault-err}
+use Rattle.std.proofs.Common.{◌≡◌, ℕ, ◌-◌, ◌≤◌, List, length, length-take-le, take, drop, None, Some, Ok, Err, true, sym, ap, ◌∙◌, arith, ◌<◌, false}
+use Rattle.std.proofs.Common.{not, ◌==◌, ltb, lt-ltb, le-ltb, [], ◌∷◌, ◌++◌, length-append, subst, ◌+◌, ◌^◌, if◌then◌else◌, append-nil, Result}
 use Rattle.std.proofs.{Common.{IfOk, IfErr, IsOkAnd, MatchResult}, lemmas.List.{length-drop, take_rest, drop-take}}
-use Rattle.std.proofs.{lemmas.Bool.{cond-true, cond-false}, lemmas.Bool.Decides.nat_tests}
+use Rattle.std.proofs.{lemmas.Bool.{cond-true, cond-false}}
 use Rattle.std.specs.Result.{IsErr, IsErrAnd}
 use Rattle.rlp_format.specs.Format.Encoding.{AreBytes, encoding, Item, join}
 use Rattle.rlp_format.proofs.Lemmas.Encodings.{front_sized}
 use Rattle.rlp_reading.specs.{declared.error.DecoderError.DecoderError, declared.header.PayloadInfo.PayloadInfo}
-use Rattle.rlp_reading.specs.Format.Framing.{framing, map_ok, total_len, value, unless, HasHeader, IsFramedItem, frame, is_followed, is_longer, strict_fault}
+use Rattle.rlp_reading.specs.Format.Framing.{framing, map_ok, total_len, value, HasHeader, IsFramedItem, frame, is_followed, is_longer, strict_fault}
 use Rattle.rlp_reading.specs.Format.Framing.{strict_fault_in, IsFramed, fault, fault_in, begins_as_list, items, IsCanonical}
-use Rattle.rlp_reading.specs.Views.View.{View, begins_as_data, data_size, frame_fault, value_length, view_header, view_value, item_by, item_count}
+use Rattle.rlp_reading.specs.Views.View.{View, begins_as_data, data_size, value_length, view_header, view_value, item_by, item_count}
 use Rattle.rlp_reading.specs.Views.View.{item_with_place, view_of}
 use Rattle.rlp_reading.specs.{declared.error.DecoderError.TheVariants.{RlpIsTooBig, RlpExpectedToBeList, RlpIsTooShort}, Values.RawItem.view_frame}
 use Rattle.rlp_reading.proofs.{Lemmas.Frames.{frame_item, Frames, framing_is, framing_reads, encoding_framed, frame_nil}, Lemmas.Texts.value-front}
-use Rattle.rlp_reading.proofs.Lemmas.Numbered.{no_bytes, some_bytes}
-use Rattle.rlp_reading.proofs.Lemmas.Views.{not_failed, strict_fault-encoding}
+use Rattle.rlp_reading.proofs.Lemmas.Views.{strict_fault-encoding}
 use Rattle.std.proofs.lemmas.List.{append_cancel_left}
-
--- the value follows the header
-pub value_of_header : (b : List ℕ) (p : PayloadInfo) → framing b ≡ Ok p → value b ≡ Ok (take p.value_len (drop p.header_len b))
-unfolding value
-value_of_header b p is = ap (map_ok (λ q. take q.value_len (drop q.header_len b))) is
 
 -- bytes that aren't framed have none
 pub front_value_fault : (b : List ℕ) (e : DecoderError) → framing b ≡ Err e → value b ≡ Err e
@@ -29,34 +25,22 @@ front_value_fault b e is = ap (map_ok (λ q. take q.value_len (drop q.header_len
 
 -- a string's length is the one that its header announces
 pub size_of_header : (b : List ℕ) (p : PayloadInfo) → true ≡ begins_as_data b → framing b ≡ Ok p → total_len p ≤ length b → p.value_len ≡ data_size b
-size_of_header b p kind is within =
-    let len : value_length (value b) ≡ p.value_len = ap value_length (value_of_header b p is)
-    ∙ length-take-le p.value_len (drop p.header_len b) (omega (arith, within, length-drop p.header_len b)) in
-    sym (cond-true (begins_as_data b) _ _ (sym kind) ∙ len)
+unfolding value
+size_of_header b p kind is within = grind (arith, length-take-le, length-drop, cond-true)
 
 -- and 0 without a header
 pub no_size_of_header : (b : List ℕ) (e : DecoderError) → true ≡ begins_as_data b → framing b ≡ Err e → 0 ≡ data_size b
 no_size_of_header b e kind is = sym (cond-true (begins_as_data b) _ _ (sym kind) ∙ ap value_length (front_value_fault b e is))
 
--- the same, unless there is a fault
-value_unless : (f : Option DecoderError) (b : List ℕ) (p : PayloadInfo) → unless f (framing b) ≡ Ok p
-    → unless f (value b) ≡ Ok (take p.value_len (drop p.header_len b))
-value_unless None b p is = value_of_header b p is
-value_unless (Some e) b p is = absurd (let no : ⊥ = cc in no)
-
-no_value_unless : (f : Option DecoderError) (b : List ℕ) (e : DecoderError) → unless f (framing b) ≡ Err e → unless f (value b) ≡ Err e
-no_value_unless None b e is = front_value_fault b e is
-no_value_unless (Some f) b e is = ap (map_ok (λ q. take q.value_len (drop q.header_len b))) is
-
 -- the value of a view lies between the ends of its header and of its item
 pub view_value_between : (v : View) (p : PayloadInfo) (n : ℕ) → view_header v ≡ Ok p → n ≡ total_len p
     → view_value v ≡ Ok (take (n - p.header_len) (drop p.header_len v.bytes))
-view_value_between v p n is end = value_unless (frame_fault v) v.bytes p is
-    ∙ ap (λ m. Ok (take m (drop p.header_len v.bytes))) (let len : p.value_len ≡ n - p.header_len = omega (arith, end) in len)
+unfolding value
+view_value_between v p n is end = grind arith
 
 -- a view has a fault where its header has one
 pub no_view_value : (v : View) (e : DecoderError) → view_header v ≡ Err e → view_value v ≡ Err e
-no_view_value v e is = no_value_unless (frame_fault v) v.bytes e is
+no_view_value v e is = grind (arith, front_value_fault)
 
 -- ---- the first item of bytes, by the header that was read
 
@@ -74,9 +58,7 @@ front_frame_fault b e is = ap (map_ok (λ q. take (total_len q) b)) is
 pub front_value : (b item : List ℕ) (p : PayloadInfo) → framing b ≡ Ok p → item ≡ take (total_len p) b
     → value b ≡ Ok (take (length item - p.header_len) (drop p.header_len item))
 unfolding value
-front_value b item p is same =
-    ap (map_ok (λ q. take q.value_len (drop q.header_len b))) is
-    ∙ ap Ok (sym (take_rest item p.header_len ∙ ap (drop p.header_len) same ∙ drop-take p.header_len p.value_len b))
+front_value b item p is same = grind (arith, take_rest, drop-take)
 
 -- the item without the bytes after it has the same value
 pub front_item_value : (b item : List ℕ) (p : PayloadInfo) → AreBytes b → framing b ≡ Ok p → item ≡ take (total_len p) b
@@ -106,14 +88,12 @@ long_header b p is more = ap (strict_fault_in b) is ∙ cond-true (ltb (total_le
 -- the same for bytes that are exactly the item
 pub whole_front : (b item others : List ℕ) (p : PayloadInfo) → framing b ≡ Ok p → total_len p ≡ length item → b ≡ item ++ others
     → true ≡ (length others == 0) → strict_fault b ≡ None
-whole_front b item others p is long whole none =
-    whole_header b p is (omega (arith, ap length whole, length-append item others, ap length (no_bytes others none)))
+whole_front b item others p is long whole none = grind (arith, whole_header, length-append)
 
 -- if other bytes follow the item, they have a strict fault
 pub long_front : (b item others : List ℕ) (p : PayloadInfo) → framing b ≡ Ok p → total_len p ≡ length item → b ≡ item ++ others
     → false ≡ (length others == 0) → strict_fault b ≡ Some RlpIsTooBig
-long_front b item others p is long whole some =
-    long_header b p is (omega (arith, ap length whole, length-append item others, some_bytes others some))
+long_front b item others p is long whole some = grind (arith, long_header, length-append)
 
 -- bytes that aren't framed have one too
 pub faulty_front : (b : List ℕ) (e : DecoderError) → framing b ≡ Err e → strict_fault b ≡ Some e
@@ -124,11 +104,7 @@ faulty_front b e is = ap (strict_fault_in b) is
 pub followed_front : (b item others : List ℕ) (p : PayloadInfo) → framing b ≡ Ok p → total_len p ≡ length item → b ≡ item ++ others
     → not (length others == 0) ≡ is_followed b
 unfolding is_followed
-followed_front b item [] p is long whole =
-    sym (ap (is_longer b) is ∙ le-ltb (total_len p) (length b) (omega (arith, ap length whole, length-append item [])))
-followed_front b item (byte ∷ others) p is long whole =
-    let some : (length (byte ∷ others) == 0) ≡ false = grind (arith, nat_tests) in
-    ap not some ∙ sym (ap (is_longer b) is ∙ lt-ltb (total_len p) (length b) (omega (arith, ap length whole, length-append item (byte ∷ others))))
+followed_front b item others p is long whole = grind (arith, length-append)
 
 -- no bytes follow if the bytes aren't framed
 pub followed_fault : (b : List ℕ) (e : DecoderError) → framing b ≡ Err e → false ≡ is_followed b
@@ -147,13 +123,7 @@ pub item_whole : (b : List ℕ) → IsFramedItem b → strict_fault b ≡ None
 item_whole b framed = strict_whole b framed.header_len framed.value_len framed.has_header framed.whole
 
 whole_by : (b : List ℕ) (r : Result PayloadInfo DecoderError) → Frames b r → strict_fault_in b r ≡ None → IsFramedItem b
-whole_by b (Err e) frames none = absurd (let no : ⊥ = cc in no)
-whole_by b (Ok p) (has, within) none = record {
-  header_len = p.header_len;
-  value_len = p.value_len;
-  has_header = has;
-  whole = omega (arith, within, ltb-false _ _ (not_failed (ltb (total_len p) (length b)) RlpIsTooBig none));
-}
+whole_by b r frames none = grind arith
 
 -- only a framed item has no strict fault
 pub whole_item : (b : List ℕ) → AreBytes b → strict_fault b ≡ None → IsFramedItem b
@@ -165,8 +135,7 @@ unfolding strict_fault
 strict_followed b h n has more = ap (strict_fault_in b) (framing_is b h n has (omega arith)) ∙ cond-true (ltb (h + n) (length b)) _ _ (lt-ltb _ _ more)
 
 unframed_by : (b : List ℕ) (r : Result PayloadInfo DecoderError) → Frames b r → ¬ IsFramed b → strict_fault_in b r ≡ Some (fault_in r)
-unframed_by b (Err e) is none = refl
-unframed_by b (Ok p) (has, within) none = absurd (none (record { header_len = p.header_len; value_len = p.value_len; has_header = has; within = within }))
+unframed_by b r is none = grind arith
 
 pub strict_unframed : (b : List ℕ) → AreBytes b → ¬ IsFramed b → strict_fault b ≡ Some (fault b)
 unfolding strict_fault fault
@@ -177,18 +146,14 @@ strict_canonical b fits (x, is) = strict_fault-encoding x b (front_sized x b [] 
 
 -- ---- lenient views
 
-unless_if : {A : Type 0} (k : Bool) (e : DecoderError) (r : Result A DecoderError) → unless (if k then None else Some e) r ≡ (if k then r else Err e)
-unless_if true e r = refl
-unless_if false e r = refl
-
 pub lenient_count : (b : List ℕ) → item_count (view_of b) ≡ (if begins_as_list b then Ok (length (items b)) else Err RlpExpectedToBeList)
 unfolding item_count
-lenient_count b = unless_if (begins_as_list b) RlpExpectedToBeList (Ok (length (items b)))
+lenient_count b = grind arith
 
 pub lenient_place : (b : List ℕ) (i : ℕ) → item_with_place (view_of b) i
     ≡ (if begins_as_list b then item_by (view_of b) i (framing b) else Err RlpExpectedToBeList)
 unfolding item_with_place
-lenient_place b i = unless_if (begins_as_list b) RlpExpectedToBeList (item_by (view_of b) i (framing b))
+lenient_place b i = grind arith
 
 -- ---- items one after another, split off bytes one by one
 
@@ -196,38 +161,27 @@ split_one : (b item rest : List ℕ) (x : Item) (xs : List Item) → length b < 
     → (item ≡ encoding x) × (rest ≡ join xs)
 split_one b item rest x xs fits joined front whole =
     let first : frame b ≡ Ok (encoding x) = (encoding_framed x b (front_sized x b (join xs) fits joined) (join xs, joined)).1 in
-    let both : Ok item ≡ Ok (encoding x) = sym front ∙ first in
-    let same : item ≡ encoding x = cc in
-    (same, append_cancel_left (encoding x) rest (join xs) (ap (λ f. f ++ rest) (sym same) ∙ sym whole ∙ joined))
+    grind (arith, append_cancel_left)
 
 module _ {R : Type 0} (item rest : R → List ℕ) (S : R → Type 0) where
   -- the first of joined encodings is split off a lenient view, and the others are left
   pub split_off : (v : View) (b : List ℕ) (r : Result R DecoderError) (x : Item) (xs : List Item) → v ≡ view_of b → length b < 2 ^ 64
       → b ≡ join (x ∷ xs) → IfOk r (λ p. (view_frame v ≡ Ok (item p)) × S p) → IfOk r (λ p. v.bytes ≡ item p ++ rest p)
       → IfErr r (λ e. (view_frame v ≡ Err e) × (view_header v ≡ Err e)) → IsOkAnd r (λ p. (item p ≡ encoding x) × (rest p ≡ join xs))
-  split_off v b (Ok p) x xs same fits joined front whole fault =
-      split_one b (item p) (rest p) x xs fits joined (ap view_frame (sym same) ∙ front.0) (ap (λ (w : View). w.bytes) (sym same) ∙ whole)
+  split_off v b (Ok p) x xs same fits joined front whole fault = grind (arith, split_one)
   split_off v b (Err e) x xs same fits joined front whole (none, told) =
       let first : frame b ≡ Ok (encoding x) = (encoding_framed x b (front_sized x b (join xs) fits joined) (join xs, joined)).1 in
-      let no_frame : frame b ≡ Err e = ap view_frame (sym same) ∙ none in
-      absurd (let no : ⊥ = cc in no)
+      grind (arith, encoding_framed, front_sized)
 
   -- nothing is split off a view of no bytes
   pub split_end : (v : View) (b : List ℕ) (r : Result R DecoderError) → v ≡ view_of b → b ≡ [] → IfOk r (λ p. (view_frame v ≡ Ok (item p)) × S p)
       → IfErr r (λ e. (view_frame v ≡ Err e) × (view_header v ≡ Err e)) → r ≡ Err RlpIsTooShort
-  split_end v b (Ok p) same none front fault =
-      let short : frame b ≡ Err RlpIsTooShort = ap frame none ∙ frame_nil in
-      let no : frame b ≡ Ok (item p) = ap view_frame (sym same) ∙ front.0 in
-      absurd (let never : ⊥ = cc in never)
-  split_end v b (Err e) same none front (missing, told) =
-      let short : frame b ≡ Err RlpIsTooShort = ap frame none ∙ frame_nil in
-      let no_frame : frame b ≡ Err e = ap view_frame (sym same) ∙ missing in
-      let equal : e ≡ RlpIsTooShort = cc in
-      ap Err equal
+  split_end v b r same none front fault = grind (arith, frame_nil)
 
 -- ---- what `?` returns for an error
 
 -- the error is passed on as it is
 pub propagated : {T E : Type 0} (P : T → Type 0) (Q : E → Type 0) (r : Result T E) (e : E) → IsErr r × IsErrAnd r (λ f. f ≡ e) → Q e → MatchResult r P Q
-propagated P Q (Ok x) e passed q = absurd passed.1
-propagated P Q (Err f) e passed q = subst Q (sym passed.1) q
+propagated P Q r e passed q = grind arith
+
+pub ruleset first_items = (bytes_held, split_framed, split_unframed, front_frame_fault, front_item, front_value, front_value_fault, fault-err)

@@ -1,22 +1,22 @@
 -- The items of a view, one after another and by number.
-use Rattle.std.proofs.Common.{if◌then◌else◌, ℕ, zero, suc, ◌+◌, ◌-◌, ◌<◌, ◌≤◌, ◌≡◌, List, [], ◌∷◌, length, drop, map, Result, Ok, Err, refl, sym, ◌∙◌, ap, arith}
-use Rattle.std.proofs.Common.{length-drop, add-one, ◌⊎◌, inl, inr, ⊎_elim, Bool, true, false, ◌++◌, take, get_or, Option, Some, None, option_map, ◌↔◌, ltb}
+use Rattle.std.proofs.Common.{ℕ, zero, suc, ◌+◌, ◌-◌, ◌<◌, ◌≤◌, ◌≡◌, List, [], ◌∷◌, length, drop, map, Result, Ok, Err, refl, sym, ◌∙◌, ap, arith}
+use Rattle.std.proofs.Common.{length-drop, ◌⊎◌, ⊎_elim, true, false, ◌++◌, take, get_or, Option, Some, None, option_map, ◌↔◌, ltb}
 use Rattle.std.proofs.Common.{lt-ltb, le-ltb, length-append, ◌==◌, IfOk, MatchResult, append_assoc, append-nil, drop_at}
-use Rattle.std.proofs.{lemmas.List.{drop_all, drop-map, length-map}, lemmas.Bool.{cases_Bool, cases_lt, cond-true, cond-false}}
-use Rattle.std.proofs.{lemmas.Option.{slice_get-map, slice_get_past, slice_get-get_or}, lemmas.Bool.Decides.nat_tests}
+use Rattle.std.proofs.{lemmas.List.{drop_all, drop-map, length-map}, lemmas.Bool.{cases_lt, cond-true, cond-false}}
+use Rattle.std.proofs.{lemmas.Option.{slice_get-map, slice_get_past, slice_get-get_or}}
 use Rattle.std.specs.List.{slice_get, concat}
 use Rattle.rlp_reading.specs.declared.error.DecoderError.{DecoderError}
 use Rattle.rlp_reading.specs.Format.Framing.{frame, split, split_within, frame_and_more, items, payload, fault, framing, map_ok, value, begins_as_list}
-use Rattle.rlp_reading.specs.Format.Framing.{payload_in, rest, fault_of_some, first_fault, strict_fault, strict_list_fault, unless, after_items, fault_in}
-use Rattle.rlp_reading.specs.Views.View.{View, item_views, view_of, item_count, item_with_place, item_by, item_at, list_fault, items_fault, strict_view_of}
+use Rattle.rlp_reading.specs.Format.Framing.{payload_in, rest, fault_of_some, strict_fault, strict_list_fault, unless, after_items, fault_in}
+use Rattle.rlp_reading.specs.Views.View.{View, item_views, item_count, item_with_place, item_by, item_at, list_fault, items_fault, strict_view_of}
 use Rattle.rlp_reading.specs.{declared.error.DecoderError.TheVariants.RlpExpectedToBeList, declared.header.PayloadInfo.PayloadInfo, Values.FieldPlace.IsAtPlace}
 use Rattle.rlp_reading.proofs.Lemmas.Views.{passed}
 use Rattle.std.proofs.{Common.take_all, Math.Seq.{drop-append-add, drop-nil, take-suc}, lemmas.List.{Folds.concat-append, drop-drop}}
+use Rattle.std.proofs.lemmas.Grind.{common_steps}
 
 frame_and_more-shorter : (turns : ℕ) (p : List ℕ) (r : Result (List ℕ) DecoderError) → ((q : List ℕ) → length (split_within turns q) ≤ turns)
     → length (frame_and_more (split_within turns) p r) ≤ suc turns
-frame_and_more-shorter turns p (Err e) below = omega arith
-frame_and_more-shorter turns p (Ok f) below = omega (arith, below (drop (length f) p))
+frame_and_more-shorter turns p r below = grind arith
 
 split_within-shorter : (turns : ℕ) (p : List ℕ) → length (split_within turns p) ≤ turns
 split_within-shorter zero p = omega arith
@@ -53,9 +53,7 @@ viewed v b = record v { bytes = b }
 pub drop-item_views : (v : View) (x : List ℕ) (i : ℕ) (ys : List (List ℕ)) → drop i (items v.bytes) ≡ x ∷ ys
     → drop i (item_views v) ≡ (record v { bytes = x }) ∷ drop (i + 1) (item_views v)
 unfolding viewed
-drop-item_views v x i ys e =
-    let here : drop i (item_views v) ≡ (viewed v x) ∷ map (viewed v) ys = drop-map (viewed v) i (items v.bytes) ∙ ap (map (viewed v)) e in
-    here ∙ ap (λ vs. (viewed v x) ∷ vs) (sym (drop-next i (item_views v) (map (viewed v) ys) (viewed v x) here))
+drop-item_views v x i ys e = grind (arith, drop-map, drop-next)
 
 -- after the last item there is no view
 pub drop-item_views-past : (v : View) (i j : ℕ) → drop i (items v.bytes) ≡ [] → i ≤ j → drop j (item_views v) ≡ []
@@ -90,26 +88,14 @@ pub item_count-told : (v : View) → items_fault v ≡ None → item_count v ≡
 unfolding item_count
 item_count-told v is = ap (λ o. unless o (Ok (length (items v.bytes)))) is
 
-pub item_with_place-fault : (v : View) (i : ℕ) (e : DecoderError) → items_fault v ≡ Some e → item_with_place v i ≡ Err e
-unfolding item_with_place
-item_with_place-fault v i e is = ap (λ o. unless o (item_by v i (framing v.bytes))) is
-
 pub item_with_place-told : (v : View) (i : ℕ) (r : Result PayloadInfo DecoderError) → items_fault v ≡ None → framing v.bytes ≡ r
     → item_with_place v i ≡ item_by v i r
 unfolding item_with_place
 item_with_place-told v i r is same = ap (λ o. unless o (item_by v i (framing v.bytes))) is ∙ ap (item_by v i) same
 
-pub fault_cases : (o r : Option DecoderError) → o ≡ r → (o ≡ None) ⊎ ((e : DecoderError) × (o ≡ Some e))
-fault_cases o None is = inl is
-fault_cases o (Some e) is = inr (e, is)
-
 -- items are told by number only of bytes that begin as a list
 pub told_begins : (v : View) → items_fault v ≡ None → begins_as_list v.bytes ≡ true
 told_begins v is = (passed (begins_as_list v.bytes) (list_fault v) RlpExpectedToBeList is).0
-
--- they are told of lenient views that begin as a list
-pub lenient_told : (b : List ℕ) → begins_as_list b ≡ true → items_fault (view_of b) ≡ None
-lenient_told b kind = cond-true (begins_as_list b) None (Some RlpExpectedToBeList) kind
 
 -- a list that isn't framed has no value
 pub payload-fault : (b : List ℕ) (e : DecoderError) → begins_as_list b ≡ true → framing b ≡ Err e → payload b ≡ []
@@ -119,10 +105,6 @@ payload-fault b e kind is = ap (λ k. payload_in k (value b)) kind ∙ ap (λ r.
 items-payload : (b : List ℕ) → payload b ≡ [] → items b ≡ []
 unfolding items
 items-payload b e = ap split e ∙ split-nil
-
-payload-string : (b : List ℕ) → begins_as_list b ≡ false → payload b ≡ []
-unfolding payload
-payload-string b kind = ap (λ k. payload_in k (value b)) kind
 
 item_at-inside : (v : View) (i : ℕ) (p : PayloadInfo) → items_fault v ≡ None → framing v.bytes ≡ Ok p → i < length (items v.bytes)
     → item_at v i ≡ Ok (record v { bytes = get_or (items v.bytes) i [] })
@@ -138,9 +120,6 @@ item_at-past v i p told is past =
 -- of a list that isn't framed, its fault
 pub item_at-unframed : (v : View) (i : ℕ) (e : DecoderError) → items_fault v ≡ None → framing v.bytes ≡ Err e → item_at v i ≡ Err e
 item_at-unframed v i e told is = ap (map_ok (λ q. q.0)) (item_with_place-told v i (Err e) told is)
-
-pub item_at-fault : (v : View) (i : ℕ) (e : DecoderError) → items_fault v ≡ Some e → item_at v i ≡ Err e
-item_at-fault v i e is = ap (map_ok (λ q. q.0)) (item_with_place-fault v i e is)
 
 slice_get-views : (v : View) (i : ℕ) → i < length (items v.bytes) → slice_get (item_views v) i ≡ Some (record v { bytes = get_or (items v.bytes) i [] })
 unfolding viewed
@@ -169,77 +148,31 @@ told_by v i (Ok p) told is =
     ∙ ap (item_or (fault (rest v.bytes))) (sym (slice_get_past (item_views v) i (omega (arith, length-views v)))))
     (cases_lt i (length (items v.bytes)))
 told_by v i (Err e) told is =
-    let none = items-payload v.bytes (payload-fault v.bytes e (told_begins v told) is) in
-    item_at-unframed v i e told is ∙ ap (item_or e) (sym (slice_get_past (item_views v) i (omega (arith, length-views v, ap length none))))
+    grind (arith, items-payload, payload-fault, told_begins, item_at-unframed, slice_get_past, length-views)
 
 -- the item by number is the one in that place, or the fault of the numbers past the last item
 told_numbered : (v : View) (i : ℕ) → items_fault v ≡ None → item_at v i ≡ item_or (past_fault v.bytes (framing v.bytes)) (slice_get (item_views v) i)
 told_numbered v i told = told_by v i (framing v.bytes) told refl
 
-item_or_some : (e : DecoderError) (o : Option View) (item : View) → item_or e o ≡ Ok item → o ≡ Some item
-item_or_some e None item is = absurd (let no : ⊥ = cc in no)
-item_or_some e (Some x) item is = let same : x ≡ item = cc in ap Some same
-
 -- the item by number is the one in that place
 pub item_at-slice_get : (v item : View) (i : ℕ) → item_at v i ≡ Ok item → slice_get (item_views v) i ≡ Some item
-item_at-slice_get v item i e =
-    ⊎_elim
-    (λ told. item_or_some (past_fault v.bytes (framing v.bytes)) (slice_get (item_views v) i) item (sym (told_numbered v i told) ∙ e))
-    (λ (f, is). let no : item_at v i ≡ Err f = item_at-fault v i f is in absurd (let never : ⊥ = cc in never))
-    (fault_cases (items_fault v) (items_fault v) refl)
-
--- the one in a place is the item by that number, where items are told by number
-pub slice_get-item_at : (v item : View) (i : ℕ) → items_fault v ≡ None → slice_get (item_views v) i ≡ Some item → item_at v i ≡ Ok item
-slice_get-item_at v item i told e = told_numbered v i told ∙ ap (item_or (past_fault v.bytes (framing v.bytes))) e
-
-begins_some : (v : View) (fs : List (List ℕ)) (i : ℕ) (item : View) → items v.bytes ≡ fs → slice_get (map (viewed v) fs) i ≡ Some item
-    → begins_as_list v.bytes ≡ true
-begins_some v [] i item is e = absurd (let no : ⊥ = cc in no)
-begins_some v (f ∷ fs) i item is e = ⊎_elim (λ kind. kind)
-    (λ kind. let none : items v.bytes ≡ [] = items-payload v.bytes (payload-string v.bytes kind) in absurd (let no : ⊥ = cc in no))
-    (cases_Bool (begins_as_list v.bytes))
-
-twice : {A : Type 0} (k : Bool) (x y : A) → (if k then (if k then x else y) else y) ≡ (if k then x else y)
-twice true x y = refl
-twice false x y = refl
-
--- a strict view has the fault of its bytes
-items_fault-strict : (b : List ℕ) → items_fault (strict_view_of b) ≡ strict_list_fault b
-unfolding strict_list_fault
-items_fault-strict b = twice (begins_as_list b) (first_fault (strict_fault b) (fault_of_some (rest b))) (Some RlpExpectedToBeList)
-
-fault_by : (strict : Bool) (b : List ℕ) (e : DecoderError) → list_fault (record { bytes = b; is_strict = strict }) ≡ Some e
-    → items_fault (record { bytes = b; is_strict = strict }) ≡ Some e
-fault_by false b e is = absurd (let no : ⊥ = cc in no)
-fault_by true b e is = items_fault-strict b ∙ is
+unfolding item_with_place
+item_at-slice_get v item i e = grind (arith, told_numbered)
 
 -- a view that can't be read as a list has that fault for every number
 pub item_at-no_list : (v : View) (i : ℕ) (e : DecoderError) → list_fault v ≡ Some e → item_at v i ≡ Err e
-item_at-no_list v i e is = item_at-fault v i e (fault_by v.is_strict v.bytes e is)
-
-read_as_list : (v item : View) (i : ℕ) → item_at v i ≡ Ok item → list_fault v ≡ None
-read_as_list v item i e =
-    ⊎_elim (λ none. none) (λ (f, is). let no : item_at v i ≡ Err f = item_at-no_list v i f is in absurd (let never : ⊥ = cc in never))
-    (fault_cases (list_fault v) (list_fault v) refl)
+unfolding item_with_place strict_list_fault
+item_at-no_list v i e is = grind arith
 
 -- the items by number are those in order, if the view can be read as a list
 pub item_at-in_order : (v item : View) (i : ℕ) → (item_at v i ≡ Ok item) ↔ ((list_fault v ≡ None) × (slice_get (item_views v) i ≡ Some item))
-unfolding viewed
-item_at-in_order v item i = (
-  λ e. (read_as_list v item i e, item_at-slice_get v item i e),
-  λ (none, e). slice_get-item_at v item i (cond-true (begins_as_list v.bytes) (list_fault v) (Some RlpExpectedToBeList)
-      (begins_some v (items v.bytes) i item refl e) ∙ none) e,
-)
+unfolding payload viewed
+item_at-in_order v item i = grind (arith, item_at-no_list, item_at-slice_get, told_numbered, items-payload)
 
 -- past the last item every number has the same answer
 pub item_at-past_same : (v : View) (i j : ℕ) → length (item_views v) ≤ i → length (item_views v) ≤ j → item_at v i ≡ item_at v j
-item_at-past_same v i j l k =
-    ⊎_elim
-    (λ told. told_numbered v i told
-    ∙ ap (item_or (past_fault v.bytes (framing v.bytes))) (slice_get_past (item_views v) i l ∙ sym (slice_get_past (item_views v) j k))
-    ∙ sym (told_numbered v j told))
-    (λ (f, is). item_at-fault v i f is ∙ sym (item_at-fault v j f is))
-    (fault_cases (items_fault v) (items_fault v) refl)
+unfolding item_with_place
+item_at-past_same v i j l k = grind (arith, told_numbered, slice_get_past)
 
 pub slice_get-middle : {A B : Type 0} (f : A → B) (before after : List A) (x : A) → slice_get (map f (before ++ x ∷ after)) (length before) ≡ Some (f x)
 slice_get-middle f [] after x = refl
@@ -247,13 +180,7 @@ slice_get-middle f (y ∷ before) after x = slice_get-middle f before after x
 
 -- a view that has a number of items has no fault of its items
 pub counted_told : (v : View) (n : ℕ) → item_count v ≡ Ok n → items_fault v ≡ None
-counted_told v n is = ⊎_elim (λ told. told)
-    (λ (e, none). let count : item_count v ≡ Err e = item_count-fault v e none in absurd (let no : ⊥ = cc in no))
-    (fault_cases (items_fault v) (items_fault v) refl)
-
--- the number of items of a list is the number that is counted
-pub counted_items : (v : View) (n : ℕ) → item_count v ≡ Ok n → length (items v.bytes) ≡ n
-counted_items v n is = let count : item_count v ≡ Ok (length (items v.bytes)) = item_count-told v (counted_told v n is) in cc
+counted_told v n is = grind (arith, item_count-fault)
 
 pub told_whole : (b : List ℕ) → items_fault (strict_view_of b) ≡ None → strict_list_fault b ≡ None
 told_whole b told = (passed (begins_as_list b) (strict_list_fault b) RlpExpectedToBeList told).1
@@ -261,11 +188,7 @@ told_whole b told = (passed (begins_as_list b) (strict_list_fault b) RlpExpected
 -- ---- the bytes after the items of a payload
 
 pub after_items-next : (p item others : List ℕ) → split p ≡ item ∷ split others → p ≡ item ++ others → after_items p ≡ after_items others
-after_items-next p item others parts whole =
-    ap (λ fs. drop (length (concat fs)) p) parts
-    ∙ ap (λ n. drop n p) (length-append item (concat (split others)))
-    ∙ ap (drop (length item + length (concat (split others)))) whole
-    ∙ drop-append-add item others (length (concat (split others)))
+after_items-next p item others parts whole = grind (arith, length-append, drop-append-add)
 
 pub after_items-none : (p : List ℕ) → split p ≡ [] → after_items p ≡ p
 after_items-none p none = ap (λ fs. drop (length (concat fs)) p) none
@@ -274,21 +197,13 @@ pub after_items-nil : after_items [] ≡ []
 after_items-nil = drop-nil (length (concat (split [])))
 
 pub fault_of_some-some : (p : List ℕ) → 0 < length p → fault_of_some p ≡ Some (fault p)
-fault_of_some-some [] some = absurd (omega arith)
-fault_of_some-some (byte ∷ more) some = refl
-
--- the bytes after the items of a list
-pub rest-after : (b : List ℕ) → rest b ≡ after_items (payload b)
-unfolding rest items
-rest-after b = refl
+fault_of_some-some p some = grind arith
 
 pub no_bytes : (b : List ℕ) → true ≡ (length b == 0) → b ≡ []
-no_bytes [] is = refl
-no_bytes (c ∷ b) is = let no : ⊥ = grind (arith, nat_tests) in absurd no
+no_bytes b is = grind (arith, common_steps)
 
 pub some_bytes : (b : List ℕ) → false ≡ (length b == 0) → 0 < length b
-some_bytes [] is = absurd (let no : ⊥ = cc in no)
-some_bytes (c ∷ b) is = omega arith
+some_bytes b is = grind arith
 
 -- ---- the fault of a list
 
@@ -297,15 +212,10 @@ pub strict_not_begun : (b : List ℕ) → false ≡ begins_as_list b → strict_
 unfolding strict_list_fault
 strict_not_begun b kind = cond-false (begins_as_list b) _ _ (sym kind)
 
-begun : (b : List ℕ) (o : Option DecoderError) → true ≡ begins_as_list b → strict_fault b ≡ o
-    → strict_list_fault b ≡ first_fault o (fault_of_some (after_items (payload b)))
-unfolding strict_list_fault
-begun b o kind is = cond-true (begins_as_list b) _ _ (sym kind) ∙ ap (λ o. first_fault o (fault_of_some (rest b))) is
-    ∙ ap (λ r. first_fault o (fault_of_some r)) (rest-after b)
-
 -- a list that isn't framed, or is followed by bytes
 pub strict_not_whole : (b : List ℕ) (e : DecoderError) → true ≡ begins_as_list b → strict_fault b ≡ Some e → strict_list_fault b ≡ Some e
-strict_not_whole b e kind is = begun b (Some e) kind is
+unfolding items rest strict_list_fault
+strict_not_whole b e kind is = grind arith
 
 -- the value of a framed list is its payload
 pub value-payload : (b q : List ℕ) → true ≡ begins_as_list b → value b ≡ Ok q → q ≡ payload b
@@ -314,7 +224,8 @@ value-payload b q kind is = sym (ap (λ k. payload_in k (value b)) (sym kind) �
 
 -- bytes that are exactly one list have the fault of the bytes that follow the items in it
 pub strict_whole : (b q : List ℕ) → true ≡ begins_as_list b → strict_fault b ≡ None → value b ≡ Ok q → fault_of_some (after_items q) ≡ strict_list_fault b
-strict_whole b q kind none is = ap (λ p. fault_of_some (after_items p)) (value-payload b q kind is) ∙ sym (begun b None kind none)
+unfolding items rest strict_list_fault
+strict_whole b q kind none is = grind (arith, value-payload)
 
 -- its items are those of its value
 pub value-items : (b q : List ℕ) → true ≡ begins_as_list b → value b ≡ Ok q → split q ≡ items b
@@ -325,7 +236,8 @@ value-items b q kind is = ap split (value-payload b q kind is)
 
 -- a strict view has the fault of its bytes
 items_strict : (v : View) → v.is_strict ≡ true → items_fault v ≡ strict_list_fault v.bytes
-items_strict v strict = ap (λ s. items_fault (record { bytes = v.bytes; is_strict = s })) strict ∙ items_fault-strict v.bytes
+unfolding strict_list_fault
+items_strict v strict = grind arith
 
 -- the number of items of a strict view, as its bytes are read
 pub strict_counted : (v : View) (r : Result ℕ DecoderError) → v.is_strict ≡ true
@@ -342,14 +254,10 @@ unfolding fault
 fault-err b e is = sym (ap fault_in is)
 
 pub get_or-drop : {A : Type 0} (i : ℕ) (xs ys : List A) (x d : A) → drop i xs ≡ x ∷ ys → get_or xs i d ≡ x
-get_or-drop (suc i) (y ∷ xs) ys x d e = get_or-drop i xs ys x d e
-get_or-drop i xs ys x d e = cc
+get_or-drop i xs ys x d e = grind (arith, common_steps)
 
 take-next : {A : Type 0} (i : ℕ) (xs ys : List A) (x : A) → drop i xs ≡ x ∷ ys → take (suc i) xs ≡ take i xs ++ x ∷ []
 take-next i xs ys x e = take-suc xs i x (drop-inside i xs ys x e) ∙ ap (λ y. take i xs ++ y ∷ []) (get_or-drop i xs ys x x e)
-
-concat-more : (xs : List (List ℕ)) (x : List ℕ) → concat (xs ++ x ∷ []) ≡ concat xs ++ x
-concat-more xs x = concat-append xs (x ∷ []) ∙ ap (λ y. concat xs ++ y) (append-nil x)
 
 -- the bytes of the payload of b after its first k items
 pub record IsWalked (b : List ℕ) (k : ℕ) (left : List ℕ) : Type 0 where
@@ -365,15 +273,7 @@ walked-none b p e = record { others = ap split e; whole = sym e }
 pub walked-one : (b item others left : List ℕ) (k : ℕ) → IsWalked b k left → split left ≡ item ∷ split others → left ≡ item ++ others
     → IsWalked b (k + 1) others
 walked-one b item others left k is parts whole =
-    let here : drop k (items b) ≡ item ∷ split others = sym is.others ∙ parts in
-    record {
-      others = sym (drop-next k (items b) (split others) item here);
-      whole =
-          is.whole ∙ ap (λ s. concat (take k (items b)) ++ s) whole
-          ∙ sym (append_assoc (concat (take k (items b))) item others)
-          ∙ ap (λ s. s ++ others) (sym (concat-more (take k (items b)) item) ∙ ap concat (sym (take-next k (items b) (split others) item here))
-          ∙ ap (λ n. concat (take n (items b))) (sym (add-one k)));
-    }
+    grind (arith, drop-next, append_assoc, take-next, concat-append, append-nil)
 
 -- the item after i items of a walk, and its place
 pub walked-item : (v : View) (item : List ℕ) (i n : ℕ) (p : PayloadInfo) (others left : List ℕ) → items_fault v ≡ None → framing v.bytes ≡ Ok p
@@ -415,37 +315,28 @@ pub not_framed_item : (v : View) (i : ℕ) (e : DecoderError) → items_fault v 
 not_framed_item v i e told is = sym (item_with_place-told v i (Err e) told is)
 
 pub not_told_item : (v : View) (i : ℕ) (e : DecoderError) → items_fault v ≡ Some e → Err e ≡ item_with_place v i
-not_told_item v i e is = sym (item_with_place-fault v i e is)
+unfolding item_with_place
+not_told_item v i e is = grind arith
 
 -- the bytes that are left for a walk
 pub walked-length : (b item others left : List ℕ) (k n : ℕ) → IsWalked b k left → left ≡ item ++ others → n ≡ length (payload b)
     → length item + length others ≤ n
-walked-length b item others left k n is whole long =
-    omega (arith, ap length is.whole, length-append (concat (take k (items b))) left, ap length whole, length-append item others)
+walked-length b item others left k n is whole long = grind (arith, length-append)
 
 -- ---- the items of a view, taken one after another
 
 -- at the beginning of a framed list
 pub framed_place : (v : View) (p : PayloadInfo) (q left : List ℕ) → items_fault v ≡ None → framing v.bytes ≡ Ok p → value v.bytes ≡ Ok q → left ≡ q
     → IsAtPlace v 0 left
-framed_place v p q left told framed is same =
-    let kind : true ≡ _ = sym (told_begins v told) in
-    let whole : rest v.bytes ≡ after_items left = rest-after v.bytes ∙ ap after_items (sym (same ∙ value-payload v.bytes q kind is)) in
-    record {
-      told = told;
-      others = ap split same ∙ value-items v.bytes q kind is;
-      few = omega arith;
-      past = λ i l. item_at-past v i p told framed l ∙ ap (λ b. Err (fault b)) whole;
-    }
+unfolding items rest
+framed_place v p q left told framed is same = grind (arith, value-payload, value-items, item_at-past)
 
 -- at the beginning of a list that isn't framed, which has no items
 pub unframed_place : (v : View) (e : DecoderError) (left : List ℕ) → items_fault v ≡ None → framing v.bytes ≡ Err e → split v.bytes ≡ []
     → left ≡ v.bytes → IsAtPlace v 0 left
 unframed_place v e left told framed none same =
-    let fault_is : e ≡ fault (after_items left) = fault-err v.bytes e framed ∙ ap fault (sym (ap after_items same ∙ after_items-none v.bytes none)) in
-    record {
-      told = told;
-      others = ap split same ∙ none ∙ sym (items-payload v.bytes (payload-fault v.bytes e (told_begins v told) framed));
-      few = omega arith;
-      past = λ i l. item_at-unframed v i e told framed ∙ ap Err fault_is;
-    }
+    grind (arith, fault-err, items-payload, payload-fault, item_at-unframed)
+
+pub ruleset entered = (payload-fault)
+
+pub ruleset none_left = (split-nil, no_bytes)

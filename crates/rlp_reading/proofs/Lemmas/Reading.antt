@@ -1,15 +1,16 @@
 -- `header` gives the one header that stands at the front, and the fault where none does.
 use Rattle.std.proofs.Common.{◌≡◌, ℕ, suc, ◌+◌, ◌-◌, ◌^◌, ◌<◌, ◌≤◌, inl, inr, ⊎_elim, List, [], ◌∷◌, ◌++◌, length, take, get_or, refl, sym, ap}
-use Rattle.std.proofs.Common.{◌∙◌, subst, arith, Ok, Err, Result, false, ◌==◌, leb, ltb, ne_eqb, le-ltb, take_at, length-append}
-use Rattle.std.proofs.Common.{MatchResult, ◌≢◌, length-take-le, lt_of_lt_of_le, take-append-drop, drop, ltb-true, ltb-false, eqb-true, leb-false}
-use Rattle.std.proofs.{lemmas.Bool.Decides.nat_tests, lemmas.Bool.{cases_lt, cond_both, eqb-false, cond-false, lt-leb}, Math.Nat.pow-le-pow_right}
+use Rattle.std.proofs.Common.{◌∙◌, subst, arith, Ok, Result, ◌==◌, leb, ltb}
+use Rattle.std.proofs.Common.{MatchResult, ◌≢◌, length-take-le, take-append-drop, drop, ltb-true, ltb-false, eqb-true, leb-false}
+use Rattle.std.proofs.{lemmas.Bool.Decides.nat_tests, lemmas.Bool.{cases_lt, cond_both, eqb-false}, Math.Nat.pow-le-pow_right}
 use Rattle.std.proofs.{lemmas.List.Elements.recursion_from_All, lemmas.Int.Digits.number_lt}
 use Rattle.std.specs.{List.AllByRecursion, Int.Digits.number_from_digits}
+use Rattle.std.proofs.lemmas.Grind.{common_steps}
 -- what a slice of `u8` holds, passed on
 pub use Rattle.rlp_format.proofs.Lemmas.Digits.{bytes_held}
 use Rattle.rlp_reading.specs.{declared.error.DecoderError.DecoderError, declared.header.PayloadInfo.PayloadInfo}
 use Rattle.rlp_reading.specs.declared.error.DecoderError.TheVariants.{RlpDataLenWithZeroPrefix, RlpListLenWithZeroPrefix}
-use Rattle.rlp_reading.specs.Format.Framing.{HasHeader, lone, written, header, long_header, header_fault, HasNoHeader, announced, ReadsHeader, payload_info}
+use Rattle.rlp_reading.specs.Format.Framing.{HasHeader, lone, written, header, long_header, header_fault, announced, ReadsHeader, payload_info}
 use Rattle.rlp_format.specs.Format.Encoding.{big_endian, written_header, IsBase, AreBytes}
 use Rattle.rlp_format.proofs.Lemmas.Digits.{big_endian_value, big_endian_first, big_endian_again}
 use Rattle.rlp_format.proofs.Lemmas.Headers.{shape, Parts, written_header_short, written_header_long}
@@ -40,44 +41,19 @@ pub header_long_list : (first : ℕ) (rest : List ℕ) → 0xf8 ≤ first → he
 unfolding header
 header_long_list first rest l = grind (arith, nat_tests)
 
+ruleset headers = (header_string, header_list, header_long_string, header_long_list)
+
 -- ---- where a header stands, it is read
 
 -- a long header that stands in front is read
 pub long_header_is : (zero_fault : DecoderError) (k : ℕ) (digits rest : List ℕ) → length digits ≡ k → 0 < get_or digits 0 0 → 55 < number_from_digits 256 digits
     → long_header zero_fault k (digits ++ rest) ≡ Ok (payload_info (1 + k) (number_from_digits 256 digits))
-long_header_is zero_fault k [] rest l first large = absurd (omega arith)
-long_header_is zero_fault k (d ∷ ds) rest l first large =
-    let front : take k ((d ∷ ds) ++ rest) ≡ d ∷ ds = take_at (d ∷ ds) rest k l in
-    let nonzero : (d == 0) ≡ false = ne_eqb d 0 (λ e. omega arith) in
-    let enough : ltb (length ((d ∷ ds) ++ rest)) k ≡ false = le-ltb _ _ (omega (arith, length-append (d ∷ ds) rest)) in
-    let long : leb (number_from_digits 256 (take k ((d ∷ ds) ++ rest))) 55 ≡ false = ap (λ s. leb (number_from_digits 256 s) 55) front ∙ lt-leb _ _ large in
-    cond-false (d == 0) _ _ nonzero ∙ cond-false (ltb (length ((d ∷ ds) ++ rest)) k) _ _ enough ∙ cond-false _ _ _ long
-    ∙ ap (λ s. Ok (payload_info (1 + k) (number_from_digits 256 s))) front
+long_header_is zero_fault k digits rest l first large = grind (arith, common_steps)
 
 read_parts : (base n first : ℕ) (more rest : List ℕ) → IsBase base → Parts base n first more
     → header (first ∷ (more ++ rest)) ≡ Ok (payload_info (1 + length more) n)
-read_parts base n first more rest (inl b) (inl (short, is, none)) =
-    let value : first - 0x80 ≡ n = omega arith in
-    let header_len : 1 ≡ 1 + length more = omega (arith, ap length none) in
-    header_string first (more ++ rest) (omega arith) (omega arith) ∙ cc
-read_parts base n first more rest (inr b) (inl (short, is, none)) =
-    let value : first - 0xc0 ≡ n = omega arith in
-    let header_len : 1 ≡ 1 + length more = omega (arith, ap length none) in
-    header_list first (more ++ rest) (omega arith) (omega arith) ∙ cc
-read_parts base n first more rest (inl b) (inr (long, is, digits, some, few)) =
-    let value : number_from_digits 256 more ≡ n = ap (number_from_digits 256) digits ∙ big_endian_value n in
-    let leading : 0 < get_or more 0 0 = rw digits (big_endian_first n (omega arith)) in
-    let k : first - 0xb7 ≡ length more = omega arith in
-    header_long_string first (more ++ rest) (omega arith) (omega arith)
-    ∙ long_header_is RlpDataLenWithZeroPrefix (first - 0xb7) more rest (sym k) leading (omega arith)
-    ∙ cc
-read_parts base n first more rest (inr b) (inr (long, is, digits, some, few)) =
-    let value : number_from_digits 256 more ≡ n = ap (number_from_digits 256) digits ∙ big_endian_value n in
-    let leading : 0 < get_or more 0 0 = rw digits (big_endian_first n (omega arith)) in
-    let k : first - 0xf7 ≡ length more = omega arith in
-    header_long_list first (more ++ rest) (omega arith)
-    ∙ long_header_is RlpListLenWithZeroPrefix (first - 0xf7) more rest (sym k) leading (omega arith)
-    ∙ cc
+read_parts base n first more rest is_base parts =
+    grind (arith, headers, big_endian_value, big_endian_first, long_header_is)
 
 -- a header that was written is read
 pub read_written : (base n : ℕ) (rest : List ℕ) → IsBase base → n < 2 ^ 64
@@ -89,19 +65,11 @@ read_written base n rest b small =
 
 -- the header that stands at the front is read
 pub read : {b : List ℕ} {h n : ℕ} → HasHeader b h n → header b ≡ Ok (payload_info h n)
-read (lone byte rest low) = header_low byte rest low
-read (written base n rest b small) = read_written base n rest b small
+read has = grind (arith, header_low, read_written)
 
 -- so there is only one
 pub header_unique : (b : List ℕ) (h1 n1 h2 n2 : ℕ) → HasHeader b h1 n1 → HasHeader b h2 n2 → (h1 ≡ h2) × (n1 ≡ n2)
-header_unique b h1 n1 h2 n2 one two =
-    let same = sym (read one) ∙ read two in
-    let infos : payload_info h1 n1 ≡ payload_info h2 n2 = cc in
-    (ap (λ (p : PayloadInfo). p.header_len) infos, ap (λ (p : PayloadInfo). p.value_len) infos)
-
--- where `header` answers a fault no header stands in front
-pub no_header : (b : List ℕ) (e : DecoderError) → header b ≡ Err e → HasNoHeader b
-no_header b e is h n has = let same = sym (read has) ∙ is in cc
+header_unique b h1 n1 h2 n2 one two = grind (arith, read)
 
 -- ---- what is read stands there
 
@@ -120,31 +88,20 @@ abbrev pub Bytes : List ℕ → Type 0
 Bytes b = AllByRecursion (λ byte. byte < 2 ^ 8) b
 
 take_bytes : (k : ℕ) (s : List ℕ) → Bytes s → Bytes (take k s)
-take_bytes (suc k) (c ∷ s) (low, h) = (low, take_bytes k s h)
-take_bytes k s h = tt
+take_bytes k s h = grind (arith, common_steps)
 
 long_hdr : (base n first k : ℕ) (digits : List ℕ) → big_endian n ≡ digits → 55 < n → length digits ≡ k → first ≡ base + 55 + k
     → written_header base n ≡ first ∷ digits
-long_hdr base n first k digits e large l is =
-    let lengths : base + 55 + length (big_endian n) ≡ first = omega (arith, ap length e) in
-    written_header_long base n large ∙ cc
+long_hdr base n first k digits e large l is = grind (arith, written_header_long)
 
 -- the k bytes after a first byte that announces them, and more
 pub long_whole : (base first k n second : ℕ) (more : List ℕ) → first ≡ base + 55 + suc k → suc k ≤ 8 → 0 < second → Bytes (second ∷ more)
     → suc k ≤ length (second ∷ more) → n ≡ number_from_digits 256 (second ∷ take k more) → 55 < n
     → (n < 2 ^ 64) × (written_header base n ++ drop k more ≡ first ∷ second ∷ more) × (length (written_header base n) ≡ 1 + suc k)
 long_whole base first k n second more is few leading (low, bytes) enough value large =
-    let digits : big_endian n ≡ second ∷ take k more = ap big_endian value ∙ big_endian_again second (take k more) leading (low, take_bytes k more bytes) in
-    let long : length (second ∷ take k more) ≡ suc k = omega (arith, length-take-le k more (omega arith)) in
     let below : number_from_digits 256 (second ∷ take k more) < 256 ^ length (second ∷ take k more) =
     number_lt 256 (second ∷ take k more) (low, take_bytes k more bytes) in
-    let at_most : length (second ∷ take k more) ≤ 8 = omega arith in
-    let base_above : 0 < 256 = omega arith in
-    let most : 256 ^ length (second ∷ take k more) ≤ 256 ^ 8 = pow-le-pow_right base_above at_most in
-    let under : number_from_digits 256 (second ∷ take k more) < 2 ^ 64 = lt_of_lt_of_le below most in
-    let small : n < 2 ^ 64 = rw value under in
-    let head : written_header base n ≡ first ∷ second ∷ take k more = long_hdr base n first (suc k) (second ∷ take k more) digits large long is in
-    (small, ap (λ h. h ++ drop k more) head ∙ ap (λ s. first ∷ second ∷ s) (take-append-drop k more), omega (arith, ap length head))
+    grind (arith, big_endian_again, take_bytes, length-take-le, pow-le-pow_right, long_hdr, take-append-drop)
 
 long_has : (base first k n second : ℕ) (more : List ℕ) → IsBase base → first ≡ base + 55 + suc k → suc k ≤ 8 → 0 < second → Bytes (second ∷ more)
     → suc k ≤ length (second ∷ more) → n ≡ number_from_digits 256 (second ∷ take k more) → 55 < n
@@ -157,9 +114,8 @@ long_has base first k n second more b is few leading bytes enough value large =
 -- a header of one byte
 pub short_has : (base first n : ℕ) (rest : List ℕ) → IsBase base → first ≡ base + n → n ≤ 55 → HasHeader (first ∷ rest) 1 n
 short_has base first n rest b is short =
-    let head : written_header base n ≡ first ∷ [] = written_header_short base n short ∙ ap (λ c. c ∷ []) (sym is) in
     let has : HasHeader (written_header base n ++ rest) (length (written_header base n)) n = written base n rest b (omega arith) in
-    rw head at has
+    grind (arith, written_header_short)
 
 long_row : (base first k second : ℕ) (zero_fault : DecoderError) (more : List ℕ) → IsBase base → first ≡ base + 55 + suc k → suc k ≤ 8 → announced first ≡ suc k
     → Bytes (second ∷ more) → (second ≡ 0 → zero_fault ≡ header_fault (first ∷ second ∷ more))
@@ -207,12 +163,10 @@ first_row first rest low bytes =
 
 row : (b : List ℕ) → Bytes b → Row b (header b)
 unfolding header
-row [] bytes = refl
-row (first ∷ rest) (low, bytes) = first_row first rest low bytes
+row b bytes = grind (arith, first_row)
 
 reads_from : (b : List ℕ) (r : Result PayloadInfo DecoderError) → header b ≡ r → Row b r → ReadsHeader b r
-reads_from b (Ok p) e is = is
-reads_from b (Err fault) e is = (no_header b fault e, is)
+reads_from b r e is = grind (arith, read)
 
 -- `header` gives the header that stands at the front of bytes, or why none does
 pub header_reads : (b : List ℕ) → AreBytes b → ReadsHeader b (header b)

@@ -1,18 +1,19 @@
 -- The one string that bytes begin with.
-use Rattle.std.proofs.Common.{◌≡◌, ℕ, suc, ◌+◌, ◌-◌, ◌^◌, ◌<◌, ◌≤◌, inl, inr, ⊎_elim, Bool, true, false, if◌then◌else◌, slice_index, ◌==◌, ltb, leb, List}
-use Rattle.std.proofs.Common.{[], ◌∷◌, ◌++◌, length, take, drop, get_or, refl, sym, ap, ◌∙◌, subst, arith, Ok, Err, Result, MatchResult, ne_eqb, le-ltb}
-use Rattle.std.proofs.Common.{lt-ltb, ltb-false, leb-false, take_at, drop_at, length-append, length-take-le, append_assoc, take-append-drop, pos_of_ne-zero}
-use Rattle.std.proofs.{Common.take_all, lemmas.Bool.{cases_Bool, cases_lt, cond_both, cond-true, cond-false, lt-leb, eqb-false}, lemmas.Bool.Decides.nat_tests}
+use Rattle.std.proofs.Common.{◌≡◌, ℕ, suc, ◌+◌, ◌-◌, ◌^◌, ◌<◌, ◌≤◌, ⊎_elim, Bool, false, if◌then◌else◌, ltb, leb, List}
+use Rattle.std.proofs.Common.{[], ◌∷◌, ◌++◌, length, take, drop, get_or, refl, sym, ap, ◌∙◌, subst, arith, Ok, Err, Result, MatchResult}
+use Rattle.std.proofs.Common.{lt-ltb, ltb-false, leb-false, length-append, length-take-le, append_assoc, take-append-drop}
+use Rattle.std.proofs.{Common.take_all, lemmas.Bool.{cases_Bool, cases_lt, cond_both, cond-true, cond-false}, lemmas.Bool.Decides.nat_tests}
 use Rattle.std.proofs.lemmas.List.Elements.{recursion_from_All}
 use Rattle.std.specs.{Bool.⊤, Int.Digits.number_from_digits}
+use Rattle.std.proofs.lemmas.Grind.{common_steps}
 use Rattle.rlp_format.specs.Format.Encoding.{string, written_header, AreBytes, encoding, string_encoding, is_low_byte}
 use Rattle.rlp_format.proofs.{Lemmas.Digits.{big_endian_first, big_endian_value}, Lemmas.Headers.{Parts, shape, written_header_short}}
 use Rattle.rlp_format.proofs.Lemmas.Encodings.{low_byte, small_payload, front_sized}
 use Rattle.rlp_reading.specs.declared.error.DecoderError.{DecoderError}
-use Rattle.rlp_reading.specs.declared.error.DecoderError.TheVariants.{RlpIsTooShort, RlpExpectedToBeData, RlpInvalidIndirection}
-use Rattle.rlp_reading.specs.declared.error.DecoderError.TheVariants.{RlpInconsistentLengthAndData, RlpInvalidLength, RlpDataLenWithZeroPrefix}
+use Rattle.rlp_reading.specs.declared.error.DecoderError.TheVariants.{RlpIsTooShort, RlpExpectedToBeData}
+use Rattle.rlp_reading.specs.declared.error.DecoderError.TheVariants.{RlpDataLenWithZeroPrefix}
 use Rattle.rlp_reading.specs.declared.error.DecoderError.TheVariants.{RlpListLenWithZeroPrefix}
-use Rattle.rlp_reading.specs.Format.Framing.{IsString, ReadsString, short_string, long_value, long_string, read_string, short_string_fault, long_value_fault}
+use Rattle.rlp_reading.specs.Format.Framing.{IsString, ReadsString, short_string, long_value, long_string, read_string, short_string_fault}
 use Rattle.rlp_reading.specs.Format.Framing.{long_string_fault, string_fault, header, long_header, payload_info}
 use Rattle.rlp_reading.proofs.Lemmas.Reading.{Bytes, long_whole, header_low, header_string, header_long_string, header_list, header_long_list}
 
@@ -38,50 +39,10 @@ string_list first rest l = grind (arith, nat_tests)
 
 -- ---- the string that stands there is read
 
-short_is : (n : ℕ) (d more : List ℕ) → length d ≡ n → is_low_byte d ≡ false → short_string n (d ++ more) ≡ Ok d
-short_is n d more l high =
-    let front : take n (d ++ more) ≡ d = take_at d more n l in
-    let enough : n ≤ length (d ++ more) = omega (arith, length-append d more) in
-    cond-false (ltb (length (d ++ more)) n) _ _ (le-ltb _ _ enough)
-    ∙ cond-false (is_low_byte (take n (d ++ more))) _ _ (ap is_low_byte front ∙ high)
-    ∙ ap Ok front
-
-value_is : (k n : ℕ) (d more : List ℕ) → length d ≡ n → 55 < n → 1 + k + n < 2 ^ 64 → long_value k n (d ++ more) ≡ Ok d
-value_is k n d more l large small =
-    let fits : 1 + k + n ≤ 2 ^ 64 - 1 = omega arith in
-    let enough : n ≤ length (d ++ more) = omega (arith, length-append d more) in
-    cond-false (leb n 55) _ _ (lt-leb _ _ large)
-    ∙ cond-false (ltb (2 ^ 64 - 1) (1 + k + n)) _ _ (le-ltb _ _ fits)
-    ∙ cond-false (ltb (length (d ++ more)) n) _ _ (le-ltb _ _ enough)
-    ∙ ap Ok (take_at d more n l)
-
-long_is : (k n : ℕ) (digits rest : List ℕ) → length digits ≡ k → 0 < get_or digits 0 0 → number_from_digits 256 digits ≡ n
-    → long_string k (digits ++ rest) ≡ long_value k n rest
-long_is k n [] rest l first value = absurd (omega arith)
-long_is k n (c ∷ digits) rest l first value =
-    let enough : k ≤ length ((c ∷ digits) ++ rest) = omega (arith, length-append (c ∷ digits) rest) in
-    cond-false (ltb (length ((c ∷ digits) ++ rest)) k) _ _ (le-ltb _ _ enough)
-    ∙ cond-false (c == 0) _ _ (ne_eqb c 0 (λ e. omega arith))
-    ∙ ap (λ s. long_value k (number_from_digits 256 s) (drop k ((c ∷ digits) ++ rest))) (take_at (c ∷ digits) rest k l)
-    ∙ ap (long_value k (number_from_digits 256 (c ∷ digits))) (drop_at (c ∷ digits) rest k l)
-    ∙ ap (λ m. long_value k m rest) value
-
 parts_read : (n first : ℕ) (digits d more : List ℕ) → Parts 0x80 n first digits → length d ≡ n → is_low_byte d ≡ false → 1 + length digits + n < 2 ^ 64
     → read_string (first ∷ (digits ++ (d ++ more))) ≡ Ok d
-parts_read n first digits d more (inl (short, is, none)) l high small =
-    let value : first - 0x80 ≡ n = omega arith in
-    string_short first (digits ++ (d ++ more)) (omega arith) (omega arith)
-    ∙ ap (λ k. short_string k (digits ++ (d ++ more))) value
-    ∙ ap (λ s. short_string n (s ++ (d ++ more))) none
-    ∙ short_is n d more l high
-parts_read n first digits d more (inr (long, is, same, some, few)) l high small =
-    let value : number_from_digits 256 digits ≡ n = ap (number_from_digits 256) same ∙ big_endian_value n in
-    let leading : 0 < get_or digits 0 0 = rw same (big_endian_first n (omega arith)) in
-    let k : first - 0xb7 ≡ length digits = omega arith in
-    string_long first (digits ++ (d ++ more)) (omega arith) (omega arith)
-    ∙ ap (λ k. long_string k (digits ++ (d ++ more))) k
-    ∙ long_is (length digits) n digits (d ++ more) refl leading value
-    ∙ value_is (length digits) n d more l long small
+parts_read n first digits d more parts l high small =
+    grind (arith, common_steps, string_short, big_endian_value, big_endian_first, string_long)
 
 -- a string that stands in front is read
 pub string_only : (b d : List ℕ) → length b < 2 ^ 64 → IsString b d → read_string b ≡ Ok d
@@ -137,8 +98,7 @@ short_stands first n rest is short =
     (ap (λ s. first ∷ s) (sym (take-append-drop n rest)) ∙ ap (λ h. h ++ (take n rest ++ drop n rest)) (sym head)))))
 
 not_low : (s : List ℕ) → 1 < length s → is_low_byte s ≡ false
-not_low (c ∷ []) h = absurd (omega arith)
-not_low s h = refl
+not_low s h = grind arith
 
 value_stands : (first k n second : ℕ) (more : List ℕ) → first ≡ 0x80 + 55 + suc k → suc k ≤ 8 → 0 < second → Bytes (second ∷ more)
     → suc k ≤ length (second ∷ more) → n ≡ number_from_digits 256 (second ∷ take k more) → Stands (first ∷ second ∷ more) (long_value (suc k) n (drop k more))
@@ -158,16 +118,7 @@ value_stands first k n second more is few leading bytes enough value =
     ∙ ap (λ m. written_header 0x80 m ++ (take n (drop k more) ++ drop n (drop k more))) (sym long))))))
 
 long_stands : (first k : ℕ) (rest : List ℕ) → first ≡ 0x80 + 55 + suc k → suc k ≤ 8 → Bytes rest → Stands (first ∷ rest) (long_string (suc k) rest)
-long_stands first k [] is few bytes =
-    cond_both (ltb (length {A = ℕ} []) (suc k)) _ _ (Stands (first ∷ [])) (λ _. stands_err _ _)
-    (λ e. absurd (let none : suc k ≤ 0 = ltb-false 0 (suc k) e in omega arith))
-long_stands first k (second ∷ more) is few bytes =
-    cond_both (ltb (length (second ∷ more)) (suc k)) _ _ (Stands (first ∷ second ∷ more)) (λ _. stands_err _ _)
-    (λ e. let enough : suc k ≤ length (second ∷ more) = ltb-false _ _ e in
-    cond_both (second == 0) _ _ (Stands (first ∷ second ∷ more)) (λ _. stands_err _ _)
-    (λ f. let nonzero : second ≡ 0 → ⊥ = eqb-false second 0 f in
-    let leading : 0 < second = pos_of_ne-zero nonzero in
-    value_stands first k (number_from_digits 256 (second ∷ take k more)) second more is few leading bytes enough refl))
+long_stands first k rest is few bytes = grind (arith, stands_err, value_stands)
 
 first_stands : (first : ℕ) (rest : List ℕ) → Bytes rest → Stands (first ∷ rest) (read_string (first ∷ rest))
 first_stands first rest bytes =
@@ -183,40 +134,25 @@ first_stands first rest bytes =
 
 stands : (b : List ℕ) → Bytes b → Stands b (read_string b)
 unfolding read_string
-stands [] bytes = stands_err _ _
-stands (first ∷ rest) bytes = first_stands first rest bytes.1
+stands b bytes = grind (arith, stands_err, first_stands)
 
 -- ---- the fault is the first that applies
 
 cond_fault : (b : Bool) (r s : Result (List ℕ) DecoderError) (e f g : DecoderError) → (r ≡ Err e → e ≡ f) → (s ≡ Err e → e ≡ g)
     → (if b then r else s) ≡ Err e → e ≡ (if b then f else g)
-cond_fault true r s e f g then_f else_g is = then_f is
-cond_fault false r s e f g then_f else_g is = else_g is
+cond_fault b r s e f g then_f else_g is = grind arith
 
 fault_same : (e f : DecoderError) → (let r : Result (List ℕ) DecoderError = Err f in r) ≡ Err e → e ≡ f
 fault_same e f is = cc
 
 cond_ok : (b : Bool) (d : List ℕ) (s : Result (List ℕ) DecoderError) (e : DecoderError) → (if b then Ok d else s) ≡ Err e → s ≡ Err e
-cond_ok true d s e is = cc
-cond_ok false d s e is = is
-
-last_fault : (b : Bool) (d : List ℕ) (e f : DecoderError) → (if b then Err f else Ok d) ≡ Err e → e ≡ f
-last_fault true d e f is = cc
-last_fault false d e f is = cc
+cond_ok b d s e is = grind arith
 
 short_fault : (n : ℕ) (rest : List ℕ) (e : DecoderError) → short_string n rest ≡ Err e → e ≡ short_string_fault n rest
-short_fault n rest e =
-    cond_fault (ltb (length rest) n) _ _ e _ _ (fault_same e RlpInconsistentLengthAndData) (last_fault (is_low_byte (take n rest)) (take n rest) e RlpInvalidIndirection)
-
-value_fault : (k n : ℕ) (rest : List ℕ) (e : DecoderError) → long_value k n rest ≡ Err e → e ≡ long_value_fault k n
-value_fault k n rest e =
-    cond_fault (leb n 55) _ _ e _ _ (fault_same e RlpInvalidIndirection)
-    (cond_fault (ltb (2 ^ 64 - 1) (1 + k + n)) _ _ e _ _ (fault_same e RlpInvalidLength) (last_fault (ltb (length rest) n) (take n rest) e RlpInconsistentLengthAndData))
+short_fault n rest e = grind arith
 
 long_fault : (k : ℕ) (rest : List ℕ) (e : DecoderError) → long_string k rest ≡ Err e → e ≡ long_string_fault k rest
-long_fault k rest e =
-    cond_fault (ltb (length rest) k) _ _ e _ _ (fault_same e RlpInconsistentLengthAndData)
-    (cond_fault (slice_index rest 0 == 0) _ _ e _ _ (fault_same e RlpInvalidIndirection) (value_fault k (number_from_digits 256 (take k rest)) (drop k rest) e))
+long_fault k rest e = grind arith
 
 fault_read : (b : List ℕ) (e : DecoderError) → read_string b ≡ Err e → e ≡ string_fault b
 unfolding read_string
@@ -238,47 +174,36 @@ string_reads b bytes fits = answer_from b (read_string b) fits refl (stands b (r
 -- ---- headers and strings, by the first of some bytes
 
 pub first_low : (b : List ℕ) → 1 ≤ length b → get_or b 0 0 ≤ 0x7f → Ok (payload_info 0 1) ≡ header b
-first_low [] some low = absurd (omega arith)
-first_low (first ∷ rest) some low = sym (header_low first rest (omega arith))
+first_low b some low = grind (arith, common_steps, header_low)
 
 pub first_string : (b : List ℕ) → 1 ≤ length b → 0x80 ≤ get_or b 0 0 → get_or b 0 0 ≤ 0xb7 → Ok (payload_info 1 (get_or b 0 0 - 0x80)) ≡ header b
-first_string [] some from to = absurd (omega arith)
-first_string (first ∷ rest) some from to = sym (header_string first rest from (omega arith))
+first_string b some from to = grind (arith, common_steps, header_string)
 
 pub first_long_string : (b : List ℕ) → 1 ≤ length b → 0xb8 ≤ get_or b 0 0 → get_or b 0 0 ≤ 0xbf
     → long_header RlpDataLenWithZeroPrefix (get_or b 0 0 - 0xb7) (take (length b - 1) (drop 1 b)) ≡ header b
-first_long_string [] some from to = absurd (omega arith)
-first_long_string (first ∷ rest) some from to =
-    ap (long_header RlpDataLenWithZeroPrefix (first - 0xb7)) (take_all (length (first ∷ rest) - 1) rest (omega arith))
-    ∙ sym (header_long_string first rest from (omega arith))
+first_long_string b some from to = grind (arith, take_all, header_long_string)
 
 pub first_list : (b : List ℕ) → 1 ≤ length b → 0xc0 ≤ get_or b 0 0 → get_or b 0 0 ≤ 0xf7 → Ok (payload_info 1 (get_or b 0 0 - 0xc0)) ≡ header b
-first_list [] some from to = absurd (omega arith)
-first_list (first ∷ rest) some from to = sym (header_list first rest from (omega arith))
+first_list b some from to = grind (arith, common_steps, header_list)
 
 pub first_long_list : (b : List ℕ) → 1 ≤ length b → 0xf8 ≤ get_or b 0 0
     → long_header RlpListLenWithZeroPrefix (get_or b 0 0 - 0xf7) (take (length b - 1) (drop 1 b)) ≡ header b
-first_long_list [] some from = absurd (omega arith)
-first_long_list (first ∷ rest) some from =
-    ap (long_header RlpListLenWithZeroPrefix (first - 0xf7)) (take_all (length (first ∷ rest) - 1) rest (omega arith))
-    ∙ sym (header_long_list first rest from)
+first_long_list b some from = grind (arith, take_all, header_long_list)
 
 pub alone : (b : List ℕ) → 1 ≤ length b → get_or b 0 0 ≤ 0x7f → read_string b ≡ Ok (take 1 b)
-alone [] some low = absurd (omega arith)
-alone (first ∷ rest) some low = string_low first rest (omega arith)
+alone b some low = grind (arith, string_low)
 
 pub no_string : (b : List ℕ) → 1 ≤ length b → 0xc0 ≤ get_or b 0 0 → read_string b ≡ Err RlpExpectedToBeData
-no_string [] some from = absurd (omega arith)
-no_string (first ∷ rest) some from = string_list first rest from
+no_string b some from = grind (arith, common_steps, string_list)
 
 pub short_after : (b : List ℕ) → 1 ≤ length b → 0x80 ≤ get_or b 0 0 → get_or b 0 0 ≤ 0xb7
     → read_string b ≡ short_string (get_or b 0 0 - 0x80) (take (length b - 1) (drop 1 b))
-short_after [] some from to = absurd (omega arith)
-short_after (first ∷ rest) some from to =
-    string_short first rest from (omega arith) ∙ ap (short_string (first - 0x80)) (sym (take_all (length (first ∷ rest) - 1) rest (omega arith)))
+short_after b some from to = grind (arith, string_short, take_all)
 
 pub long_after : (b : List ℕ) → 1 ≤ length b → 0xb8 ≤ get_or b 0 0 → get_or b 0 0 ≤ 0xbf
     → read_string b ≡ long_string (get_or b 0 0 - 0xb7) (take (length b - 1) (drop 1 b))
-long_after [] some from to = absurd (omega arith)
-long_after (first ∷ rest) some from to =
-    string_long first rest from (omega arith) ∙ ap (long_string (first - 0xb7)) (sym (take_all (length (first ∷ rest) - 1) rest (omega arith)))
+long_after b some from to = grind (arith, string_long, take_all)
+
+pub ruleset first_headers = (first_low, first_string, first_list, first_long_string, first_long_list)
+
+pub ruleset first_strings = (alone, no_string, short_after, long_after)

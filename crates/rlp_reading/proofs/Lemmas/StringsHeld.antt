@@ -4,19 +4,19 @@ use Rattle.std.proofs.Common.{take, drop, get_or, refl, sym, ap, ◌∙◌, subs
 use Rattle.std.proofs.Common.{le-ltb, lt-ltb, Result, Ok, Err, MatchResult, IfErr, ◌≢◌, pos_of_ne-zero, replicate, Fits, w8}
 use Rattle.std.proofs.{lemmas.Bool.{cases_lt, cond-true, cond-false}, lemmas.List.Elements.All-from_recursion, lemmas.Int.Digits.length-digits_of-le}
 use Rattle.std.specs.Int.Digits.{number_from_digits}
+use Rattle.std.proofs.lemmas.Grind.{common_steps}
 use Rattle.rlp_format.specs.Format.Encoding.{Item, string, AreBytes, written_header, encoding, is_low_byte, BeginsWith, IsSized, big_endian}
 use Rattle.rlp_format.specs.Values.Value.{FitsBytes}
 use Rattle.rlp_format.proofs.{Lemmas.Encodings.{front_sized, string_cases}, Lemmas.Headers.written_header_short}
 use Rattle.rlp_format.proofs.Lemmas.Digits.{bytes_held, digits_fit, digits_again, big_endian_is, pow-bytes}
 use Rattle.rlp_reading.specs.{declared.error.DecoderError.DecoderError, declared.error.DecoderError.TheVariants.{RlpIsTooBig, RlpInvalidIndirection}}
-use Rattle.rlp_reading.specs.Format.Framing.{HasHeader, IsString, ReadsString, read_string, is_followed, is_longer, whole_string}
+use Rattle.rlp_reading.specs.Format.Framing.{HasHeader, ReadsString, read_string, is_followed, is_longer, whole_string}
 use Rattle.rlp_reading.specs.Views.View.{View, Holds, HoldsItem, HoldsNoString, HoldsString, view_string}
 use Rattle.rlp_reading.specs.Values.ValueReading.{IsDigitsFault, too_long, leading_zero, GivesNumber}
 use Rattle.rlp_reading.proofs.{Lemmas.Frames.{encoding_item, framing_is, longer}, Lemmas.Strings.{string_only, string_reads}}
 
 begins_by : (strict : Bool) (b s : List ℕ) → Holds strict b s → BeginsWith b s
-begins_by false b s holds = holds
-begins_by true b s holds = ([], holds ∙ sym (append-nil s))
+begins_by strict b s holds = grind (arith, append-nil)
 
 -- a view begins with the item that it holds
 pub held_begins : (v : View) (x : Item) → HoldsItem v x → BeginsWith v.bytes (encoding x)
@@ -40,8 +40,7 @@ abbrev pub ReadsHeld : Bool → List ℕ → Result (List ℕ) DecoderError → 
 ReadsHeld strict b r = MatchResult r (λ d. Holds strict b (encoding (string d))) (λ e. (d : List ℕ) → ¬ Holds strict b (encoding (string d)))
 
 none_after : (b more s : List ℕ) → b ≡ s ++ more → length b ≤ length s → b ≡ s
-none_after b [] s is few = is ∙ append-nil s
-none_after b (byte ∷ more) s is few = absurd (omega (arith, ap length is, length-append s (byte ∷ more)))
+none_after b more s is few = grind (arith, common_steps)
 
 whole_reads : (b : List ℕ) (r : Result (List ℕ) DecoderError) → length b < 2 ^ 64 → ReadsString b r → ReadsHeld true b (whole_string b r)
 whole_reads b (Err e) fits (none, same) = λ d is. none d ([], is ∙ sym (append-nil (encoding (string d))))
@@ -57,26 +56,19 @@ whole_reads b (Ok d) fits (more, is) =
     (cases_lt (length (encoding (string d))) (length b))
 
 lenient_reads : (b : List ℕ) (r : Result (List ℕ) DecoderError) → ReadsString b r → ReadsHeld false b r
-lenient_reads b (Err e) (none, same) = none
-lenient_reads b (Ok d) stands = stands
-
-reads_by : (strict : Bool) (b : List ℕ) → length b < 2 ^ 64 → ReadsString b (read_string b)
-    → ReadsHeld strict b (if strict then whole_string b (read_string b) else read_string b)
-reads_by false b fits read = lenient_reads b (read_string b) read
-reads_by true b fits read = whole_reads b (read_string b) fits read
+lenient_reads b r stands = grind arith
 
 pub held_from : (v : View) → length v.bytes < 2 ^ 64 → ReadsString v.bytes (read_string v.bytes) → ReadsHeld v.is_strict v.bytes (view_string v)
-held_from v fits read = reads_by v.is_strict v.bytes fits read
+held_from v fits read = grind (arith, lenient_reads, whole_reads)
 
 -- the string that is read from a view is the one that it holds; if no string is read, it holds none
 pub held_reads : (v : View) → AreBytes v.bytes → length v.bytes < 2 ^ 64 → ReadsHeld v.is_strict v.bytes (view_string v)
-held_reads v bytes fits = reads_by v.is_strict v.bytes fits (string_reads v.bytes bytes fits)
+held_reads v bytes fits = grind (arith, string_reads, lenient_reads, whole_reads)
 
 -- if a string is missing, there is none, and what is known about the fault holds
 pub missing_held : (v : View) (e : DecoderError) (F : DecoderError → Type 0) → ReadsHeld v.is_strict v.bytes (view_string v) → view_string v ≡ Err e
     → F e → IfErr (view_string v) (λ e. HoldsNoString v × F e)
-missing_held v e F read is holds = let none : ReadsHeld v.is_strict v.bytes (Err e) = subst (ReadsHeld v.is_strict v.bytes) is read in
-    subst (λ r. IfErr r (λ e. HoldsNoString v × F e)) (sym is) (none, holds)
+missing_held v e F read is holds = grind arith
 
 -- whether bytes follow an encoding that they begin with
 pub is_followed-encoding : (x : Item) (b more : List ℕ) → IsSized x → b ≡ encoding x ++ more → is_followed b ≡ ltb (length (encoding x)) (length b)
@@ -89,28 +81,15 @@ is_followed-encoding x b more sized is =
 
 -- ---- the string of a decoder
 
-followed_as : (b d : List ℕ) (kind : Bool) → length b < 2 ^ 64 → read_string b ≡ Ok d → ReadsString b (read_string b) → is_followed b ≡ kind
-    → ltb (length (encoding (string d))) (length b) ≡ kind
-followed_as b d kind fits is read followed =
-    let there : IsString b d = subst (ReadsString b) is read in
-    sym (is_followed-encoding (string d) b there.0 (front_sized (string d) b there.0 fits there.1) there.1) ∙ followed
-
 -- a strict view whose string is followed by bytes
 pub held_too_big : (v : View) (d : List ℕ) → length v.bytes < 2 ^ 64 → v.is_strict ≡ true → read_string v.bytes ≡ Ok d
     → ReadsString v.bytes (read_string v.bytes) → is_followed v.bytes ≡ true → view_string v ≡ Err RlpIsTooBig
-held_too_big v d fits strict is read followed =
-    cond-true v.is_strict _ _ strict ∙ ap (whole_string v.bytes) is
-    ∙ cond-true (ltb (length (encoding (string d))) (length v.bytes)) _ _ (followed_as v.bytes d true fits is read followed)
+held_too_big v d fits strict is read followed = grind (arith, is_followed-encoding, front_sized)
 
 -- a strict view that ends with its string
 pub held_whole : (v : View) (d : List ℕ) → length v.bytes < 2 ^ 64 → read_string v.bytes ≡ Ok d → ReadsString v.bytes (read_string v.bytes)
     → is_followed v.bytes ≡ false → view_string v ≡ Ok d
-held_whole v d fits is read followed = whole_kind v.is_strict
-  where
-    whole_kind : (strict : Bool) → (if strict then whole_string v.bytes (read_string v.bytes) else read_string v.bytes) ≡ Ok d
-    whole_kind false = is
-    whole_kind true = ap (whole_string v.bytes) is
-        ∙ cond-false (ltb (length (encoding (string d))) (length v.bytes)) _ _ (followed_as v.bytes d false fits is read followed)
+held_whole v d fits is read followed = grind (arith, is_followed-encoding, front_sized)
 
 -- a lenient view
 pub held_front : (v : View) (r : Result (List ℕ) DecoderError) → v.is_strict ≡ false → read_string v.bytes ≡ r → view_string v ≡ r
@@ -118,19 +97,13 @@ held_front v r lenient is = cond-false v.is_strict _ _ lenient ∙ is
 
 -- bytes that don't begin with a string
 pub held_fault : (v : View) (e : DecoderError) → read_string v.bytes ≡ Err e → view_string v ≡ Err e
-held_fault v e is = fault_kind v.is_strict
-  where
-    fault_kind : (strict : Bool) → (if strict then whole_string v.bytes (read_string v.bytes) else read_string v.bytes) ≡ Err e
-    fault_kind false = is
-    fault_kind true = ap (whole_string v.bytes) is
+held_fault v e is = grind arith
 
 -- ---- a view that begins with a string that has a header of at most one byte
 
 -- a view holds the bytes that it begins with, if a strict one ends there
 may_hold : (strict : Bool) (b s rest : List ℕ) → b ≡ s ++ rest → (IsTrue strict → length b ≡ length s) → Holds strict b s
-may_hold false b s rest is ends = (rest, is)
-may_hold true b s [] is ends = is ∙ append-nil s
-may_hold true b s (c ∷ rest) is ends = absurd (omega (arith, ends refl, ap length is, length-append s (c ∷ rest)))
+may_hold strict b s rest is ends = grind (arith, common_steps)
 
 -- a view that begins with a byte below 0x80 holds that byte, if a strict one ends there
 pub low_held : (v : View) (n : ℕ) (more : List ℕ) → v.bytes ≡ n ∷ more → n < 0x80 → (IsTrue v.is_strict → length v.bytes ≡ 1)
@@ -152,15 +125,11 @@ short_held v header d more begins says short high ends =
 -- the first of a view's bytes is held
 pub first_held : (v : View) (b : List ℕ) → b ≡ v.bytes → 1 ≤ length b → get_or b 0 0 ≤ 127 → (IsTrue v.is_strict → length v.bytes ≡ 1)
     → HoldsString v (take 1 b)
-first_held v [] is held low ends = absurd (omega arith)
-first_held v (n ∷ b) is held low ends = low_held v n b (sym is) (omega arith) ends
+first_held v b is held low ends = grind (arith, low_held)
 
 -- the first n bytes are no low byte, if there isn't just one of them below 0x80
 taken_high : (n : ℕ) (b : List ℕ) → n ≤ length b → (n ≡ 1 → 128 ≤ get_or b 0 0) → is_low_byte (take n b) ≡ false
-taken_high zero b enough high = refl
-taken_high (suc zero) (byte ∷ b) enough high = le-ltb _ _ (high refl)
-taken_high (suc (suc n)) (byte ∷ next ∷ b) enough high = refl
-taken_high n b enough high = absurd (omega (arith, enough))
+taken_high n b enough high = grind (arith, common_steps)
 
 -- the bytes after a header of one byte are held
 pub after_held : (v : View) (b : List ℕ) → b ≡ v.bytes → 1 ≤ length b → 128 ≤ get_or b 0 0 → get_or b 0 0 ≤ 183
@@ -222,6 +191,4 @@ zeros_in_front (suc k) (suc n) digits = zeros_in_front k n digits
 
 -- a number that fits has few digits
 pub few_digits : (width n : ℕ) → FitsBytes width n → length (big_endian n) ≤ width
-few_digits width n fit =
-    let small : n < 256 ^ width = rw (pow-bytes width) fit in
-    rw (big_endian_is) (length-digits_of-le 256 width n (omega arith) small)
+few_digits width n fit = grind (arith, pow-bytes, big_endian_is, length-digits_of-le)

@@ -1,16 +1,18 @@
 -- The text and the depth of bytes, by those of their items.
-use Rattle.std.proofs.Common.{◌≡◌, ℕ, zero, suc, ◌+◌, ◌<◌, ◌≤◌, Bool, true, false, List, [], ◌∷◌, ◌++◌, length, take, drop, map, codes, refl, sym, ap, ◌∙◌}
-use Rattle.std.proofs.Common.{arith, Ok, Err, Result, length-take, length-drop, leb-true, ltb-true, ltb, ◌==◌, leb, MatchResult, le-add_right, le_refl, max}
-use Rattle.std.proofs.{Common.{fold, subst, append-nil, ◌-◌, append_assoc, IsTrue, ◌↔◌, length-append}, lemmas.Bool.{cond_both, false≢true}}
+use Rattle.std.proofs.Common.{◌≡◌, ℕ, zero, suc, ◌+◌, ◌<◌, ◌≤◌, true, false, List, [], ◌∷◌, ◌++◌, length, take, drop, map, codes, refl, sym, ap, ◌∙◌}
+use Rattle.std.proofs.Common.{arith, Ok, Err, Result, length-take, length-drop, MatchResult, max}
+use Rattle.std.proofs.{Common.{fold, subst, append-nil, ◌-◌, append_assoc, IsTrue, ◌↔◌, length-append}, lemmas.Bool.false≢true}
 use Rattle.std.proofs.lemmas.List.{map-append, take-append-drop, take-append-le, drop-append-le}
-use Rattle.std.specs.{Bool.⊤, List.AllByRecursion, Int.Digits.number_from_digits}
+use Rattle.std.specs.{Bool.⊤, List.AllByRecursion}
+use Rattle.std.proofs.lemmas.Grind.{common_steps}
+use Rattle.std.proofs.lemmas.Bool.Decides.{nat_tests}
 use Rattle.rlp_format.specs.Format.Encoding.{Item, string, list, Items, no_items, item_and, items_from, listed, list_of, item_depth, items_depth, encoding}
 use Rattle.rlp_format.specs.Format.Encoding.{IsSized, BeginsWith, AreBytes}
 use Rattle.rlp_format.proofs.{Lemmas.Encodings.{AllSized, parts_sized, list_written, items_from-listed}}
 use Rattle.rlp_reading.specs.{declared.error.DecoderError.DecoderError, declared.header.PayloadInfo.PayloadInfo}
-use Rattle.rlp_reading.specs.Format.Framing.{header, long_header, payload_info, framing, framing_in, frame, value, map_ok, total_len, split, split_within}
+use Rattle.rlp_reading.specs.Format.Framing.{header, framing, frame, value, total_len, split, split_within}
 use Rattle.rlp_reading.specs.Format.Framing.{frame_and_more, begins_as_list, payload, payload_in, items, HasHeader, IsFramedItem}
-use Rattle.rlp_reading.specs.{Views.ByItems.{by_items_within, by_items}, Views.Text.{text, text_by, framed_text, separated, error_name}}
+use Rattle.rlp_reading.specs.{Views.ByItems.{by_items_within, by_items}, Views.Text.{text, text_by, separated, error_name}}
 use Rattle.rlp_reading.specs.Views.Depth.{depth, depth_by, framed_depth, greatest}
 use Rattle.hex.specs.Hex.{encode_lower}
 use Rattle.rlp_reading.proofs.Lemmas.Views.{front_kind, list_shape, items_of_list}
@@ -28,22 +30,13 @@ weaker m n (f ∷ fs) l a = (omega (arith, a.0), weaker m n fs l a.1)
 abbrev pub ShortFront : List ℕ → Result (List ℕ) DecoderError → Type 0
 ShortFront p r = MatchResult r (λ f. length f ≤ length p) (λ _. ⊤)
 
-short_front : (p : List ℕ) (r : Result PayloadInfo DecoderError) → ShortFront p (map_ok (λ q. take (total_len q) p) r)
-short_front p (Err e) = tt
-short_front p (Ok info) = omega (arith, length-take (total_len info) p)
-
 frame_short : (p : List ℕ) → ShortFront p (frame p)
 unfolding frame
-frame_short p = short_front p (framing p)
+frame_short p = grind (arith, length-take)
 
 walk_short : (turns : ℕ) (p : List ℕ) (r : Result (List ℕ) DecoderError) → ShortFront p r → ((q : List ℕ) → AllWithinLength (length q) (split_within turns q))
     → AllWithinLength (length p) (frame_and_more (split_within turns) p r)
-walk_short turns p (Err e) short again = tt
-walk_short turns p (Ok f) short again = (
-  short,
-  weaker (length (drop (length f) p)) (length p) (split_within turns (drop (length f) p)) (omega (arith, length-drop (length f) p))
-      (again (drop (length f) p)),
-)
+walk_short turns p r short again = grind (arith, weaker, length-drop)
 
 split_short : (turns : ℕ) (p : List ℕ) → AllWithinLength (length p) (split_within turns p)
 split_short zero p = tt
@@ -51,63 +44,10 @@ split_short (suc turns) p = walk_short turns p (frame p) (frame_short p) (split_
 
 -- ---- a list has a header, so its value is shorter than itself
 
--- opaque, so that `cond_both` finds its arguments
-HasSome : Result PayloadInfo DecoderError → Type 0
-HasSome r = MatchResult r (λ p. 1 ≤ p.header_len) (λ _. ⊤)
-
-some_ok : (h n : ℕ) → 1 ≤ h → HasSome (Ok (payload_info h n))
-unfolding HasSome
-some_ok h n l = l
-
-some_err : (e : DecoderError) → HasSome (Err e)
-unfolding HasSome
-some_err e = tt
-
-some_is : (h n : ℕ) → HasSome (Ok (payload_info h n)) → 1 ≤ h
-unfolding HasSome
-some_is h n l = l
-
-long_some : (e : DecoderError) (k : ℕ) (rest : List ℕ) → HasSome (long_header e k rest)
-long_some e k [] = some_err _
-long_some e k (second ∷ rest) =
-    cond_both (second == 0) _ _ HasSome (λ _. some_err _)
-    (λ _. cond_both (ltb (length (second ∷ rest)) k) _ _ HasSome (λ _. some_err _)
-    (λ _. cond_both (leb (number_from_digits 256 (take k (second ∷ rest))) 55) _ _ HasSome (λ _. some_err _)
-    (λ _. some_ok _ _ (le-add_right 1 k))))
-
-header_some : (first : ℕ) (rest : List ℕ) → 0xc0 ≤ first → HasSome (header (first ∷ rest))
-unfolding header
-header_some first rest l =
-    cond_both (ltb first 0x80) _ _ HasSome (λ e. absurd (let below : first < 0x80 = ltb-true first 0x80 e in omega arith))
-    (λ _. cond_both (ltb first 0xb8) _ _ HasSome (λ _. some_ok _ _ (le_refl 1))
-    (λ _. cond_both (ltb first 0xc0) _ _ HasSome (λ _. long_some _ _ rest)
-    (λ _. cond_both (ltb first 0xf8) _ _ HasSome (λ _. some_ok _ _ (le_refl 1))
-    (λ _. long_some _ _ rest))))
-
-framed_some : (b : List ℕ) (r : Result PayloadInfo DecoderError) → HasSome r → HasSome (framing_in b r)
-framed_some b (Err e) some = some
-framed_some b (Ok p) some = cond_both (leb (total_len p) (length b)) _ _ HasSome (λ _. some) (λ _. some_err _)
-
-value_short : (b : List ℕ) (r : Result PayloadInfo DecoderError) → 0 < length b → HasSome r
-    → length (payload_in true (map_ok (λ p. take p.value_len (drop p.header_len b)) r)) + 1 ≤ length b
-value_short b (Err e) l some = omega arith
-value_short b (Ok p) l some = omega (arith, length-take p.value_len (drop p.header_len b), length-drop p.header_len b, some_is p.header_len p.value_len some)
-
-payload_by : (b : List ℕ) (is_list : Bool) → begins_as_list b ≡ is_list → 0 < length b → length (payload_in is_list (value b)) + 1 ≤ length b
-unfolding value framing
-payload_by b false e l = omega arith
-payload_by [] true e l = absurd (omega arith)
-payload_by (first ∷ rest) true e l = value_short (first ∷ rest) (framing (first ∷ rest)) l
-    (framed_some (first ∷ rest) (header (first ∷ rest)) (header_some first rest (leb-true _ _ e)))
-
 -- the items of b are shorter than b
 pub items_short : (n : ℕ) (b : List ℕ) → length b ≤ suc n → AllWithinLength n (items b)
-unfolding items payload split
-items_short n [] l = tt
-items_short n (first ∷ rest) l =
-    let short = payload_by (first ∷ rest) (begins_as_list (first ∷ rest)) refl (omega arith) in
-    let p : List ℕ = payload (first ∷ rest) in
-    weaker (length p) n (split_within (length p) p) (omega (arith, short)) (split_short (length p) p)
+unfolding framing header items payload split value
+items_short n b l = grind (arith, nat_tests, common_steps, weaker, split_short, length-take)
 
 -- an empty slice has no items
 pub items_nil : items [] ≡ []
@@ -119,10 +59,7 @@ items_nil = refl
 map_agree : {A : Type 0} (f g : List ℕ → A) (n : ℕ) (fs : List (List ℕ)) → ((b : List ℕ) → length b ≤ n → f b ≡ g b) → AllWithinLength n fs
     → map f fs ≡ map g fs
 map_agree f g n [] same a = refl
-map_agree f g n (b ∷ fs) same a =
-    let heads : f b ≡ g b = same b a.0 in
-    let tails : map f fs ≡ map g fs = map_agree f g n fs same a.1 in
-    cc
+map_agree f g n (b ∷ fs) same a = grind (arith, map_agree f g n fs same a.1)
 
 module _ (A : Type 0) (none : A) (step : (List ℕ → A) → List ℕ → A)
     (same_items : (f g : List ℕ → A) (b : List ℕ) → map f (items b) ≡ map g (items b) → step f b ≡ step g b) where
@@ -142,31 +79,18 @@ module _ (A : Type 0) (none : A) (step : (List ℕ → A) → List ℕ → A)
   enough (suc m) (suc n) b l k = by_short (within (suc m)) (within (suc n)) b (λ j e q s. enough m n q (omega arith) (omega arith))
 
   by_items_step : (f : List ℕ → A) → ((b : List ℕ) → f b ≡ by_items none step b) → (b : List ℕ) → f b ≡ step f b
-  by_items_step f is b =
-      is b
-      ∙ by_short (within (length b)) f b (λ j e q s. ap (λ n. within n q) e ∙ enough j (length q) q s (le_refl (length q)) ∙ sym (is q))
-
-text_same : (f g : List ℕ → List ℕ) (b c : List ℕ) (is_list : Bool) (r : Result (List ℕ) DecoderError) → map f (items b) ≡ map g (items c)
-    → framed_text f b is_list r ≡ framed_text g c is_list r
-text_same f g b c true (Ok v) same = ap (λ ts. codes "[" ++ separated ts ++ codes "]") same
-text_same f g b c is_list r same = refl
+  by_items_step f is b = grind (arith, by_short, enough)
 
 text_step_same : (f g : List ℕ → List ℕ) (b : List ℕ) → map f (items b) ≡ map g (items b) → text_by f b ≡ text_by g b
-text_step_same f g [] same = refl
-text_step_same f g (first ∷ rest) same = text_same f g (first ∷ rest) (first ∷ rest) (begins_as_list (first ∷ rest)) (value (first ∷ rest)) same
+text_step_same f g b same = grind arith
 
 -- the text of b, by the texts of its items
 pub text_is : (b : List ℕ) → text b ≡ text_by text b
 unfolding text
 text_is b = by_items_step (List ℕ) [] text_by text_step_same text (λ b. refl) b
 
-depth_same : (f g : List ℕ → ℕ) (b c : List ℕ) (is_list : Bool) (r : Result (List ℕ) DecoderError) → map f (items b) ≡ map g (items c)
-    → framed_depth f b is_list r ≡ framed_depth g c is_list r
-depth_same f g b c true (Ok v) same = ap (λ ds. suc (greatest ds)) same
-depth_same f g b c is_list r same = refl
-
 depth_step_same : (f g : List ℕ → ℕ) (b : List ℕ) → map f (items b) ≡ map g (items b) → depth_by f b ≡ depth_by g b
-depth_step_same f g b same = depth_same f g b b (begins_as_list b) (value b) same
+depth_step_same f g b same = grind arith
 
 -- the depth of b, by the depths of its items
 pub depth_is : (b : List ℕ) → depth b ≡ depth_by depth b
@@ -177,31 +101,17 @@ depth_is b = by_items_step ℕ 0 depth_by depth_step_same depth (λ b. refl) b
 
 greatest_from : (a : ℕ) (xs : List Item) → fold max a (map item_depth xs) ≡ max a (items_depth (items_from xs))
 greatest_from a [] = omega arith
-greatest_from a (x ∷ xs) =
-    let below : fold max (max a (item_depth x)) (map item_depth xs) ≡ max (max a (item_depth x)) (items_depth (items_from xs)) =
-    greatest_from (max a (item_depth x)) xs in
-    let turned : max (max a (item_depth x)) (items_depth (items_from xs)) ≡ max a (max (item_depth x) (items_depth (items_from xs))) = omega arith in
-    below ∙ turned
-
-plain : (b : List ℕ) (r : Result (List ℕ) DecoderError) → framed_depth depth b false r ≡ 0
-plain b (Err e) = refl
-plain b (Ok v) = refl
+greatest_from a (x ∷ xs) = grind (arith, greatest_from (max a (item_depth x)) xs)
 
 -- a string has depth 0
 pub depth-string : (b : List ℕ) → begins_as_list b ≡ false → depth b ≡ 0
-depth-string b kind = depth_is b ∙ ap (λ l. framed_depth depth b l (value b)) kind ∙ plain b (value b)
+depth-string b kind = grind (arith, depth_is)
 
 list_depth : (xs : List Item) (b : List ℕ) → IsSized (list_of xs) → BeginsWith b (encoding (list_of xs))
     → map depth (map encoding xs) ≡ map item_depth xs → depth b ≡ suc (items_depth (items_from xs))
 list_depth xs b h begins same =
     let (is_list, is_value) = list_shape xs b h begins in
-    depth_is b
-    ∙ ap (λ l. framed_depth depth b l (value b)) is_list
-    ∙ ap (framed_depth depth b true) is_value
-    ∙ ap (λ fs. suc (greatest (map depth fs))) (items_of_list xs b h begins).0
-    ∙ ap (λ ns. suc (greatest ns)) same
-    ∙ ap suc (greatest_from 0 xs)
-    ∙ ap suc (let none : max 0 (items_depth (items_from xs)) ≡ items_depth (items_from xs) = omega arith in none)
+    grind (arith, depth_is, items_of_list, greatest_from)
 
 mutual
   -- the depth of an item's encoding is the depth of the item
@@ -231,62 +141,47 @@ separator_after (t ∷ ts) = codes ", "
 separated-more : (ts : List (List ℕ)) (t : List ℕ) → separated ts ++ (separator_after ts ++ t) ≡ separated (ts ++ t ∷ [])
 separated-more [] t = refl
 separated-more (u ∷ []) t = sym (append_assoc u (codes ", ") t)
-separated-more (u ∷ v ∷ ts) t =
-    append_assoc (u ++ codes ", ") (separated (v ∷ ts)) (codes ", " ++ t)
-    ∙ ap (λ s. (u ++ codes ", ") ++ s) (separated-more (v ∷ ts) t)
+separated-more (u ∷ v ∷ ts) t = grind (arith, append_assoc, separated-more (v ∷ ts) t)
 
 -- after some text, a comma and a space are written before the next item
 pub separator_after-more : (ts : List (List ℕ)) (t : List ℕ) → codes ", " ≡ separator_after (ts ++ t ∷ [])
-separator_after-more [] t = refl
-separator_after-more (u ∷ ts) t = refl
+separator_after-more ts t = grind (arith, common_steps)
 
 separator_after-map : (done : List (List ℕ)) → separator_after (map text done) ≡ separator_after done
-separator_after-map [] = refl
-separator_after-map (b ∷ done) = refl
+separator_after-map done = grind arith
 
 -- one more item is written, after its separator
 pub texts-more : (done : List (List ℕ)) (b separator : List ℕ) → separator ≡ separator_after done
     → separated (map text done) ++ (separator ++ text b) ≡ separated (map text (done ++ b ∷ []))
-texts-more done b separator e =
-    ap (λ s. separated (map text done) ++ (s ++ text b)) (e ∙ sym (separator_after-map done))
-    ∙ separated-more (map text done) (text b)
-    ∙ ap separated (sym (map-append text done (b ∷ [])))
+texts-more done b separator e = grind (arith, separator_after-map, separated-more, map-append)
 
 -- ---- the text of each kind of bytes
 
 -- bytes that aren't empty have a first byte
 pub length-some : (b : List ℕ) → (b ≡ [] → IsTrue false) → 0 < length b
-length-some [] other = absurd (false≢true (other refl))
-length-some (first ∷ more) other = omega arith
+length-some b other = grind (arith, common_steps)
 
 -- bytes that have a value aren't empty
 pub length-framed : (b v : List ℕ) → value b ≡ Ok v → 0 < length b
 unfolding value framing header
-length-framed [] v is = absurd (let no : ⊥ = cc in no)
-length-framed (first ∷ more) v is = omega arith
+length-framed b v is = grind arith
 
 -- the text of no bytes
 pub text-null : (b : List ℕ) → b ≡ [] → codes "null" ≡ text b
 text-null b e = sym (ap text e ∙ text_is [])
 
-text-some : (b : List ℕ) → 0 < length b → text b ≡ framed_text text b (begins_as_list b) (value b)
-text-some [] l = absurd (omega arith)
-text-some (first ∷ more) l = text_is (first ∷ more)
-
 -- the text of bytes that have a fault is its name
 pub text-fault : (b : List ℕ) (e : DecoderError) → 0 < length b → value b ≡ Err e → error_name e ≡ text b
-text-fault b e l is = sym (text-some b l ∙ ap (framed_text text b (begins_as_list b)) is)
+text-fault b e l is = grind (arith, text_is)
 
 -- the text of a string is its digits in quotes
 pub text-string : (b v : List ℕ) → 0 < length b → begins_as_list b ≡ false → value b ≡ Ok v → codes "\"0x" ++ encode_lower v ++ codes "\"" ≡ text b
-text-string b v l kind is = sym (text-some b l ∙ ap (λ k. framed_text text b k (value b)) kind ∙ ap (framed_text text b false) is)
+text-string b v l kind is = grind (arith, text_is)
 
 -- the text of a list is that of its items in brackets
 pub text-list : (b v : List ℕ) (done : List (List ℕ)) → 0 < length b → begins_as_list b ≡ true → value b ≡ Ok v → done ≡ items b
     → codes "[" ++ separated (map text done) ++ codes "]" ≡ text b
-text-list b v done l kind is all =
-    ap (λ bs. codes "[" ++ separated (map text bs) ++ codes "]") all
-    ∙ sym (text-some b l ∙ ap (λ k. framed_text text b k (value b)) kind ∙ ap (framed_text text b true) is)
+text-list b v done l kind is all = grind (arith, text_is)
 
 -- ---- an item is shorter than its list
 
@@ -312,30 +207,14 @@ item-shorter (first ∷ rest) item done more e =
 pub depth-fault : (b : List ℕ) (e : DecoderError) → value b ≡ Err e → depth b ≡ 0
 depth-fault b e is = depth_is b ∙ ap (framed_depth depth b (begins_as_list b)) is
 
--- the depth of a list is 1 more than the greatest depth of its items
-pub depth-list : (b v : List ℕ) → begins_as_list b ≡ true → value b ≡ Ok v → depth b ≡ suc (greatest (map depth (items b)))
-depth-list b v kind is = depth_is b ∙ ap (λ k. framed_depth depth b k (value b)) kind ∙ ap (framed_depth depth b true) is
-
 max-grows : (ns : List ℕ) (a : ℕ) → a ≤ fold max a ns
 max-grows [] a = omega arith
 max-grows (n ∷ ns) a = omega (arith, max-grows ns (max a n))
 
-max-has : (ns more : List ℕ) (a n : ℕ) → n ≤ fold max a (ns ++ n ∷ more)
-max-has [] more a n = omega (arith, max-grows more (max a n))
-max-has (m ∷ ns) more a n = max-has ns more (max a m) n
-
--- an item is no deeper than the deepest
-pub greatest-has : (done more : List (List ℕ)) (b : List ℕ) → depth b ≤ greatest (map depth (done ++ b ∷ more))
-greatest-has done more b = subst (λ ns. depth b ≤ greatest ns) (sym (map-append depth done (b ∷ more))) (max-has (map depth done) (map depth more) 0 (depth b))
-
-max-bounded : (ns : List ℕ) (a n limit : ℕ) → fold max a ns ≤ limit → n ≤ limit → fold max a (ns ++ n ∷ []) ≤ limit
-max-bounded [] a n limit l k = omega arith
-max-bounded (m ∷ ns) a n limit l k = max-bounded ns (max a m) n limit l k
-
 -- one more item is within the limit too
 pub greatest-more : (done : List (List ℕ)) (b : List ℕ) (limit : ℕ) → greatest (map depth done) ≤ limit → depth b ≤ limit
     → greatest (map depth (done ++ b ∷ [])) ≤ limit
-greatest-more done b limit l k = subst (λ ns. greatest ns ≤ limit) (sym (map-append depth done (b ∷ []))) (max-bounded (map depth done) 0 (depth b) limit l k)
+greatest-more done b limit l k = grind (arith, nat_tests, common_steps, map-append)
 
 -- ---- whether b is nested within the limit
 
@@ -345,25 +224,19 @@ shallow-other b limit none = (λ _. omega arith, λ _. refl)
 
 -- a list isn't nested within the limit 0
 pub deep-list : (b v : List ℕ) (limit : ℕ) → begins_as_list b ≡ true → value b ≡ Ok v → limit ≡ 0 → IsTrue false ↔ (depth b ≤ limit)
-deep-list b v limit kind is none = let one = depth-list b v kind is in (λ h. absurd (false≢true h), λ h. absurd (omega arith))
+deep-list b v limit kind is none = grind (arith, false≢true, depth_is)
 
 -- a list isn't nested within a limit if one of its items isn't within 1 less
 pub deep-item : (b v item : List ℕ) (limit : ℕ) (done more : List (List ℕ)) → begins_as_list b ≡ true → value b ≡ Ok v → done ++ item ∷ more ≡ items b
     → limit - 1 < depth item
     → IsTrue false ↔ (depth b ≤ limit)
-deep-item b v item limit done more kind is all deep =
-    let one = depth-list b v kind is in
-    let has : depth item ≤ greatest (map depth (items b)) = subst (λ bs. depth item ≤ greatest (map depth bs)) all (greatest-has done more item) in
-    (λ h. absurd (false≢true h), λ h. absurd (omega arith))
+deep-item b v item limit done more kind is all deep = grind (arith, common_steps, max-grows, depth_is)
 
 -- a list is nested within a limit if its items are within 1 less
 pub shallow-list : (b v : List ℕ) (limit : ℕ) (done : List (List ℕ)) → begins_as_list b ≡ true → value b ≡ Ok v → 0 < limit → done ≡ items b
     → greatest (map depth done) ≤ limit - 1
     → IsTrue true ↔ (depth b ≤ limit)
-shallow-list b v limit done kind is some all shallow =
-    let one = depth-list b v kind is in
-    let below : greatest (map depth (items b)) ≤ limit - 1 = subst (λ bs. greatest (map depth bs) ≤ limit - 1) all shallow in
-    (λ _. omega arith, λ _. refl)
+shallow-list b v limit done kind is some all shallow = grind (arith, depth_is)
 
 -- the items of a list, by its value
 pub items-list : (b v : List ℕ) → begins_as_list b ≡ true → value b ≡ Ok v → items b ≡ split v
@@ -389,8 +262,7 @@ done-all done all rest e s = sym (append-nil done) ∙ ap (λ bs. done ++ bs) (s
 -- a cut doesn't change the bytes
 pub all-cut : (done rest front after bytes : List ℕ) (n : ℕ) → front ≡ take n rest → after ≡ drop n rest → done ++ rest ≡ bytes
     → (done ++ front) ++ after ≡ bytes
-all-cut done rest front after bytes n f a e =
-    append_assoc done front after ∙ ap (λ bs. done ++ bs) (rw (f, a) (take-append-drop n rest)) ∙ e
+all-cut done rest front after bytes n f a e = grind (arith, append_assoc, take-append-drop)
 
 -- ---- bytes that follow a framed item don't change what is read from it
 
@@ -420,36 +292,19 @@ value-front p info bytes is =
     sym (value-followed (take (total_len info) p) (drop (total_len info) p) (frame_item p info.header_len info.value_len parts.0 parts.1))
     ∙ ap value (take-append-drop (total_len info) p)
 
-begins-followed : (f more : List ℕ) → 0 < length f → begins_as_list (f ++ more) ≡ begins_as_list f
-begins-followed [] more some = absurd (omega arith)
-begins-followed (first ∷ rest) more some = refl
-
 -- nor its items
 pub items-followed : (f more : List ℕ) → IsFramedItem f → items (f ++ more) ≡ items f
 unfolding items payload
-items-followed f more is =
-    ap (λ l. split (payload_in l (value (f ++ more)))) (begins-followed f more (item_some f is))
-    ∙ ap (λ v. split (payload_in (begins_as_list f) v)) (value-followed f more is)
-
-text_by-followed : (f more : List ℕ) → IsFramedItem f → 0 < length f → text_by text (f ++ more) ≡ text_by text f
-text_by-followed [] more is some = absurd (omega arith)
-text_by-followed (first ∷ rest) more is some =
-    let f = first ∷ rest in
-    text_same text text (f ++ more) f (begins_as_list f) (value (f ++ more)) (ap (map text) (items-followed f more is))
-    ∙ ap (λ v. framed_text text f (begins_as_list f) v) (value-followed f more is)
+items-followed f more is = grind (arith, item_some, value-followed)
 
 -- nor its text
 pub text-followed : (f more : List ℕ) → IsFramedItem f → text (f ++ more) ≡ text f
-text-followed f more is = text_is (f ++ more) ∙ text_by-followed f more is (item_some f is) ∙ sym (text_is f)
-
-depth_by-followed : (f more : List ℕ) → IsFramedItem f → depth_by depth (f ++ more) ≡ depth_by depth f
-depth_by-followed f more is =
-    ap (λ l. framed_depth depth (f ++ more) l (value (f ++ more))) (begins-followed f more (item_some f is))
-    ∙ depth_same depth depth (f ++ more) f (begins_as_list f) (value (f ++ more)) (ap (map depth) (items-followed f more is))
-    ∙ ap (λ v. framed_depth depth f (begins_as_list f) v) (value-followed f more is)
+text-followed f more is = grind (arith, text_is, items-followed, value-followed, item_some)
 
 -- nor its depth
 pub depth-followed : (f more : List ℕ) → IsFramedItem f → depth (f ++ more) ≡ depth f
-depth-followed f more is = depth_is (f ++ more) ∙ depth_by-followed f more is ∙ sym (depth_is f)
+depth-followed f more is = grind (arith, depth_is, item_some, items-followed, value-followed)
 
 pub ruleset followed = (framing-followed, value-followed, items-followed, text-followed, depth-followed)
+
+pub ruleset nested = (depth-string, shallow-other, deep-list, deep-item, items-list, done-next)

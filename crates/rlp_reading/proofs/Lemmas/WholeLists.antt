@@ -1,19 +1,19 @@
 -- Bytes that are exactly one list, and the items of a view that holds a list.
-use Rattle.std.proofs.Common.{ltb-false, ◌≡◌, ℕ, ◌^◌, ◌<◌, ◌≤◌, true, List, [], ◌∷◌, ◌++◌, length, map, drop, refl, sym, ap, ◌∙◌, subst, arith, ltb}
-use Rattle.std.proofs.Common.{le_refl, append-nil, drop_at, Option, Some, None, Result, Ok, Err, append_assoc, length-append, Bool, false, IsTrue}
+use Rattle.std.proofs.Common.{◌≡◌, ℕ, ◌^◌, ◌<◌, ◌≤◌, true, List, [], ◌∷◌, ◌++◌, length, map, refl, sym, ap, ◌∙◌, subst, arith}
+use Rattle.std.proofs.Common.{le_refl, append-nil, drop_at, Some, None, Result, Ok, Err, append_assoc, length-append, Bool, false, IsTrue}
 use Rattle.std.proofs.{lemmas.Bool.{cond-true}, lemmas.List.{length-map}}
 use Rattle.std.proofs.{lemmas.List.Elements.{All-from_recursion, recursion_from_All}, lemmas.Simd.map-map}
 use Rattle.std.specs.List.{concat, slice_get, AllByRecursion}
-use Rattle.rlp_format.specs.Format.Encoding.{Item, list_of, AreBytes, encoding, join, IsSized, BeginsWith}
+use Rattle.rlp_format.specs.Format.Encoding.{Item, list_of, AreBytes, encoding, IsSized, BeginsWith}
 use Rattle.rlp_format.proofs.Lemmas.Encodings.{front_sized}
 use Rattle.rlp_reading.specs.declared.error.DecoderError.{DecoderError}
-use Rattle.rlp_reading.specs.declared.error.DecoderError.TheVariants.{RlpExpectedToBeList, RlpIsTooBig, RlpIsTooShort}
+use Rattle.rlp_reading.specs.declared.error.DecoderError.TheVariants.{RlpExpectedToBeList, RlpIsTooShort}
 use Rattle.rlp_reading.specs.declared.header.PayloadInfo.{PayloadInfo}
-use Rattle.rlp_reading.specs.Format.Framing.{framing, total_len, begins_as_list, items, payload, rest, split, split_within, fault_of_some, first_fault}
-use Rattle.rlp_reading.specs.Format.Framing.{strict_fault, strict_fault_in, strict_list_fault, HasHeader, header, payload_info, fault}
+use Rattle.rlp_reading.specs.Format.Framing.{framing, total_len, begins_as_list, items, payload, rest, split, fault_of_some, first_fault}
+use Rattle.rlp_reading.specs.Format.Framing.{strict_fault, strict_fault_in, strict_list_fault, HasHeader, header, fault}
 use Rattle.rlp_reading.specs.Views.View.{item_at, item_count, items_fault, strict_view_of, Holds, HoldsItem, View, item_views, list_fault}
 use Rattle.rlp_reading.proofs.Lemmas.Frames.{Frames, framing_reads, join_is, walk, encoding_item, framing_is, longer}
-use Rattle.rlp_reading.proofs.Lemmas.Views.{passed, not_failed, items_of_list, list_shape, payload_bytes, strict_fault-encoding, whole_by, payload_short}
+use Rattle.rlp_reading.proofs.Lemmas.Views.{items_of_list, list_shape, payload_bytes, strict_fault-encoding, whole_by, payload_short}
 use Rattle.rlp_reading.proofs.Lemmas.Numbered.{item_count-told, item_at-in_order, item_at-past, length-views, slice_get-middle}
 use Rattle.rlp_reading.proofs.{Lemmas.Reading.{front_bytes, back_bytes, Bytes}, Lemmas.StringsHeld.held_begins}
 
@@ -25,12 +25,7 @@ record IsFramedWhole (b : List ℕ) : Type 0 where
   all : length b ≤ total_len info
 
 framed_whole : (b : List ℕ) (r : Result PayloadInfo DecoderError) → framing b ≡ r → strict_fault_in b r ≡ None → IsFramedWhole b
-framed_whole b (Err e) is none = absurd (let no : ⊥ = cc in no)
-framed_whole b (Ok p) is none = record {
-  info = p;
-  framed = is;
-  all = ltb-false _ _ (not_failed (ltb (total_len p) (length b)) RlpIsTooBig none);
-}
+framed_whole b r is none = grind arith
 
 -- the conditions under which a list is whole
 pub record IsWholeList (b : List ℕ) : Type 0 where
@@ -38,30 +33,16 @@ pub record IsWholeList (b : List ℕ) : Type 0 where
   pub framed : strict_fault b ≡ None
   pub none_left : rest b ≡ []
 
-first_none : (o p : Option DecoderError) → first_fault o p ≡ None → (o ≡ None) × (p ≡ None)
-first_none None p is = (refl, is)
-first_none (Some e) p is = absurd (let no : ⊥ = cc in no)
-
-no_bytes_by : (p : List ℕ) → fault_of_some p ≡ None → p ≡ []
-no_bytes_by [] is = refl
-no_bytes_by (byte ∷ more) is = absurd (let no : ⊥ = cc in no)
-
 pub whole_parts : (b : List ℕ) → strict_list_fault b ≡ None → IsWholeList b
 unfolding strict_list_fault
-whole_parts b is =
-    let parts = passed (begins_as_list b) (first_fault (strict_fault b) (fault_of_some (rest b))) RlpExpectedToBeList is in
-    let both = first_none (strict_fault b) (fault_of_some (rest b)) parts.1 in
-    record { kind = parts.0; framed = both.0; none_left = no_bytes_by (rest b) both.1 }
+whole_parts b is = grind arith
 
 -- the payload is the items and the bytes that follow them
 pub payload_parts : (b : List ℕ) → AreBytes b → payload b ≡ concat (items b) ++ rest b
 unfolding items split rest
 payload_parts b bytes =
     let w = walk (length (payload b)) (payload b) (payload_bytes b bytes) (le_refl (length (payload b))) in
-    let fs = split_within (length (payload b)) (payload b) in
-    w.is ∙ ap (λ s. concat (split_within (length (payload b)) (payload b)) ++ s)
-    (sym (ap (drop (length (concat (split_within (length (payload b)) (payload b))))) w.is
-    ∙ drop_at (concat (split_within (length (payload b)) (payload b))) w.left (length (concat (split_within (length (payload b)) (payload b)))) refl))
+    grind (arith, drop_at)
 
 -- a whole list whose items are encodings is the encoding of the list of these items
 pub whole_list : (b : List ℕ) (xs : List Item) → AreBytes b → strict_list_fault b ≡ None → items b ≡ map encoding xs → b ≡ encoding (list_of xs)
@@ -70,9 +51,7 @@ whole_list b xs bytes is same =
     let parts = whole_parts b is in
     let w = framed_whole b (framing b) refl parts.framed in
     let (has, within) = subst (Frames b) w.framed (framing_reads b bytes) in
-    let joined : payload b ≡ join xs = payload_parts b bytes ∙ ap (λ r. concat (items b) ++ r) parts.none_left ∙ append-nil (concat (items b)) ∙ ap concat same
-    ∙ sym (join_is xs) in
-    whole_by b w.info.header_len w.info.value_len xs parts.kind joined has (let all = w.all in omega arith)
+    grind (arith, payload_parts, append-nil, join_is, whole_by)
 
 -- ---- the encoding of a list is a whole list
 
@@ -115,8 +94,7 @@ all_parts (f ∷ fs) left bytes small =
 pub item_parts : (b : List ℕ) → AreBytes b → length b < 2 ^ 64 → AllByRecursion IsPart (items b)
 item_parts b bytes fits =
     let whole : payload b ≡ concat (items b) ++ rest b = payload_parts b bytes in
-    let held : Bytes (payload b) = recursion_from_All (λ byte. byte < 2 ^ 8) (payload b) (payload_bytes b bytes) in
-    all_parts (items b) (rest b) (subst Bytes whole held) (omega (arith, ap length whole, payload_short b))
+    grind (arith, recursion_from_All, payload_bytes, all_parts, payload_short)
 
 -- ---- the items by number of a view, lenient or strict, and of one that holds the encoding of a list
 
@@ -132,10 +110,7 @@ unfolding strict_fault
 past_by false b i strict none past = absurd (let no : ⊥ = cc in no)
 past_by true b i strict none past =
     let parts = whole_parts b none in
-    let w = framed_whole b (framing b) refl parts.framed in
-    item_at-past (record { bytes = b; is_strict = true }) i w.info (strict_told b parts.kind none) w.framed
-    (omega (arith, past, length-views (record { bytes = b; is_strict = true })))
-    ∙ ap (λ r. Err (fault r)) parts.none_left ∙ ap Err no_bytes_short
+    grind (arith, whole_parts, framed_whole, item_at-past, strict_told, length-views, no_bytes_short)
 
 -- no bytes follow the items of a strict view that can be read as a list
 pub strict_past : (v : View) (i : ℕ) → IsTrue v.is_strict → list_fault v ≡ None → length (item_views v) ≤ i → item_at v i ≡ Err RlpIsTooShort
@@ -145,8 +120,7 @@ strict_past v i strict none past = past_by v.is_strict v.bytes i strict none pas
 
 no_fault_by : (strict : Bool) (b : List ℕ) (xs : List Item) → IsSized (list_of xs) → Holds strict b (encoding (list_of xs))
     → list_fault (record { bytes = b; is_strict = strict }) ≡ None
-no_fault_by false b xs sized holds = refl
-no_fault_by true b xs sized holds = strict_list_fault-encoding xs b sized holds
+no_fault_by strict b xs sized holds = grind (arith, strict_list_fault-encoding)
 
 module _ (v : View) (xs : List Item) (fits : length v.bytes < 2 ^ 64) (holds : HoldsItem v (list_of xs)) where
   begins : BeginsWith v.bytes (encoding (list_of xs))
@@ -164,11 +138,9 @@ module _ (v : View) (xs : List Item) (fits : length v.bytes < 2 ^ 64) (holds : H
   framed : (p : PayloadInfo) × (framing v.bytes ≡ Ok p)
   framed =
       let item = encoding_item (list_of xs) sized in
-      let header : HasHeader v.bytes item.header_len item.value_len = subst (λ b. HasHeader b item.header_len item.value_len) (sym begins.1) (longer begins.0 item.has_header) in (
-        payload_info item.header_len item.value_len,
-        framing_is v.bytes item.header_len item.value_len header
-            (omega (arith, item.whole, ap length begins.1, length-append (encoding (list_of xs)) begins.0)),
-      )
+      let header : HasHeader v.bytes item.header_len item.value_len =
+      subst (λ b. HasHeader b item.header_len item.value_len) (sym begins.1) (longer begins.0 item.has_header) in
+      grind (arith, framing_is, length-append)
 
   pub held_count : item_count v ≡ Ok (length xs)
   held_count = item_count-told v told ∙ ap (λ fs. Ok (length fs)) (items_of_list xs v.bytes sized begins).0 ∙ ap Ok (length-map xs encoding)
@@ -179,9 +151,7 @@ module _ (v : View) (xs : List Item) (fits : length v.bytes < 2 ^ 64) (holds : H
   pub held_past : (i : ℕ) → length xs ≤ i → item_at v i ≡ Err RlpIsTooShort
   held_past i past =
       let left = items_of_list xs v.bytes sized begins in
-      let (p, is) = framed in
-      item_at-past v i p told is (omega (arith, past, ap length left.0, length-map xs encoding))
-      ∙ ap (λ r. Err (fault r)) left.1 ∙ ap Err no_bytes_short
+      grind (arith, framed, item_at-past, told, length-map, no_bytes_short)
 
 pub held_at : (v : View) (before after : List Item) (x : Item) → length v.bytes < 2 ^ 64 → HoldsItem v (list_of (before ++ x ∷ after))
     → item_at v (length before) ≡ Ok (record v { bytes = encoding x })

@@ -1,17 +1,18 @@
 -- Bytes that are and aren't the encoding of an item within a depth, and their first fault.
-use Rattle.std.proofs.Common.{◌≡◌, ℕ, suc, ◌-◌, ◌^◌, ◌<◌, ◌≤◌, ◌↔◌, Bool, true, false, List, [], ◌∷◌, ◌++◌, length, map, refl, sym, ap, ◌∙◌, subst}
-use Rattle.std.proofs.{Common.{arith, append-nil, IsTrue, Some, None, ◌≢◌, zero, Option}, lemmas.Bool.{cond-true, cond-false}}
+use Rattle.std.proofs.lemmas.List.{drop-set-lt}
+use Rattle.std.proofs.Common.{◌≡◌, ℕ, ◌-◌, ◌^◌, ◌<◌, ◌≤◌, ◌↔◌, Bool, true, false, List, [], ◌∷◌, ◌++◌, length, refl, sym, ap, ◌∙◌, subst}
+use Rattle.std.proofs.{Common.{arith, append-nil, IsTrue, Some, None, ◌≢◌, Option}, lemmas.Bool.{cond-true, cond-false}}
 use Rattle.rlp_format.specs.Format.Encoding.{Item, Items, string, list, listed, list_of, item_depth, items_depth, encoding, join, IsSized}
 use Rattle.rlp_format.proofs.Lemmas.Encodings.{items_from-listed}
 use Rattle.rlp_reading.specs.declared.error.DecoderError.{DecoderError}
-use Rattle.rlp_reading.specs.Format.Framing.{begins_as_list, payload, split, IsCanonicalWithin, strict_fault, fault, after_items, fault_of_some}
+use Rattle.rlp_reading.specs.Format.Framing.{begins_as_list, payload, split, IsCanonicalWithin, strict_fault, fault}
 use Rattle.rlp_reading.specs.{declared.error.DecoderError.TheVariants.RlpInvalidIndirection, declared.flat.TreeFault.TreeFault}
 use Rattle.rlp_reading.specs.declared.flat.TreeFault.TheVariants.{Decoding, TooDeep}
-use Rattle.rlp_reading.specs.Format.TreeFaults.{first_in, first_of, is_needless, payload_fault, needless_fault, tree_fault, walk_fault}
+use Rattle.rlp_reading.specs.Format.TreeFaults.{first_in, is_needless, payload_fault, needless_fault, tree_fault, walk_fault}
 use Rattle.rlp_reading.proofs.{Lemmas.Views.{payload_of_list, strict_fault-encoding}}
-use Rattle.rlp_reading.proofs.Lemmas.Numbered.{split-nil, after_items-next, after_items-nil, after_items-none, fault_of_some-some}
+use Rattle.rlp_reading.proofs.Lemmas.Numbered.{split-nil, after_items-next}
 use Rattle.rlp_reading.proofs.Lemmas.{Views.front_kind, WholeLists.whole_sized}
-use Rattle.std.proofs.{Common.{◌==◌, ltb, lt-ltb, ltb-true, Ok, Err}, lemmas.Bool.{and_parts, eqb-true}, lemmas.List.Elements.All-from_recursion}
+use Rattle.std.proofs.{Common.{ltb, lt-ltb, Ok, Err}, lemmas.List.Elements.All-from_recursion}
 use Rattle.std.specs.List.{AllByRecursion}
 use Rattle.rlp_format.specs.Format.Encoding.{item_and, no_items}
 use Rattle.rlp_format.proofs.Lemmas.Encodings.{AllSized, list_written, parts_sized}
@@ -19,8 +20,7 @@ use Rattle.rlp_reading.specs.Format.Framing.{read_string}
 use Rattle.rlp_reading.proofs.Lemmas.{Frames.split_join, Strings.string_only}
 
 pub not_whole : (b : List ℕ) (most : ℕ) (e : DecoderError) → length b < 2 ^ 64 → strict_fault b ≡ Some e → ¬ IsCanonicalWithin most b
-not_whole b most e fits some (x, whole, deep) =
-    let none : strict_fault b ≡ None = strict_fault-encoding x b (whole_sized x b fits whole) whole in cc
+not_whole b most e fits some canonical = grind (arith, strict_fault-encoding)
 
 pub refuted : {P : Type 0} → (P → ⊥) → IsTrue false ↔ P
 refuted none = (λ t. absurd (let no : ⊥ = cc in no), λ p. absurd (none p))
@@ -32,20 +32,15 @@ confirmed p = (λ t. p, λ q. refl)
 
 pub walk_fault-string : (left : ℕ) (f : List ℕ) → begins_as_list f ≡ false → walk_fault left f ≡ needless_fault f
 unfolding walk_fault
-walk_fault-string zero f kind = cond-false (begins_as_list f) _ _ kind
-walk_fault-string (suc left) f kind = cond-false (begins_as_list f) _ _ kind
+walk_fault-string left f kind = grind arith
 
 pub walk_fault-deep : (left : ℕ) (f : List ℕ) → begins_as_list f ≡ true → left ≡ 0 → walk_fault left f ≡ Some TooDeep
 unfolding walk_fault
-walk_fault-deep zero f kind none = cond-true (begins_as_list f) _ _ kind
-walk_fault-deep (suc left) f kind none = absurd (omega (arith, none))
+walk_fault-deep left f kind none = grind arith
 
 pub walk_fault-list : (left : ℕ) (f : List ℕ) → begins_as_list f ≡ true → left ≢ 0 → walk_fault left f ≡ payload_fault (walk_fault (left - 1)) (payload f)
 unfolding walk_fault
-walk_fault-list zero f kind some = absurd (some refl)
-walk_fault-list (suc left) f kind some =
-    cond-true (begins_as_list f) _ _ kind
-    ∙ ap (λ n. payload_fault (walk_fault n) (payload f)) (let same : left ≡ suc left - 1 = omega arith in same)
+walk_fault-list left f kind some = grind arith
 
 pub needless_fault-none : (f : List ℕ) → is_needless f ≡ false → needless_fault f ≡ None
 needless_fault-none f is = cond-false (is_needless f) _ _ is
@@ -56,33 +51,22 @@ needless_fault-some f is = cond-true (is_needless f) _ _ is
 -- ---- the items of a payload
 
 module _ (item_fault : List ℕ → Option TreeFault) (rest item others : List ℕ) (parts : split rest ≡ item ∷ split others) where
-  first_is : payload_fault item_fault rest ≡ first_of (item_fault item ∷ map item_fault (split others)) (fault_of_some (after_items rest))
-  first_is = ap (λ fs. first_of (map item_fault fs) (fault_of_some (after_items rest))) parts
-
   -- an item without a fault
   pub payload_fault-next : rest ≡ item ++ others → item_fault item ≡ None → payload_fault item_fault rest ≡ payload_fault item_fault others
-  payload_fault-next whole none =
-      first_is ∙ ap (λ o. first_of (o ∷ map item_fault (split others)) (fault_of_some (after_items rest))) none
-      ∙ ap (λ p. first_of (map item_fault (split others)) (fault_of_some p)) (after_items-next rest item others parts whole)
+  payload_fault-next whole none = grind (arith, after_items-next)
 
   -- an item with a fault
   pub payload_fault-item : (e : TreeFault) → item_fault item ≡ Some e → payload_fault item_fault rest ≡ Some e
-  payload_fault-item e some = first_is ∙ ap (λ o. first_of (o ∷ map item_fault (split others)) (fault_of_some (after_items rest))) some
+  payload_fault-item e some = grind arith
 
 -- bytes that aren't an item
 pub payload_fault-stray : (item_fault : List ℕ → Option TreeFault) (rest : List ℕ) → split rest ≡ [] → 0 < length rest
     → payload_fault item_fault rest ≡ Some (Decoding (fault rest))
-payload_fault-stray item_fault rest none some =
-    ap (λ fs. first_of (map item_fault fs) (fault_of_some (after_items rest))) none
-    ∙ ap (λ p. first_of [] (fault_of_some p)) (after_items-none rest none)
-    ∙ ap (first_of []) (fault_of_some-some rest some)
+payload_fault-stray item_fault rest none some = grind arith
 
 -- no bytes
 pub payload_fault-none : (item_fault : List ℕ → Option TreeFault) (rest : List ℕ) → rest ≡ [] → payload_fault item_fault rest ≡ None
-payload_fault-none item_fault rest none =
-    ap (payload_fault item_fault) none
-    ∙ ap (λ fs. first_of (map item_fault fs) (fault_of_some (after_items []))) split-nil
-    ∙ ap (λ p. first_of [] (fault_of_some p)) after_items-nil
+payload_fault-none item_fault rest none = grind (arith, split-nil)
 
 -- ---- the whole
 
@@ -98,10 +82,7 @@ tree_fault-inside most b e whole is = ap (λ o. first_in o (walk_fault most b)) 
 
 -- a needless header stands in front of one byte
 needless_bytes : (b : List ℕ) → is_needless b ≡ true → (byte : ℕ) × (b ≡ 0x81 ∷ byte ∷ []) × (byte < 0x80)
-needless_bytes (first ∷ byte ∷ []) is =
-    let both = and_parts (first == 0x81) (ltb byte 0x80) is in
-    (byte, ap (λ k. k ∷ byte ∷ []) (eqb-true first 0x81 both.0), ltb-true byte 0x80 both.1)
-needless_bytes b is = absurd (let none : ⊥ = cc in none)
+needless_bytes b is = grind arith
 
 needless_unread : (byte : ℕ) → byte < 0x80 → read_string (0x81 ∷ byte ∷ []) ≡ Err RlpInvalidIndirection
 unfolding read_string
@@ -150,3 +131,5 @@ mutual
 pub fault_refutes : (most : ℕ) (b : List ℕ) (e : TreeFault) → length b < 2 ^ 64 → walk_fault most b ≡ Some e → ¬ IsCanonicalWithin most b
 fault_refutes most b e fits fault (x, is, deep) =
     let none : walk_fault most b ≡ None = ap (walk_fault most) is ∙ walk_fault-encoding most x (whole_sized x b fits is) deep in cc
+
+pub ruleset puts = (drop-set-lt)

@@ -1,13 +1,14 @@
 -- Strings with and without a needless header.
-use Rattle.std.proofs.Common.{◌≡◌, ℕ, ◌+◌, ◌^◌, ◌<◌, ◌≤◌, List, ◌++◌, length, take, drop, refl, sym, ap, ◌∙◌, ⊎_elim, Ok, Result, append_assoc, take_at}
-use Rattle.std.proofs.Common.{drop_at, length-append, arith, Bool, inl, inr, true, false, [], ◌∷◌, subst, None, append-nil, lt-ltb}
+use Rattle.std.proofs.Common.{◌≡◌, ℕ, ◌+◌, ◌^◌, ◌<◌, ◌≤◌, List, ◌++◌, length, take, drop, refl, sym, ap, ◌∙◌, Ok, Result, append_assoc, take_at}
+use Rattle.std.proofs.Common.{drop_at, length-append, arith, true, false, None, append-nil, lt-ltb}
 use Rattle.std.proofs.{lemmas.Bool.{cases_Bool, cond-false, cond-true, lt-leb}}
 use Rattle.std.proofs.lemmas.List.{nil_from_length}
+use Rattle.std.proofs.lemmas.Grind.{common_steps}
 use Rattle.rlp_format.specs.Format.Encoding.{string, encoding, written_header, AreBytes, is_low_byte}
-use Rattle.rlp_format.proofs.{Lemmas.Encodings.{IsLone, IsWritten, front_sized, string_cases}, Lemmas.Headers.{shape, written_header_short}}
+use Rattle.rlp_format.proofs.{Lemmas.Encodings.{IsLone, IsWritten}, Lemmas.Headers.{shape, written_header_short}}
 use Rattle.rlp_reading.specs.{declared.error.DecoderError.DecoderError, declared.header.PayloadInfo.PayloadInfo}
 use Rattle.rlp_reading.specs.Format.Framing.{lone, written, header, payload_info, IsString, HasHeader, IsFramedItem, framing, value, begins_as_list}
-use Rattle.rlp_reading.specs.{Format.Framing.{strict_fault}, Views.View.{View, Holds, HoldsString, view_string}}
+use Rattle.rlp_reading.specs.{Format.Framing.{strict_fault}, Views.View.{View, HoldsString, view_string}}
 use Rattle.rlp_reading.specs.Format.TreeFaults.{is_needless}
 use Rattle.rlp_reading.proofs.{Lemmas.Reading.read, Lemmas.Frames.{framing_is, value_is}, Lemmas.StringsHeld.held_only}
 use Rattle.rlp_reading.proofs.Lemmas.Fronts as fronts
@@ -44,11 +45,7 @@ written_placed b d e more w is =
 
 pub string_placed : (b d : List ℕ) → length b < 2 ^ 64 → IsString b d → IsPlaced b d
 unfolding encoding
-string_placed b d fits (more, is) =
-    ⊎_elim
-    (λ (low, same). lone_placed b d more low (is ∙ ap (λ s. s ++ more) same))
-    (λ w. written_placed b d (encoding (string d)) more w is)
-    (string_cases d (front_sized (string d) b more fits is))
+string_placed b d fits is = grind (arith, common_steps, lone_placed, written_placed)
 
 pub Ok_same : {p q : PayloadInfo} → (let r : Result PayloadInfo DecoderError = Ok p in r) ≡ Ok q → p ≡ q
 Ok_same e = cc
@@ -62,12 +59,7 @@ pub record IsWhole (b : List ℕ) (p : PayloadInfo) (c : List ℕ) : Type 0 wher
   pub content : c ≡ take p.value_len (drop p.header_len b)
 
 pub whole_item : {b : List ℕ} {p : PayloadInfo} {c : List ℕ} → IsFramedItem b → framing b ≡ Ok p → value b ≡ Ok c → IsWhole b p c
-whole_item {b} {p} {c} framed is found =
-    let within : framed.header_len + framed.value_len ≤ length b = omega (arith, framed.whole) in
-    let same : payload_info framed.header_len framed.value_len ≡ p = Ok_same (sym (framing_is b framed.header_len framed.value_len framed.has_header within) ∙ is) in
-    let there : c ≡ take framed.value_len (drop framed.header_len b) =
-    (let same = sym found ∙ value_is b framed.header_len framed.value_len framed.has_header within in cc) in
-    subst (λ q. IsWhole b q c) same (record { has = framed.has_header; whole = framed.whole; content = there })
+whole_item {b} {p} {c} framed is found = grind (arith, framing_is, value_is)
 
 pub low_again : (c : List ℕ) → is_low_byte c ≡ true → encoding (string c) ≡ c
 unfolding encoding
@@ -78,41 +70,26 @@ unfolding encoding
 high_written c high = cond-false (is_low_byte c) c (written_header 0x80 (length c) ++ c) high
 
 string_base : (base n : ℕ) (rest : List ℕ) → IsBase base → n < 2 ^ 64 → false ≡ begins_as_list (written_header base n ++ rest) → base ≡ 0x80
-string_base base n rest (inl is) small kind = is
-string_base base n rest (inr is) small kind =
-    let no : false ≡ true = kind ∙ ap (λ k. begins_as_list (written_header k n ++ rest)) is ∙ list_header_first n rest small in absurd (let none : ⊥ = cc in none)
+string_base base n rest is_base small kind = grind (arith, list_header_first)
 
 -- a header in front of a byte that is its own encoding is needless
 needless_low : (c : List ℕ) → is_low_byte c ≡ true → is_needless (written_header 0x80 (length c) ++ c) ≡ true
-needless_low (byte ∷ []) low = ap (λ h. is_needless (h ++ byte ∷ [])) (written_header_short 0x80 1 (omega arith)) ∙ low
-needless_low c low = absurd (let no : ⊥ = cc in no)
+needless_low c low = grind (arith, written_header_short)
 
 -- a framed string without a needless header is the encoding of its content
 string_form : {b : List ℕ} {h n : ℕ} (c : List ℕ) → HasHeader b h n → h + n ≡ length b → false ≡ begins_as_list b → c ≡ take n (drop h b)
     → is_needless b ≡ false → (b ≡ encoding (string c)) × (length c ≡ n)
 string_form c (lone byte rest low) whole kind content plain =
-    let none : rest ≡ [] = nil_from_length rest (omega (arith, whole)) in
-    let same : c ≡ byte ∷ [] = content in
-    let is_low : is_low_byte c ≡ true = ap is_low_byte same ∙ lt-ltb byte 0x80 low in
-    (ap (λ r. byte ∷ r) none ∙ sym same ∙ sym (low_again c is_low), ap length same)
+    grind (arith, nil_from_length, lt-ltb, low_again)
 string_form c (written base n rest is_base small) whole kind content plain =
-    let len : length rest ≡ n = omega (arith, whole, length-append (written_header base n) rest) in
-    let same : c ≡ rest = content ∙ after_header base n rest len in
-    let headed : written_header base n ++ rest ≡ written_header 0x80 (length c) ++ c = ap (λ k. written_header k n ++ rest) (string_base base n rest is_base small kind)
-    ∙ ap (λ k. written_header 0x80 k ++ rest) (sym len) ∙ ap (λ s. written_header 0x80 (length s) ++ s) (sym same) in
-    let high : is_low_byte c ≡ false =
-    ⊎_elim (λ low. let no : true ≡ false = sym (ap is_needless headed ∙ needless_low c low) ∙ plain in absurd (let none : ⊥ = cc in none)) (λ f. f)
-    (cases_Bool (is_low_byte c)) in
-    (headed ∙ sym (high_written c high), ap length same ∙ len)
+    grind (arith, length-append, after_header, string_base, needless_low, cases_Bool, high_written)
 
 pub string_whole : {b : List ℕ} {p : PayloadInfo} {c : List ℕ} → IsWhole b p c → false ≡ begins_as_list b → is_needless b ≡ false
     → (b ≡ encoding (string c)) × (length c ≡ p.value_len)
 string_whole {c = c} w kind plain = string_form c w.has w.whole kind w.content plain
 
 list_form : {b : List ℕ} {h n : ℕ} → HasHeader b h n → true ≡ begins_as_list b → 0 < h
-list_form (lone byte rest low) kind =
-    let no : true ≡ false = kind ∙ lt-leb 0xc0 byte (omega (arith, low)) in
-    absurd (let none : ⊥ = cc in none)
+list_form (lone byte rest low) kind = grind (arith, lt-leb)
 list_form (written base n rest is_base small) kind = let s = shape base n small in omega (arith, ap length s.is)
 
 -- the header of a list has a byte
@@ -129,14 +106,10 @@ string_of_item b c bytes none is kind plain =
     let w = whole_item framed (framing_is b framed.header_len framed.value_len framed.has_header (omega (arith, framed.whole))) is in
     (string_whole w (sym kind) plain).0
 
-holds_whole : (is_strict : Bool) (b s : List ℕ) → b ≡ s → Holds is_strict b s
-holds_whole false b s is = ([], is ∙ sym (append-nil s))
-holds_whole true b s is = is
-
 -- a view of such a string holds the value
 pub item_held : (v : View) (c : List ℕ) → AreBytes v.bytes → strict_fault v.bytes ≡ None → value v.bytes ≡ Ok c → begins_as_list v.bytes ≡ false
     → is_needless v.bytes ≡ false → HoldsString v c
-item_held v c bytes none is kind plain = holds_whole v.is_strict v.bytes (encoding (string c)) (string_of_item v.bytes c bytes none is kind plain)
+item_held v c bytes none is kind plain = grind (arith, string_of_item, append-nil)
 
 -- the value is the string that is read
 pub item_string : (v : View) (c : List ℕ) → length v.bytes < 2 ^ 64 → AreBytes v.bytes → strict_fault v.bytes ≡ None → value v.bytes ≡ Ok c

@@ -124,6 +124,7 @@ fn chi(a: [u64; 25]) -> [u64; 25]
     chi_of_rows!(a: a0 a1 a2 a3 a4, a5 a6 a7 a8 a9, a10 a11 a12 a13 a14, a15 a16 a17 a18 a19, a20 a21 a22 a23 a24)
 }
 
+#[tactic(auto, using(crate::proofs::RoundConstants::constant_at), unfolding(crate::specs::Keccak::iota))]
 #[inline(always)]
 fn iota(mut a: [u64; 25], i: usize) -> [u64; 25]
     requires { i < 24 }
@@ -133,6 +134,7 @@ fn iota(mut a: [u64; 25], i: usize) -> [u64; 25]
     a
 }
 
+#[tactic(auto, unfolding(crate::specs::Keccak::round))]
 #[inline(always)]
 fn round(a: [u64; 25], i: usize) -> [u64; 25]
     requires { i < 24 }
@@ -142,6 +144,7 @@ fn round(a: [u64; 25], i: usize) -> [u64; 25]
 }
 
 // Keccak-f[1600].
+#[tactic(auto, using(crate::proofs::RoundConstants::rounds_next), unfolding(crate::specs::Keccak::rounds))]
 pub(crate) fn keccak_f(state: &mut [u64; 25])
     ensures { state.new ≡ keccak_f state.old }
 {

@@ -54,10 +54,14 @@ impl Line {
         }
     }
 
-    /// Notes what a call answered to a row if that isn't as wanted, as far as there is room.
+    /// Notes what a call answered to a row if that isn't as wanted, as far as there is room. Both are
+    /// told from shortly before where they differ.
     pub fn note(&mut self, call: &str, given: &str, answer: &str, want: &str) {
         if answer != want {
-            let (given, answer, want) = (front(given), front(answer), front(want));
+            let mut bytes = answer.bytes().zip(want.bytes());
+            let same = bytes.position(|(one, other)| one != other).unwrap_or(0);
+            let from = same.saturating_sub(40);
+            let (given, answer, want) = (part(given, 0), part(answer, from), part(want, from));
             let _ = write!(self, "{call} {given}: {answer}, and not {want}. ");
         }
     }
@@ -90,9 +94,10 @@ impl<'a> fmt::Debug for Hex<'a> {
     }
 }
 
-/// The front of a text, for a message.
-fn front(text: &str) -> &str {
-    text.get(..200).unwrap_or(text)
+/// Some of a text from a place on, for a message.
+fn part(text: &str, from: usize) -> &str {
+    let rest = text.get(from..).unwrap_or(text);
+    rest.get(..200).unwrap_or(rest)
 }
 
 /// The bytes of hexadecimal digits, in a buffer. No bytes if the text has another form, or if the

@@ -1,12 +1,11 @@
 -- The closed size is computed from the places of the open lists.
-use Rattle.std.proofs.Common.{◌≡◌, ℕ, ◌+◌, ◌-◌, ◌*◌, ◌^◌, ◌<◌, ◌≤◌, Bool, List, [], ◌∷◌, ◌++◌, length, take, drop, replicate, sym, ◌∙◌}
-use Rattle.std.proofs.{Common.{ap, subst, arith, append-nil, length-append, length-drop, ⊎_elim, suc}, lemmas.Bool.cases_lt}
-use Rattle.std.proofs.lemmas.List.{length-take-le, length-replicate}
+use Rattle.std.proofs.Common.{◌≡◌, ℕ, ◌+◌, ◌-◌, ◌*◌, ◌^◌, ◌<◌, ◌≤◌, Bool, List, [], ◌∷◌, ◌++◌, length, take, drop, replicate, ◌∙◌, ap, subst, arith}
+use Rattle.std.proofs.{Common.{append-nil, length-append, length-drop}, lemmas.Bool.cases_lt, lemmas.List.{length-take-le, length-replicate}}
 use Rattle.rlp_write.specs.declared.open_lists.Placeholder.{Placeholder}
 use Rattle.rlp_write.specs.Streams.Stream.{closed_payload_around, State, list_encoding, closed_size, closed_size_with}
 use Rattle.rlp_write.specs.{Streams.Placeholders.{begin_of, lists_of, IsLaid, Descends}, Streams.Closing.{header_len, closed_len, left_of}}
 use Rattle.rlp_write.specs.Streams.Layout.{state_of}
-use Rattle.rlp_format.specs.Format.Encoding.{big_endian, written_header}
+use Rattle.rlp_format.specs.Format.Encoding.{written_header}
 use Rattle.rlp_format.proofs.{Lemmas.Digits.big_endian_length, Lemmas.Headers.{written_header_short, written_header_long}}
 use Rattle.rlp_write.proofs.Streams.FlatBuffer.{start_le, laid_descends, left_behind}
 
@@ -48,37 +47,21 @@ pub record Measured (start end more : ℕ) (whole : List Placeholder) (left tail
 pub measured_more : (start end more : ℕ) (whole : List Placeholder) (left tail : ℕ) (p : Placeholder) (ps : List Placeholder) (len header : ℕ)
     → Measured start end more whole left tail (p ∷ ps) → len ≡ (left - (p.position + 1)) + tail → header ≡ header_len len
     → Measured start end more whole p.position (header + len) ps
-measured_more start end more whole left tail p ps len header h is written =
-    let order = h.order in
-    record {
-      size = h.size ∙ ap (λ n. closed_len start p.position (header_len n + n) ps) (sym is) ∙ ap (λ n. closed_len start p.position (n + len) ps) (sym written);
-      order = order.1;
-      lowest = h.lowest;
-    }
+measured_more start end more whole left tail p ps len header h is written = grind arith
 
 -- if a payload is too long, the size is
 pub measured_long : (start end more : ℕ) (whole : List Placeholder) (left tail : ℕ) (p : Placeholder) (ps : List Placeholder)
     → Measured start end more whole left tail (p ∷ ps) → (left - (p.position + 1)) + tail ≤ closed_len start end more whole
-measured_long start end more whole left tail p ps h =
-    let len : ℕ = (left - (p.position + 1)) + tail in
-    let around = closed_len_more start p.position (header_len len + len) ps in
-    omega (arith, h.size, around)
+measured_long start end more whole left tail p ps h = grind (arith, closed_len_more)
 
 -- the same, if the length of the header is computed
 pub measured_encoded : (start end more : ℕ) (whole : List Placeholder) (left tail : ℕ) (p : Placeholder) (ps : List Placeholder) (len header : ℕ)
     → Measured start end more whole left tail (p ∷ ps)
     → len ≡ (left - (p.position + 1)) + tail → header ≡ header_len len → header + len ≤ closed_len start end more whole
-measured_encoded start end more whole left tail p ps len header h is written =
-    let next = measured_more start end more whole left tail p ps len header h is written in
-    let around = closed_len_more start p.position (header + len) ps in
-    omega (arith, next.size, around)
+measured_encoded start end more whole left tail p ps len header h is written = grind (arith, measured_more, closed_len_more)
 
 header_few : (len : ℕ) → len < 2 ^ 64 → header_len len ≤ 9
-header_few len small =
-    ⊎_elim (λ long. let e : header_len len ≡ suc (length (big_endian len)) = ap length (written_header_long 0xc0 len long) in
-    omega (arith, big_endian_length len small))
-    (λ short. let e : header_len len ≡ 1 = ap length (written_header_short 0xc0 len short) in omega arith)
-    (cases_lt 55 len)
+header_few len small = grind (arith, written_header_long, big_endian_length, written_header_short, cases_lt)
 
 -- each header takes at most nine bytes, and its placeholder one
 pub closed_len_few : (start more : ℕ) (b : List ℕ) (ps : List Placeholder) → IsLaid start b ps → (length b - start) + 8 * length ps + more < 2 ^ 64
@@ -98,9 +81,7 @@ closed_len_few start more b (p ∷ ps) h small =
 -- so the size of a state is within a limit if that number of bytes is
 pub within_few : (start : ℕ) (b : List ℕ) (ps : List Placeholder) (m : Bool) (more limit : ℕ) → IsLaid start b ps → limit < 2 ^ 64
     → (length b - start) + 8 * length ps + more ≤ limit → closed_size_with more (state_of start b ps m) ≤ limit
-within_few start b ps m more limit h small few =
-    let size = closed_len_few start more b ps h (omega arith) in
-    omega (arith, size, closed_size_is start b ps m more h)
+within_few start b ps m more limit h small few = search (arith, closed_len_few, closed_size_is)
 
 -- the size once every list is measured
 pub measured_all : (start end more : ℕ) (whole : List Placeholder) (left tail : ℕ) (lists : List Placeholder)

@@ -1,14 +1,63 @@
 -- What closing does, step by step, and the state after counting.
-use Rattle.std.proofs.Common.{◌≡◌, ℕ, zero, suc, ◌+◌, ◌-◌, ◌*◌, ◌<◌, ◌≤◌, Bool, true, false, min, List, [], ◌∷◌, ◌++◌, length, take, drop, reverse}
-use Rattle.std.proofs.{Common.{get_or, set, Option, refl, sym, ◌∙◌, ap, arith, length-append, length-drop, ⊎_elim}, lemmas.Bool.{cases_lt, cond-true}}
-use Rattle.std.proofs.lemmas.List.{take-take, drop_at, drop-drop, drop-take, length-take-le, set_at}
-use Rattle.std.proofs.lemmas.List.{take-append-drop, reverse-append, length-reverse, get_or-reverse, set-append_left}
+use Rattle.std.proofs.Common.{◌≡◌, ℕ, zero, suc, ◌+◌, ◌-◌, ◌*◌, ◌<◌, ◌≤◌, Bool, true, min, List, [], ◌∷◌, ◌++◌, length, take, drop, reverse, get_or, length-set}
+use Rattle.std.proofs.Common.{set, Option, refl, sym, ◌∙◌, ap, arith, length-append, length-drop, take-append-drop}
+use Rattle.std.proofs.lemmas.Bool.{cases_lt, cond-true}
+use Rattle.std.proofs.lemmas.List.{take-take, drop_at, drop-drop, drop-take, length-take-le, set_at, take-append-drop, reverse-append, length-reverse}
+use Rattle.std.proofs.lemmas.List.{get_or-reverse, set-append_left, take-set-le, take-append-le, get_or-take, drop_more, append_assoc}
+use Rattle.std.proofs.{Math.ListN.{set, get_or}, Math.Seq.take-add, lemmas.Slice.{take-put_mid, drop-put_mid}, lemmas.Grind.drop-set_at}
 use Rattle.rlp_write.specs.{declared.open_lists.Placeholder.Placeholder, Streams.Stream.{is_last, awaits_after, list_encoding}}
 use Rattle.rlp_write.specs.Streams.Placeholders.{Descends, closes, with_innermost, with_awaits, unbounded_innermost}
 use Rattle.rlp_write.specs.Streams.Closing.{filled, counted, closed_bytes, header_len, growth}
-use Rattle.rlp_format.specs.Format.Encoding.{big_endian, written_header}
-use Rattle.rlp_write.proofs.Streams.MovedBytes.{follows}
+use Rattle.rlp_format.specs.Format.Encoding.{written_header}
 use Rattle.rlp_format.proofs.Lemmas.Headers.{written_header_short, written_header_long}
+use borrow.Rule.Slice.PartMut.{put_mid}
+
+-- the bytes before a place stay, and these come behind them
+pub record Follows (n : ℕ) (old behind new : List ℕ) : Type 0 where
+  pub front : (m : ℕ) → m ≤ n → take m new ≡ take m old
+  pub rest : drop n new ≡ behind
+  pub len : length new ≡ n + length behind
+
+pub follows : (n : ℕ) (old behind new : List ℕ) → n ≤ length old → new ≡ take n old ++ behind → Follows n old behind new
+follows n old behind new within is = grind (arith, length-take-le, take-append-le, take-take, drop_at, length-append)
+
+-- the progress of moving bytes one by one, from the last on: the number of bytes that are left, and the number of bytes that are already `gap` places later
+pub record Brought (old bytes : List ℕ) (gap left done : ℕ) : Type 0 where
+  pub front : take (gap + left) bytes ≡ take (gap + left) old
+  pub back : drop (gap + left) bytes ≡ take done (drop left old)
+
+shorter : (m n : ℕ) (bs cs : List ℕ) → m ≤ n → take n bs ≡ take n cs → take m bs ≡ take m cs
+shorter m n bs cs le e = sym (take-take m n bs le) ∙ ap (take m) e ∙ take-take m n cs le
+
+-- one more byte
+pub brought_next : (old bytes : List ℕ) (gap some left done more at : ℕ) → some ≡ suc left → more ≡ suc done → length bytes ≡ length old
+    → gap + some ≤ length old → at ≡ left
+    → Brought old bytes gap some done → Brought old (set bytes (at + gap) (get_or bytes at 0)) gap left more
+brought_next old bytes gap some left done more at one_less one_more same within is begun =
+    grind (arith, get_or, get_or-take, drop_more, set, take-set-le, shorter, drop-set_at)
+
+-- the moved bytes and the bytes that they are moved over, as a part of all bytes
+pub moved_up : (b new : List ℕ) (from len to k gap : ℕ) → from + gap ≡ to → to + len ≤ length b → k ≡ gap + len
+    → new ≡ take gap (take k (drop from b)) ++ take len (take k (drop from b))
+    → put_mid from k b new ≡ take to b ++ (take len (drop from b) ++ drop (to + len) b)
+moved_up b new from len to k gap place within whole moves =
+    let rest = drop from b in
+    let some : k ≤ length rest = omega (arith, length-drop from b) in
+    let gaps : take gap (take k rest) ≡ take gap rest = take-take gap k rest (omega arith) in
+    let stretch : take len (take k rest) ≡ take len rest = take-take len k rest (omega arith) in
+    let is : new ≡ take gap rest ++ take len rest = moves ∙ ap (λ bs. bs ++ take len (take k rest)) gaps ∙ ap (λ bs. take gap rest ++ bs) stretch in
+    let long : length new ≡ k = omega
+    (arith, ap length is, length-append (take gap rest) (take len rest), length-take-le gap rest (omega arith), length-take-le len rest (omega arith)) in
+    let before : take from b ++ take gap rest ≡ take to b = sym (take-add from gap b) ∙ ap (λ n. take n b) place in
+    let front : take (to + len) (put_mid from k b new) ≡ take to b ++ take len rest =
+    take-put_mid from k b new (to + len) (omega arith) (omega arith) ∙ ap (λ bs. take from b ++ bs) is
+    ∙ sym (append_assoc (take from b) (take gap rest) (take len rest)) ∙ ap (λ bs. bs ++ take len rest) before in
+    let back : drop (to + len) (put_mid from k b new) ≡ drop (to + len) b = drop-put_mid from k b new (to + len) (omega arith) (omega arith) long in
+    sym (take-append-drop (to + len) (put_mid from k b new)) ∙ ap (λ bs. bs ++ drop (to + len) (put_mid from k b new)) front
+    ∙ ap (λ bs. (take to b ++ take len rest) ++ bs) back
+    ∙ append_assoc (take to b) (take len rest) (drop (to + len) b)
+
+-- ---- what closing does, step by step, and the state after counting
 
 -- the first of a list are the last of its reverse
 pub reverse_kept : (n : ℕ) (ps : List Placeholder) → reverse (take n ps) ≡ drop (length (reverse ps) - n) (reverse ps)
@@ -43,33 +92,17 @@ pub record Closes (whole : List ℕ) (n : ℕ) (bytes : List ℕ) (from to : ℕ
 
 -- the last header is written right after the bytes that stay
 pub closes_all : (whole : List ℕ) (bytes : List ℕ) (from to : ℕ) (ps : List Placeholder) → Closes whole 0 bytes from to ps → bytes ≡ whole
-closes_all whole bytes from to ps h =
-    let same : to ≡ from = omega (arith, h.room) in
-    sym (take-append-drop from bytes) ∙ ap (λ n. take from bytes ++ drop n bytes) (sym same) ∙ h.known
+closes_all whole bytes from to ps h = grind (arith, take-append-drop)
 
 -- a header has a byte
 pub header_some : (len : ℕ) → 0 < header_len len
-header_some len =
-    ⊎_elim (λ long. let e : header_len len ≡ suc (length (big_endian len)) = ap length (written_header_long 0xc0 len long) in omega arith)
-    (λ short. let e : header_len len ≡ 1 = ap length (written_header_short 0xc0 len short) in omega arith)
-    (cases_lt 55 len)
+header_some len = grind (arith, written_header_long, written_header_short, cases_lt)
 
 -- one more list is found to be full, the last in the order in which they were opened
 pub planned_more : (k end : ℕ) (whole : List Placeholder) (closing grown left tail counts : ℕ) (p : Placeholder) (ps : List Placeholder) (len header : ℕ)
     → Planned k end whole closing grown left tail counts (p ∷ ps) → is_last counts p.awaits ≡ true → len ≡ (left - (p.position + 1)) + tail
     → header ≡ header_len len → header ≤ 9 → Planned k end whole (closing + 1) (grown + (header - 1)) p.position (header + len) 1 ps
-planned_more k end whole closing grown left tail counts p ps len header h full is written few =
-    let order = h.order in
-    let one : filled counts (p ∷ ps) ≡ suc (filled 1 ps) = cond-true (is_last counts p.awaits) (suc (filled 1 ps)) 0 full in
-    let step : growth (suc (filled 1 ps)) left tail (p ∷ ps) ≡ (header - 1) + growth (filled 1 ps) p.position (header + len) ps = rw (written, is) refl in
-    record {
-      closes = omega (arith, h.closes, one);
-      grows = omega (arith, h.grows, ap (λ n. growth n left tail (p ∷ ps)) one, step);
-      order = order.1;
-      total = omega (arith, h.total, order.0, is, written, header_some len);
-      small = omega (arith, h.small, few);
-      few = omega (arith, h.few);
-    }
+planned_more k end whole closing grown left tail counts p ps len header h full is written few = grind (arith, cond-true, header_some)
 
 -- the payload of the innermost list is at its final place, from `at` on, and its header isn't written yet
 pub record Brings (whole : List ℕ) (n : ℕ) (bytes : List ℕ) (left at : ℕ) (ps : List Placeholder) : Type 0 where
@@ -133,8 +166,7 @@ closes_more whole n moved left at low ps placed h fits places =
 one_by : (full : Bool) (p : Placeholder) (ps : List Placeholder) → is_last 1 p.awaits ≡ full
     → counted 1 ps ≡ with_innermost (awaits_after 1) (drop (filled 1 ps) ps)
     → counted 1 (p ∷ ps) ≡ with_innermost (awaits_after 1) (drop (filled 1 (p ∷ ps)) (p ∷ ps))
-one_by true p ps e around = rw e around
-one_by false p ps e around = rw e refl
+one_by full p ps e f = grind arith
 
 counted_one : (ps : List Placeholder) → counted 1 ps ≡ with_innermost (awaits_after 1) (drop (filled 1 ps) ps)
 counted_one [] = refl
@@ -142,8 +174,7 @@ counted_one (p ∷ ps) = one_by (is_last 1 p.awaits) p ps refl (counted_one ps)
 
 -- after a count that closes lists, the innermost list that stays open awaits one item fewer
 pub counted_closed : (k : ℕ) (ps : List Placeholder) → closes k ps ≡ true → counted k ps ≡ with_innermost (awaits_after 1) (drop (filled k ps) ps)
-counted_closed k [] e = absurd (let no : ⊥ = cc in no)
-counted_closed k (p ∷ ps) e = rw e (counted_one ps)
+counted_closed k ps e = grind (arith, counted_one)
 
 -- ---- what the innermost lists await
 
@@ -160,9 +191,7 @@ reverse_set (x ∷ xs) (suc i) k q e =
 -- the last in the order in which the lists were opened is the innermost
 set_first : (change : Option ℕ → Option ℕ) (ps : List Placeholder) (p q : Placeholder) → 0 < length ps → p ≡ get_or ps 0 p
     → q ≡ record p { awaits = change p.awaits } → set ps 0 q ≡ with_innermost change ps
-set_first change [] p q some is new = absurd (let no : 0 < 0 = some in omega arith)
-set_first change (u ∷ ps) p q some is new =
-    let with : Placeholder → Placeholder = λ r. record r { awaits = change r.awaits } in ap (λ z. z ∷ ps) (new ∙ ap with is)
+set_first change ps p q e f h = grind arith
 
 -- changing what the last list awaits changes the innermost list
 pub set_last : (change : Option ℕ → Option ℕ) (n : ℕ) (lists : List Placeholder) (p q : Placeholder) → 0 < length lists → n ≡ length lists - 1
@@ -210,3 +239,5 @@ pub record Found (most : ℕ) (whole : List Placeholder) (count : ℕ) (ps : Lis
 pub shifted_none : (bytes : List ℕ) (from len to : ℕ) → from ≡ to → bytes ≡ take to bytes ++ (take len (drop from bytes) ++ drop (to + len) bytes)
 shifted_none bytes from len to same =
     rw (same, ← drop-drop len to bytes, take-append-drop len (drop to bytes), take-append-drop to bytes) refl
+
+pub ruleset awaits_changed = (length-set, awaits_set)

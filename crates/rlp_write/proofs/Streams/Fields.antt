@@ -17,14 +17,7 @@ some_none x xs s t is = record { before = []; next = x; after = xs; all = refl; 
 
 -- some of the first, and so of all
 pub some_first : (xs ys : List Item) (s t : State) → AppendsSome xs s t → AppendsSome (xs ++ ys) s t
-some_first xs ys s t p = record {
-  before = p.before;
-  next = p.next;
-  after = p.after ++ ys;
-  all = ap (λ zs. zs ++ ys) p.all
-      ∙ append_assoc p.before (p.next ∷ p.after) ys;
-  is = p.is;
-}
+some_first xs ys s t p = grind (arith, append_assoc)
 
 -- the first, and some of the others
 pub some_second : (xs ys : List Item) (s t u : State) → t ≡ add_all xs s → AppendsSome ys t u → AppendsSome (xs ++ ys) s u
@@ -67,11 +60,14 @@ pub record Appended {A : Type 0} (items : A → List Item) (fit : A → Type 0) 
 pub flattened_at : {A : Type 0} (items : A → List Item) (values : List A) (i : ℕ) (x d : A) (s t u : State) → i < length values
     → x ≡ get_or values i d → t ≡ add_all (all_items items (take i values)) s → AppendsSome (items x) t u → AppendsSome (all_items items values) s u
 flattened_at items [] i x d s t u inside is at part = absurd (omega arith)
-flattened_at items (v ∷ vs) zero x d s t u inside is at part =
-    some_first (items v) (all_items items vs) s u (subst (λ y. AppendsSome (items y) s u) is (subst (λ t. AppendsSome (items x) t u) at part))
+flattened_at items (v ∷ vs) zero x d s t u inside is at part = grind (arith, some_first)
 flattened_at items (v ∷ vs) (suc i) x d s t u inside is at part =
-    some_second (items v) (all_items items vs) s (add_all (items v) s) u refl
-    (flattened_at items vs i x d (add_all (items v) s) t u (omega arith) is (at ∙ add_all-append (items v) (all_items items (take i vs)) s) part)
+    grind (
+      arith,
+      some_second,
+      add_all-append,
+      flattened_at items vs i x d (add_all (items v) s) t u (omega arith) is (at ∙ add_all-append (items v) (all_items items (take i vs)) s) part,
+    )
 
 -- the same for values that are one item each
 pub some_at : {A : Type 0} (item : A → Item) (values : List A) (i : ℕ) (x d : A) (s t u : State) → i < length values → x ≡ get_or values i d

@@ -12,8 +12,7 @@ stays_open : (xs : List Item) (n : ℕ) (s : State) (p : List ℕ) (m : Bool) �
 stays_open [] n s p m few = grows_in_list s (in_list s n p m) (record { awaits = Some n; outer = s.stack.inner }) refl refl refl
 stays_open (x ∷ xs) zero s p m few = absurd (omega arith)
 stays_open (x ∷ xs) (suc zero) s p m few = absurd (omega arith)
-stays_open (x ∷ xs) (suc (suc n)) s p m few =
-    subst (λ (t : State). GrowsTo s (add_all xs t)) (sym (add_more n x s p m)) (stays_open xs (suc n) s (p ++ encoding x) (is_list x || false) (omega arith))
+stays_open (x ∷ xs) (suc (suc n)) s p m few = grind (arith, add_more, stays_open xs (suc n) s (p ++ encoding x) (is_list x || false) (omega arith))
 
 -- if a call is refused before the list is full, the state has grown from the state before the list
 pub grows_filling : (xs : List Item) (n : ℕ) (s t : State) → length xs < n → t ≡ add_all xs (with_list_of n s) → GrowsTo s t

@@ -1,8 +1,11 @@
 -- Unbounded lists that are finalized, at once or in turn: they are closed like lists that each await their last item.
-use Rattle.std.proofs.Common.{◌≡◌, ◌<◌, ◌≤◌, ◌+◌, ℕ, zero, suc, Bool, true, cond, is_none, IsTrue, List, [], ◌∷◌, ◌++◌, Option, None, Some, Ok, replicate, refl, sym, ap, ◌∙◌, append-nil, arith, length}
-use Rattle.std.proofs.lemmas.Bool.{cond-true, cond_both}
-use Rattle.rlp_write.specs.Streams.Stream.{OpenList, Stack, count_around, each_awaits, is_unbounded, unbounded_count, finalized}
-use Rattle.rlp_write.specs.Streams.Stream.{State, list_encoding, put, count, with_awaiting, with_is_counted, after_from, effect, finalize_unbounded_list, is_admitted}
+use Rattle.std.proofs.Common.{◌≡◌, ◌<◌, ◌≤◌, ◌+◌, ℕ, zero, suc, Bool, true, cond, is_none, IsTrue, List, [], ◌∷◌, ◌++◌, Option, None, Some, Ok}
+use Rattle.std.proofs.{Common.{replicate, refl, sym, ap, ◌∙◌, append-nil, arith, length, false}, lemmas.Bool.{cond-true, cond_both, leb-false}}
+use Rattle.std.proofs.lemmas.List.Elements.{All-from_recursion, recursion_from_All}
+use Rattle.rlp_write.specs.Streams.Stream.{OpenList, Stack, count_around, each_awaits, is_unbounded, unbounded_count, finalized, State, list_encoding}
+use Rattle.rlp_write.specs.Streams.Stream.{put, count, with_awaiting, with_is_counted, after_from, effect, finalize_unbounded_list, is_admitted}
+use Rattle.rlp_write.specs.Streams.Stream.{AwaitsSome, AllAwait, is_last, awaits_after, shut_around, Call, append}
+use Rattle.std.specs.List.{AllByRecursion}
 
 abbrev state_with : List ℕ → Stack ℕ → Bool → State
 state_with f s m = record { front = f; stack = s; is_counted = m }
@@ -41,15 +44,12 @@ finalized_by_count (suc n) f p (l ∷ ls) m many =
 pub finalized_at_once : (n : ℕ) (s : State) → 0 < n → n ≤ unbounded_count s.stack.lists
     → with_is_counted true (count 1 (put [] (with_awaiting n (Some 1) s))) ≡ finalized n s
 finalized_at_once zero s some many = absurd (let no : 0 < 0 = some in omega arith)
-finalized_at_once (suc n) s some many =
-    ap (λ p. state_with s.front (count_around list_encoding 1 p (each_awaits (suc n) (Some 1) s.stack.lists)) true) (append-nil s.stack.inner)
-    ∙ finalized_by_count n s.front s.stack.inner s.stack.lists s.is_counted many
+finalized_at_once (suc n) s some many = search (arith, append-nil, finalized_by_count)
 
 restored_by : (n : ℕ) (v w : Option ℕ) (o : List ℕ) (ls : List (OpenList ℕ)) → suc n ≤ unbounded_count (record { awaits = v; outer = o } ∷ ls)
     → (n ≤ unbounded_count ls → each_awaits n None (each_awaits n w ls) ≡ ls)
     → each_awaits (suc n) None (each_awaits (suc n) w (record { awaits = v; outer = o } ∷ ls)) ≡ record { awaits = v; outer = o } ∷ ls
-restored_by n None w o ls few rest = ap (λ ms. record { awaits = None; outer = o } ∷ ms) (rest (omega (arith, few)))
-restored_by n (Some k) w o ls few rest = absurd (omega (arith, few))
+restored_by n v w o ls e f = grind arith
 
 each_restored : (n : ℕ) (w : Option ℕ) (ls : List (OpenList ℕ)) → n ≤ unbounded_count ls → each_awaits n None (each_awaits n w ls) ≡ ls
 each_restored zero w ls many = refl
@@ -58,15 +58,12 @@ each_restored (suc n) w (l ∷ ls) many = restored_by n l.awaits w l.outer ls ma
 
 -- unbounded lists that are made unbounded again are as before
 pub awaiting_restored : (n : ℕ) (w : Option ℕ) (s : State) → n ≤ unbounded_count s.stack.lists → with_awaiting n None (with_awaiting n w s) ≡ s
-awaiting_restored n w s many =
-    ap (λ ls. state_with s.front (record { inner = s.stack.inner; lists = ls }) s.is_counted) (each_restored n w s.stack.lists many)
+awaiting_restored n w s many = grind (arith, each_restored)
 
 -- only open lists are unbounded
 pub unbounded_open : (ls : List (OpenList ℕ)) → unbounded_count ls ≤ length ls
 unbounded_open [] = omega arith
-unbounded_open (l ∷ ls) =
-    let rest = unbounded_open ls in
-    cond_both (is_none l.awaits) (suc (unbounded_count ls)) 0 (λ n. n ≤ suc (length ls)) (λ _. omega (arith, rest)) (λ _. omega arith)
+unbounded_open (l ∷ ls) = grind (arith, cond_both, unbounded_open ls)
 
 pub length-each_awaits : (n : ℕ) (w : Option ℕ) (ls : List (OpenList ℕ)) → length (each_awaits n w ls) ≡ length ls
 length-each_awaits zero w ls = refl
@@ -87,18 +84,13 @@ unbounded l ls some = by_awaits l.awaits some
 
 counts_left : (n : ℕ) (p : List ℕ) (ls : List (OpenList ℕ)) (s : Stack ℕ) → n ≤ unbounded_count ls
     → (0 < unbounded_count ls → s ≡ record { inner = p; lists = ls }) → n ≤ unbounded_count s.lists
-counts_left zero p ls s many same = omega arith
-counts_left (suc n) p ls s many same = rw (same (omega (arith, many))) many
+counts_left n p ls s e f = grind arith
 
 -- one more list is finalized, and the others are unbounded
 next_by : (n : ℕ) (f p : List ℕ) (ls : List (OpenList ℕ)) (m : Bool) → n < unbounded_count ls
     → IsTrue (is_unbounded ls)
     × (n ≤ unbounded_count (effect finalize_unbounded_list (record { front = f; stack = record { inner = p; lists = ls }; is_counted = m })).stack.lists)
-next_by n f p [] m many = absurd (let no : n < 0 = many in omega arith)
-next_by n f p (l ∷ ls) m many = (
-  unbounded l ls (omega (arith, many)),
-  counts_left n (l.outer ++ list_encoding p) ls _ (unbounded_around l ls n many) (count_unbounded (l.outer ++ list_encoding p) ls),
-)
+next_by n f p ls m e = grind (arith, unbounded, counts_left, unbounded_around, count_unbounded)
 
 pub finalized-next : (n : ℕ) (s : State) → n < unbounded_count s.stack.lists
     → IsTrue (is_admitted finalize_unbounded_list s) × (n ≤ unbounded_count (effect finalize_unbounded_list s).stack.lists)
@@ -112,3 +104,37 @@ finalized-in_turn (suc n) place s many =
     let next = finalized-next n s (omega (arith, many)) in
     cond-true (is_admitted finalize_unbounded_list s) _ _ next.0
     ∙ finalized-in_turn n (place + 1) (effect finalize_unbounded_list s) next.1
+
+-- ---- a list with an announced number of items is open only while it awaits an item
+
+abbrev Awaits : {A : Type 0} → OpenList A → Type 0
+Awaits l = AwaitsSome l.awaits
+
+-- `AllAwait`, by recursion
+abbrev Await : {A : Type 0} → List (OpenList A) → Type 0
+Await lists = AllByRecursion Awaits lists
+
+-- after a count that closes no list, the list awaits more items
+pub await-after : (k : ℕ) (awaits : Option ℕ) → AwaitsSome awaits → is_last k awaits ≡ false → AwaitsSome (awaits_after k awaits)
+await-after k awaits e f = grind (arith, leb-false)
+
+await-count : {A : Type 0} (wrap : List A → List A) (k : ℕ) (payload : List A) (lists : List (OpenList A)) → Await lists
+    → Await (count_around wrap k payload lists).lists
+await-count wrap k payload [] all = tt
+await-count {A} wrap k payload (l ∷ ls) (some, all) =
+    cond_both (is_last k l.awaits) _ _ (λ (s : Stack A). Await s.lists)
+    (λ _. await-count wrap 1 (l.outer ++ wrap payload) ls all)
+    (λ open_still. (await-after k l.awaits some open_still, all))
+
+await-shut : {A : Type 0} (wrap : List A → List A) (payload : List A) (lists : List (OpenList A)) → Await lists → Await (shut_around wrap payload lists).lists
+await-shut wrap payload lists e = grind arith
+
+await-effect : (c : Call) (s : State) → Await s.stack.lists → Await (effect c s).stack.lists
+await-effect c s e = grind (arith, await-count, cond_both, await-shut)
+
+-- no call leaves a list with an announced number of items open that awaits none
+pub all_await-effect : (c : Call) (s : State) → AllAwait s.stack.lists → AllAwait (effect c s).stack.lists
+all_await-effect c s all =
+    All-from_recursion Awaits (effect c s).stack.lists (await-effect c s (recursion_from_All Awaits s.stack.lists all))
+
+pub ruleset awaiting = (all_await-effect)

@@ -8,7 +8,7 @@ use Rattle.rlp_write.specs.Streams.Stream.{State, Seen, list_encoding, put, with
 use Rattle.rlp_write.specs.Streams.Placeholders.{begin_of, lists_of, Placed, IsLaid, Descends, closes, innermost_awaits, with_awaits, with_innermost, unbounded_innermost}
 use Rattle.rlp_write.specs.{Streams.Closing.{filled, counted, closed_bytes, left_of}, Streams.Layout.{stack_of, state_of}}
 use Rattle.rlp_format.specs.Format.Encoding.{written_header}
-use Rattle.rlp_write.proofs.{Streams.States.{out_size, raw_text-put, raw_text-with_list, closed_text-count}, Streams.Growth.grows_same, Streams.Awaits.await-after}
+use Rattle.rlp_write.proofs.{Streams.States.{out_size, raw_text-put, raw_text-with_list, closed_text-count}, Streams.Growth.grows_same, Streams.Finalizing.await-after}
 use Rattle.rlp_write.proofs.Streams.Closings.{header_some, counted_closed}
 
 -- ---- places
@@ -16,21 +16,15 @@ use Rattle.rlp_write.proofs.Streams.Closings.{header_some, counted_closed}
 -- the front ends within the bytes
 pub start_le : (start : ℕ) (b : List ℕ) (ps : List Placeholder) → IsLaid start b ps → start ≤ length b
 start_le start b [] h = h
-start_le start b (p ∷ ps) h =
-    let within = h.0.within in
-    let below : start ≤ length (take p.position b) = start_le start (take p.position b) ps h.1 in
-    omega (arith, below, length-take-le p.position b (omega arith))
+start_le start b (p ∷ ps) h = grind (arith, length-take-le, start_le start (take p.position b) ps h.1)
 
 pub begin_le : (start : ℕ) (b : List ℕ) (ps : List Placeholder) → IsLaid start b ps → begin_of start ps ≤ length b
-begin_le start b [] h = h
-begin_le start b (p ∷ ps) h = omega (arith, h.0.within)
+begin_le start b ps e = grind arith
 
 -- the places of the open lists descend from the end of the bytes
 pub laid_descends : (start : ℕ) (b : List ℕ) (ps : List Placeholder) → IsLaid start b ps → Descends (length b) ps
 laid_descends start b [] h = tt
-laid_descends start b (p ∷ ps) h =
-    let within = h.0.within in
-    (h.0.within, rw (length-take-le p.position b (omega arith)) at (laid_descends start (take p.position b) ps h.1))
+laid_descends start b (p ∷ ps) h = grind (arith, length-take-le, laid_descends start (take p.position b) ps h.1)
 
 -- so they do from any later end
 pub laid_below : (start end : ℕ) (b : List ℕ) (ps : List Placeholder) → IsLaid start b ps → length b ≤ end → Descends end ps
@@ -39,18 +33,13 @@ laid_below start end b (p ∷ ps) h le = let d = laid_descends start b (p ∷ ps
 
 -- the bytes before the innermost placeholder begin with the same front
 pub below_front : (start : ℕ) (b : List ℕ) (p : Placeholder) (ps : List Placeholder) → IsLaid start b (p ∷ ps) → take start (take p.position b) ≡ take start b
-below_front start b p ps h =
-    let within = h.0.within in
-    let below = start_le start (take p.position b) ps h.1 in
-    take-take start p.position b (omega (arith, below, length-take-le p.position b (omega arith)))
+below_front start b p ps h = grind (arith, start_le, take-take, length-take-le)
 
 -- ---- bytes are put
 
 pub lists_append : (start : ℕ) (b x : List ℕ) (ps : List Placeholder) → IsLaid start b ps → lists_of start (b ++ x) ps ≡ lists_of start b ps
 lists_append start b x [] h = refl
-lists_append start b x (p ∷ ps) h =
-    let within = h.0.within in
-    rw (take-append-le p.position b x (omega arith)) refl
+lists_append start b x (p ∷ ps) h = grind (arith, take-append-le)
 
 module _ (start : ℕ) (b x c : List ℕ) (ps : List Placeholder) (h : IsLaid start b ps) (e : c ≡ b ++ x) where
   pub front_put : take start c ≡ take start b
@@ -67,12 +56,7 @@ module _ (start : ℕ) (b x c : List ℕ) (ps : List Placeholder) (h : IsLaid st
   state_put m = rw (front_put, inner_put, lists_put) refl
 
 placed_append : (b x : List ℕ) (p : Placeholder) → Placed b p → Placed (b ++ x) p
-placed_append b x p h =
-    record {
-      within = omega (arith, h.within, length-append b x);
-      placeholder = get_or_append_left b x 1 p.position h.within ∙ h.placeholder;
-      awaits_some = h.awaits_some;
-    }
+placed_append b x p h = grind (arith, length-append, get_or_append_left)
 
 -- with more bytes at the end, the layout of the open lists is as before
 pub laid_append : (start : ℕ) (b x : List ℕ) (ps : List Placeholder) → IsLaid start b ps → IsLaid start (b ++ x) ps
@@ -83,13 +67,7 @@ laid_append start b x (p ∷ ps) h =
 
 -- so it is with fewer bytes, if the innermost payload still begins in them
 pub laid_take : (n start : ℕ) (b : List ℕ) (ps : List Placeholder) → begin_of start ps ≤ n → IsLaid start b ps → IsLaid start (take n b) ps
-laid_take n start b [] some h = omega (arith, length-take n b, some, h)
-laid_take n start b (p ∷ ps) some h =
-    let within = h.0.within in
-    let placeholder : get_or (take n b) p.position 1 ≡ 0 = get_or-take n b p.position 1 (omega (arith, some)) ∙ h.0.placeholder in (
-      record { within = omega (arith, length-take n b, some); placeholder = placeholder; awaits_some = h.0.awaits_some },
-      rw (take-take p.position n b (omega (arith, some))) h.1,
-    )
+laid_take n start b ps e f = grind (arith, length-take, get_or-take, take-take)
 
 -- ---- the bytes are those of the state
 
@@ -142,8 +120,7 @@ laid_counts k start b tail (p ∷ ps) h =
 
 -- what the placeholders tell is what the state tells
 closes_state : (k start : ℕ) (b : List ℕ) (ps : List Placeholder) → is_counted_after k (lists_of start b ps) false ≡ closes k ps
-closes_state k start b [] = refl
-closes_state k start b (p ∷ ps) = refl
+closes_state k start b ps = grind arith
 
 -- ---- the number of bytes
 
@@ -156,10 +133,7 @@ bytes_around p (l ∷ ls) = bytes_around l.outer ls + suc (length p)
 pub laid_bytes : (start : ℕ) (b : List ℕ) (ps : List Placeholder) → IsLaid start b ps
     → length b ≡ start + bytes_around (drop (begin_of start ps) b) (lists_of start b ps)
 laid_bytes start b [] h = omega (arith, length-drop start b, h)
-laid_bytes start b (p ∷ ps) h =
-    let inside = h.0.within in
-    let around = laid_bytes start (take p.position b) ps h.1 in
-    omega (arith, around, length-take-le p.position b (omega arith), length-drop (p.position + 1) b)
+laid_bytes start b (p ∷ ps) h = grind (arith, length-take-le, length-drop, laid_bytes start (take p.position b) ps h.1)
 
 pub bytes_longer : (p x : List ℕ) (ls : List (OpenList ℕ)) → bytes_around (p ++ x) ls ≡ bytes_around p ls + length x
 bytes_longer p x [] = length-append p x
@@ -168,14 +142,7 @@ bytes_longer p x (l ∷ ls) = omega (arith, length-append p x)
 -- closing removes no byte
 pub bytes_closed : (p : List ℕ) (ls : List (OpenList ℕ)) → bytes_around p ls ≤ length (closed_payload_around list_encoding p ls)
 bytes_closed p [] = omega arith
-bytes_closed p (l ∷ ls) =
-    omega (
-      arith,
-      bytes_closed (l.outer ++ list_encoding p) ls,
-      bytes_longer l.outer (list_encoding p) ls,
-      length-append (written_header 0xc0 (length p)) p,
-      header_some (length p),
-    )
+bytes_closed p (l ∷ ls) = grind (arith, bytes_longer, length-append, header_some, bytes_closed (l.outer ++ list_encoding p) ls)
 
 -- of no bytes it makes none
 pub none_closed : (p : List ℕ) (ls : List (OpenList ℕ)) → bytes_around p ls ≡ 0 → length (closed_payload_around list_encoding p ls) ≡ 0
@@ -186,9 +153,7 @@ none_closed p (l ∷ ls) e = absurd (omega (arith, e))
 pub left_behind : (n start : ℕ) (b : List ℕ) (ps : List Placeholder) → IsLaid start b ps → start ≤ left_of n (length b) ps
 left_behind zero start b ps h = start_le start b ps h
 left_behind (suc n) start b [] h = h
-left_behind (suc n) start b (p ∷ ps) h =
-    let within = h.0.within in
-    subst (λ end. start ≤ left_of n end ps) (length-take-le p.position b (omega arith)) (left_behind n start (take p.position b) ps h.1)
+left_behind (suc n) start b (p ∷ ps) h = grind (arith, length-take-le, left_behind n start (take p.position b) ps h.1)
 
 -- ---- what lists await
 
@@ -197,13 +162,10 @@ pub laid_awaits : (n : ℕ) (w : Option ℕ) → AwaitsSome w → (start : ℕ) 
     → IsLaid start b (with_awaits n w ps)
 laid_awaits zero w some start b ps h = h
 laid_awaits (suc n) w some start b [] h = h
-laid_awaits (suc n) w some start b (p ∷ ps) h =
-    (record { within = h.0.within; placeholder = h.0.placeholder; awaits_some = some }, laid_awaits n w some start (take p.position b) ps h.1)
+laid_awaits (suc n) w some start b (p ∷ ps) h = grind (arith, laid_awaits n w some start (take p.position b) ps h.1)
 
 pub begin_awaits : (n : ℕ) (w : Option ℕ) (start : ℕ) (ps : List Placeholder) → begin_of start (with_awaits n w ps) ≡ begin_of start ps
-begin_awaits zero w start ps = refl
-begin_awaits (suc n) w start [] = refl
-begin_awaits (suc n) w start (p ∷ ps) = refl
+begin_awaits n w start ps = grind arith
 
 pub lists_awaits : (n : ℕ) (w : Option ℕ) (start : ℕ) (b : List ℕ) (ps : List Placeholder)
     → lists_of start b (with_awaits n w ps) ≡ each_awaits n w (lists_of start b ps)
@@ -217,11 +179,7 @@ lists_awaits (suc n) w start b (p ∷ ps) =
 
 pub state_awaits : (n : ℕ) (w : Option ℕ) (start : ℕ) (b : List ℕ) (ps : List Placeholder) (m : Bool)
     → state_of start b (with_awaits n w ps) m ≡ with_awaiting n w (state_of start b ps m)
-state_awaits n w start b ps m =
-    let with : ℕ → List (OpenList ℕ) → State =
-    λ begin ls. record { front = take start b; stack = record { inner = drop begin b; lists = ls }; is_counted = m } in
-    ap (λ begin. with begin (lists_of start b (with_awaits n w ps))) (begin_awaits n w start ps)
-    ∙ ap (with (begin_of start ps)) (lists_awaits n w start b ps)
+state_awaits n w start b ps m = grind (arith, begin_awaits, lists_awaits)
 
 -- the number of open lists is the number of places
 pub length-lists_of : (start : ℕ) (b : List ℕ) (ps : List Placeholder) → length (lists_of start b ps) ≡ length ps
@@ -251,30 +209,17 @@ stands_put {s} {start} {b} {ps} {m} h x c e =
     record { laid = rw e (laid_append start b x ps h.laid); is = state_put start b x c ps h.laid e m ∙ ap (put x) h.is }
 
 and_yes : (m a : Bool) → a ≡ true → (m && a) ≡ m
-and_yes true true e = refl
-and_yes false true e = refl
-and_yes m false e = absurd (let no : ⊥ = cc in no)
+and_yes m a e = grind arith
 
 and_no : (m a : Bool) → ¬ (a ≡ true) → (m && a) ≡ false
-and_no true false e = refl
-and_no false false e = refl
-and_no m true e = absurd (e refl)
+and_no m a e = grind arith
 
 -- a count that closes no list
 pub stands_within : (s : State) (start : ℕ) (b : List ℕ) (ps : List Placeholder) (m : Bool) → StandsFor s start b ps m
     → (k : ℕ) (alone : Bool) (qs : List Placeholder) → closes k ps ≡ false → qs ≡ with_innermost (awaits_after k) ps
     → (IsTrue alone → qs ≡ []) × (qs ≡ [] → IsTrue alone) → StandsFor (count k s) start b qs (m && alone)
-stands_within s start b [] m h k alone qs none e lone =
-    let same : (m && alone) ≡ m = and_yes m alone (lone.1 e) in
-    record { laid = rw e h.laid; is = rw (e, same) (ap (count k) h.is) }
-stands_within s start b (p ∷ ps) m h k alone qs none e lone =
-    let q : Placeholder = record { position = p.position; awaits = awaits_after k p.awaits } in
-    let placed : Placed b q =
-    record { within = h.laid.0.within; placeholder = h.laid.0.placeholder; awaits_some = await-after k p.awaits h.laid.0.awaits_some none } in
-    let laid : IsLaid start b (q ∷ ps) = (placed, h.laid.1) in
-    let counted_in : state_of start b (q ∷ ps) false ≡ count k (state_of start b (p ∷ ps) m) = rw none refl in
-    let never : ¬ (alone ≡ true) = λ yes. let same = sym e ∙ lone.0 yes in let no : ⊥ = cc in no in
-    record { laid = rw e laid; is = rw (e, and_no m alone never) (counted_in ∙ ap (count k) h.is) }
+stands_within s start b [] m h k alone qs none e lone = grind (arith, and_yes)
+stands_within s start b (p ∷ ps) m h k alone qs none e lone = grind (arith, await-after, and_no)
 
 -- a count that closes lists, all at once
 stands_closed : {s : State} {start : ℕ} {b : List ℕ} {ps : List Placeholder} {m : Bool} → StandsFor s start b ps m
@@ -335,13 +280,11 @@ opened_inner b c position at e = rw e (drop_all (position + 1) (b ++ 0 ∷ []) (
 
 -- the innermost list awaits what its place says
 pub innermost_awaited : (start : ℕ) (b : List ℕ) (ps : List Placeholder) → awaited (lists_of start b ps) ≡ innermost_awaits ps
-innermost_awaited start b [] = refl
-innermost_awaited start b (p ∷ ps) = refl
+innermost_awaited start b ps = grind arith
 
 -- with no list open, the bytes are the front and the top
 pub all_of_finished : (start : ℕ) (b : List ℕ) (ps : List Placeholder) → lists_of start b ps ≡ [] → take start b ++ drop (begin_of start ps) b ≡ b
-all_of_finished start b [] none = take-append-drop start b
-all_of_finished start b (p ∷ ps) none = absurd (let no : ⊥ = cc in no)
+all_of_finished start b ps e = grind (arith, take-append-drop)
 
 -- and their number is that of the front and the closed size
 pub size_of_finished : (start : ℕ) (b : List ℕ) (ps : List Placeholder) → lists_of start b ps ≡ [] → length b ≡ length (take start b) + closed_size (state_of start b ps false)
@@ -368,3 +311,5 @@ pub ruleset clears = (start_le, length-take-le)
 pub ruleset empties = (laid_bytes, bytes_closed, none_closed)
 
 pub ruleset finishes = (all_of_finished, size_of_finished)
+
+pub ruleset closings = (length-append, laid_below, stands, stands_filled, stands_moved)

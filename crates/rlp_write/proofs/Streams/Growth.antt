@@ -1,8 +1,8 @@
 -- Which states a state grows to. Authors of an `Encodable` need the ruleset `growth`.
-use Rattle.std.proofs.Common.{◌≡◌, ℕ, true, false, List, [], ◌∷◌, ◌++◌, Option, refl, sym, ap, ◌∙◌, subst, append-nil, append_assoc}
+use Rattle.std.proofs.Common.{◌≡◌, ℕ, true, false, List, [], ◌∷◌, ◌++◌, Option, refl, sym, ap, ◌∙◌, subst, append-nil, append_assoc, arith}
 use Rattle.rlp_format.specs.Format.Encoding.{Item, string, list, encoding}
-use Rattle.rlp_write.specs.Streams.Stream.{OpenList, State, put, with_list, put_item, count, add, with_is_counted}
-use Rattle.rlp_write.specs.{Streams.Growth.{AreSameAround, Stands, GrowsTo}, Streams.Growth.Stands.{here, within}}
+use Rattle.rlp_write.specs.{Streams.Stream.{OpenList, State, put, with_list, put_item, count, add}, Streams.Growth.{AreSameAround, Stands, GrowsTo}}
+use Rattle.rlp_write.specs.Streams.Growth.Stands.{here, within}
 
 same_around : (ls : List (OpenList ℕ)) → AreSameAround ls ls
 same_around [] = tt
@@ -35,8 +35,7 @@ grows_in_list s t l front lists outer =
 
 -- one more open list
 pub grows_with_list : (s t : State) (awaits : Option ℕ) → t ≡ with_list awaits s → GrowsTo s t
-grows_with_list s t awaits e =
-    grows_in_list s t (record { awaits = awaits; outer = s.stack.inner }) (ap (λ (u : State). u.front) e) (ap (λ (u : State). u.stack.lists) e) refl
+grows_with_list s t awaits e = grind (arith, grows_in_list)
 
 same_around_trans : (ls ms ns : List (OpenList ℕ)) → AreSameAround ls ms → AreSameAround ms ns → AreSameAround ls ns
 same_around_trans [] [] [] h k = tt
@@ -62,8 +61,7 @@ stands_trans p ls q ms st (within r n ns st2) = within r n ns (stands_trans p ls
 
 -- growth that follows growth
 pub grows_trans : (s t u : State) → GrowsTo s t → GrowsTo t u → GrowsTo s u
-grows_trans s t u g h =
-    record { front = h.front ∙ g.front; stands = stands_trans s.stack.inner s.stack.lists t.stack.inner t.stack.lists g.stands h.stands }
+grows_trans s t u g h = grind (arith, stands_trans)
 
 -- a value that left `is_counted` false was a string
 uncounted_put : (x : Item) (s t : State) → t ≡ put_item x s → t.is_counted ≡ false → t ≡ put (encoding x) s
@@ -76,16 +74,13 @@ grows_uncounted x s t u is uncounted e = grows_put s u (encoding x) (e ∙ uncou
 
 -- a value that counts itself is added
 pub counted_item : (x : Item) (s t : State) → s.is_counted ≡ false → t ≡ put_item x s → t.is_counted ≡ true → t ≡ add x s
-counted_item (string b) s t start is counted =
-    absurd (let both : false ≡ true = sym start ∙ sym (ap (λ (u : State). u.is_counted) is) ∙ counted in let no : ⊥ = cc in no)
+counted_item (string b) s t start is counted = grind arith
 counted_item (list xs) s t start is counted = is
 
 -- a value that leaves `is_counted` false still has to be counted
 pub item_counted : (x : Item) (s t u : State) → s.is_counted ≡ false → t ≡ put_item x s → t.is_counted ≡ false → u ≡ count 1 t → u ≡ add x s
-item_counted (string b) s t u start is uncounted counts =
-    counts ∙ ap (count 1) is ∙ ap (λ m. count 1 (put (encoding (string b)) (with_is_counted m s))) start
-item_counted (list xs) s t u start is uncounted counts =
-    absurd (let both : true ≡ false = sym (ap (λ (u : State). u.is_counted) is) ∙ uncounted in let no : ⊥ = cc in no)
+item_counted (string b) s t u start is uncounted counts = grind arith
+item_counted (list xs) s t u start is uncounted counts = grind arith
 
 pub ruleset growth = (grows_same, grows_put, grows_with_list, grows_in_list, grows_trans)
 

@@ -4,7 +4,7 @@ use Rattle.std.proofs.lemmas.List.{drop_all, drop-take, map_more, flat_map_more}
 use Rattle.rlp_format.specs.Format.Encoding.{Item, string, list, list_of, encoding, join, written_header}
 use Rattle.rlp_format.proofs.Lemmas.Encodings.{encoding_list}
 use Rattle.rlp_write.specs.Streams.Stream.{Stack, State, IsFinished, list_encoding, put_item}
-use Rattle.rlp_write.proofs.{Streams.States.put_item-finished, Streams.Filling.all_more, Streams.MovedBytes.{Follows, follows}}
+use Rattle.rlp_write.proofs.{Streams.States.put_item-finished, Streams.Filling.all_more, Streams.Closings.{Follows, follows}}
 
 -- an item that was put with no list open
 pub record IsPutAlone (x : Item) (s t : State) : Type 0 where
@@ -31,9 +31,7 @@ joined_more item values i x d inside is =
 -- behind one byte, joined encodings are the payload of the list of their items
 pub joined_list : (xs : List Item) (front inner out : List ℕ) (first : ℕ) → out ≡ front ++ inner → front ≡ first ∷ [] → inner ≡ join xs
     → list_encoding (drop 1 out) ≡ encoding (list_of xs)
-joined_list xs front inner out first is begin rest =
-    let payload : drop 1 out ≡ join xs = ap (drop 1) (is ∙ ap (λ f. f ++ inner) begin) ∙ rest in
-    ap list_encoding payload ∙ sym (encoding_list xs)
+joined_list xs front inner out first is begin rest = grind (arith, encoding_list)
 
 pub ruleset joined = (put_alone, joined_more, all_more, joined_list)
 
@@ -41,9 +39,7 @@ pub ruleset joined = (put_alone, joined_more, all_more, joined_list)
 
 payload_behind : (b grown : List ℕ) (len : ℕ) → len ≡ length b - 1 → take (length b) grown ≡ b → take len (drop 1 grown) ≡ drop 1 b
 payload_behind [] grown len size front = ap (λ n. take n (drop 1 grown)) size
-payload_behind (byte ∷ b) grown len size front =
-    let whole : 1 + len ≡ length (byte ∷ b) = omega arith in
-    sym (drop-take 1 len grown) ∙ ap (λ n. drop 1 (take n grown)) whole ∙ ap (drop 1) front
+payload_behind (byte ∷ b) grown len size front = grind (arith, drop-take, front)
 
 -- the payload was moved behind the place of its header
 pub payload_moved : (b grown moved : List ℕ) (len h : ℕ) → len ≡ length b - 1 → take (length b) grown ≡ b → length grown ≡ h + len
@@ -59,8 +55,6 @@ payload_moved b grown moved len h many front all is =
 pub alone_written : (b grown moved final : List ℕ) (len h at : ℕ) → Follows h grown (drop 1 b) moved → len ≡ length b - 1 → h ≡ length (written_header 0xc0 len)
     → at + length (written_header 0xc0 (length moved - h)) ≡ h
     → final ≡ take at moved ++ (written_header 0xc0 (length moved - h) ++ drop h moved) → final ≡ list_encoding (drop 1 b)
-alone_written b grown moved final len h at now many header begin written =
-    let size : length moved - h ≡ length (drop 1 b) = omega (arith, now.len) in
-    let whole : length moved - h ≡ len = omega (arith, now.len, many, length-drop 1 b) in
-    let start : at ≡ 0 = omega (arith, rw whole at begin, header) in
-    rw (start, size, now.rest) at written
+alone_written b grown moved final len h at now many header begin written = grind (arith, length-drop)
+
+pub ruleset alone = (length-drop, alone_written, payload_moved)

@@ -1,5 +1,5 @@
 -- A list that is opened, and the values appended to it, or that is written at once: from its encoding, or since it has no items.
-use Rattle.std.proofs.Common.{◌≡◌, ℕ, suc, ◌-◌, ◌||◌, nat_le, Bool, true, false, IsTrue, List, [], ◌∷◌, ◌++◌, length, Some, refl, sym, ◌∙◌, ap, arith}
+use Rattle.std.proofs.Common.{◌≡◌, ℕ, suc, ◌-◌, ◌||◌, Bool, true, false, IsTrue, List, [], ◌∷◌, ◌++◌, length, Some, refl, sym, ◌∙◌, ap, arith}
 use Rattle.std.proofs.{Common.{append_assoc, append-nil}, lemmas.Bool.Decides.nat_tests}
 use Rattle.rlp_format.specs.Format.Encoding.{big_endian, written_header, Item, string, list, list_of, is_list, encoding, join, join_items}
 use Rattle.rlp_write.specs.Streams.Stream.{State, list_encoding, add, put, put_item, count, with_is_counted, with_list, with_list_of, add_all}
@@ -27,17 +27,12 @@ add_last x s p m = rw (or_true (is_list x)) refl
 -- an earlier item doesn't
 pub add_more : (n : ℕ) (x : Item) (s : State) (p : List ℕ) (m : Bool)
     → add x (in_list s (suc (suc n)) p m) ≡ in_list s (suc n) (p ++ encoding x) (is_list x || false)
-add_more n x s p m =
-    let still : nat_le (suc (suc n)) 1 ≡ false = grind (arith, nat_tests) in
-    let fewer : suc (suc n) - 1 ≡ suc n = omega arith in
-    rw (still, fewer) refl
+add_more n x s p m = grind (arith, nat_tests)
 
 add_all_in : (x : Item) (xs : List Item) (s : State) (p : List ℕ) (m : Bool)
     → add_all (x ∷ xs) (in_list s (suc (length xs)) p m) ≡ with_whole s (p ++ join (x ∷ xs))
 add_all_in x [] s p m = add_last x s p m ∙ rw (append-nil (encoding x)) refl
-add_all_in x (y ∷ ys) s p m =
-    ap (add_all (y ∷ ys)) (add_more (length ys) x s p m) ∙ add_all_in y ys s (p ++ encoding x) (is_list x || false)
-    ∙ ap (with_whole s) (append_assoc p (encoding x) (join (y ∷ ys)))
+add_all_in x (y ∷ ys) s p m = grind (arith, add_more, append_assoc, add_all_in y ys s (p ++ encoding x) (is_list x || false))
 
 -- a list of some items that is opened and filled is written as its item
 pub list_filled : (x : Item) (xs : List Item) (s : State) → add_all (x ∷ xs) (with_list (Some (length (x ∷ xs))) s) ≡ put_item (list_of (x ∷ xs)) s
@@ -57,8 +52,7 @@ empty_list = refl
 
 -- a list of no items
 pub opened_none : (n : ℕ) (s : State) → n ≡ 0 → with_is_counted true (count 1 (put (0xc0 ∷ []) s)) ≡ with_list_of n s
-opened_none n s e =
-    ap (λ (b : List ℕ). with_is_counted true (count 1 (put b s))) (sym empty_list) ∙ ap (λ m. with_list_of m s) (sym e)
+opened_none n s e = grind (arith, empty_list)
 
 -- ---- a list that is written from its encoding
 

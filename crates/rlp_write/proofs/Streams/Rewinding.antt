@@ -11,15 +11,10 @@ use Rattle.rlp_write.proofs.Streams.Finalizing.{length-each_awaits}
 
 -- apart from what the innermost awaits, the lists are the same
 same_again : (ls ms : List (OpenList ℕ)) → AreSameAround ls ms → each_awaits 1 (awaited ls) ms ≡ ls
-same_again [] [] same = refl
-same_again [] (m ∷ ms) same = absurd same
-same_again (l ∷ ls) [] same = absurd same
-same_again (l ∷ ls) (m ∷ ms) same =
-    ap (λ o. record { awaits = l.awaits; outer = o } ∷ ms) (sym same.0) ∙ ap (λ ns. l ∷ ns) (sym same.1)
+same_again ls ms e = grind arith
 
 bytes_awaits : (w : Option ℕ) (p : List ℕ) (ms : List (OpenList ℕ)) → bytes_around p (each_awaits 1 w ms) ≡ bytes_around p ms
-bytes_awaits w p [] = refl
-bytes_awaits w p (m ∷ ms) = refl
+bytes_awaits w p ms = grind arith
 
 -- the first bytes, and the lists that are open there, stand for a payload within its lists
 record GoesBack (start : ℕ) (p : List ℕ) (ls : List (OpenList ℕ)) (c : List ℕ) (qs : List Placeholder) : Type 0 where
@@ -75,8 +70,7 @@ back_step start p ls (within inner l ms st) c (q ∷ qs) h i e =
     }
 
 with_innermost_is : (w : Option ℕ) (ps : List Placeholder) → with_innermost (λ _. w) ps ≡ with_awaits 1 w ps
-with_innermost_is w [] = refl
-with_innermost_is w (p ∷ ps) = refl
+with_innermost_is w ps = grind arith
 
 -- a stream that goes back to the place of a state from which it grew has that state again
 pub stands_back : (s t : State) (start : ℕ) (c : List ℕ) (qs : List Placeholder) (m : Bool) → StandsFor t start c qs m → GrowsTo s t
@@ -112,6 +106,4 @@ stands_back s t start c qs m now grown place at some d rs cut kept =
 
 -- which `is_counted` a stream has doesn't matter for what it grows to
 pub grown_uncounted : (s t u : State) (m : Bool) → u ≡ record s { is_counted = m } → GrowsTo u t → GrowsTo s t
-grown_uncounted s t u m e g =
-    let h : GrowsTo (record s { is_counted = m }) t = subst (λ (v : State). GrowsTo v t) e g in
-    record { front = h.front; stands = h.stands }
+grown_uncounted s t u m e g = grind arith

@@ -1,19 +1,17 @@
 -- How the steps of a stream change the texts of its state.
-use Rattle.std.proofs.Common.{◌≡◌, ℕ, zero, suc, ◌+◌, ◌<◌, ◌≤◌, ◌^◌, nat_le, arith, Bool, true, false, List, [], ◌∷◌, ◌++◌, length, replicate, flat_map}
-use Rattle.std.proofs.{Common.{Option, refl, sym, ap, ◌∙◌, append-nil, append_assoc, length-append}, lemmas.Bool.cond_both}
+use Rattle.std.proofs.Common.{◌≡◌, ℕ, zero, suc, ◌+◌, ◌<◌, ◌≤◌, ◌^◌, nat_le, arith, Bool, true, false, List, [], ◌∷◌, ◌++◌, length, replicate}
+use Rattle.std.proofs.{Common.{flat_map, Option, refl, sym, ap, ◌∙◌, append-nil, append_assoc, length-append}, lemmas.Bool.cond_both}
 use Rattle.std.proofs.{lemmas.Bool.Decides.nat_tests, lemmas.List.length-replicate, lemmas.List.Concat.flat_map-append}
-use Rattle.rlp_format.specs.Format.Encoding.{Item, string, list, is_list, written_header, encoding}
-use Rattle.rlp_write.specs.Streams.Stream.{OpenList, Level, Stack, top_around, levels_around, closed_payload_around, count_around, is_last}
-use Rattle.rlp_write.specs.Streams.Stream.{effect, finalize_unbounded_list, finalized, is_within_size}
-use Rattle.rlp_write.specs.Streams.Stream.{State, IsFinished, list_encoding, put, shut, count, with_list, add, put_item, raw_text}
-use Rattle.rlp_write.specs.Streams.Stream.{closed_text, closed_size, closed_size_with}
+use Rattle.rlp_format.specs.Format.Encoding.{Item, is_list, encoding}
+use Rattle.rlp_write.specs.Streams.Stream.{OpenList, Level, top_around, levels_around, closed_payload_around, count_around, effect}
+use Rattle.rlp_write.specs.Streams.Stream.{finalize_unbounded_list, finalized, is_within_size, State, IsFinished, list_encoding, put, shut, count}
+use Rattle.rlp_write.specs.Streams.Stream.{with_list, add, put_item, raw_text, closed_text, closed_size, closed_size_with}
 
 -- ---- the closed text
 
 closed_shut_around : (f : List ℕ) (p : List ℕ) (ls : List (OpenList ℕ)) (m : Bool)
     → closed_text (shut (record { front = f; stack = record { inner = p; lists = ls }; is_counted = m })) ≡ closed_payload_around list_encoding p ls
-closed_shut_around f p [] m = refl
-closed_shut_around f p (l ∷ ls) m = refl
+closed_shut_around f p ls m = grind arith
 
 -- closing a list doesn't change the closed text
 pub closed_text-shut : (s : State) → closed_text (shut s) ≡ closed_text s
@@ -23,9 +21,7 @@ closed_count_around : (k : ℕ) (p : List ℕ) (ls : List (OpenList ℕ)) →
     closed_payload_around list_encoding (count_around list_encoding k p ls).inner (count_around list_encoding k p ls).lists
     ≡ closed_payload_around list_encoding p ls
 closed_count_around k p [] = refl
-closed_count_around k p (l ∷ ls) =
-    cond_both (is_last k l.awaits) _ _ (λ (s : Stack ℕ). closed_payload_around list_encoding s.inner s.lists ≡ closed_payload_around list_encoding p (l ∷ ls))
-    (λ _. closed_count_around 1 (l.outer ++ list_encoding p) ls) (λ _. refl)
+closed_count_around k p (l ∷ ls) = grind (arith, cond_both, closed_count_around 1 (l.outer ++ list_encoding p) ls)
 
 -- neither does a count
 pub closed_text-count : (k : ℕ) (s : State) → closed_text (count k s) ≡ closed_text s
@@ -34,8 +30,7 @@ closed_text-count k s = closed_count_around k s.stack.inner s.stack.lists
 -- ---- the closed size
 
 length-list_encoding : (p q : List ℕ) → length p ≡ length q → length (list_encoding p) ≡ length (list_encoding q)
-length-list_encoding p q e =
-    length-append (written_header 0xc0 (length p)) p ∙ ap (λ n. length (written_header 0xc0 n) + n) e ∙ sym (length-append (written_header 0xc0 (length q)) q)
+length-list_encoding p q e = grind (arith, length-append)
 
 length-closed_payload_around : (p q : List ℕ) (ls : List (OpenList ℕ)) → length p ≡ length q
     → length (closed_payload_around list_encoding p ls) ≡ length (closed_payload_around list_encoding q ls)
@@ -46,10 +41,7 @@ length-closed_payload_around p q (l ∷ ls) e =
 
 -- the closed size with bytes put, by their number
 pub closed_size-put : (x : List ℕ) (s : State) → closed_size (put x s) ≡ closed_size_with (length x) s
-closed_size-put x s =
-    length-closed_payload_around (s.stack.inner ++ x) (s.stack.inner ++ replicate (length x) 0) s.stack.lists
-    (length-append s.stack.inner x ∙ ap (λ n. length s.stack.inner + n) (sym (length-replicate (length x) 0))
-    ∙ sym (length-append s.stack.inner (replicate (length x) 0)))
+closed_size-put x s = grind (arith, length-closed_payload_around, length-append, length-replicate)
 
 -- finalizing a list closes it, and counts it in the list around
 size-finalized : (n : ℕ) (s : State) → closed_size (finalized n s) ≡ closed_size s
@@ -71,17 +63,11 @@ within_size-found bytes limit size s e = ap (λ n. nat_le n limit) (e ∙ sym (c
 -- a size of 2^64 or more is within no limit
 pub within_size-too_large : (bytes : List ℕ) (limit : ℕ) (s : State) → limit < 2 ^ 64 → ¬ (closed_size_with (length bytes) s < 2 ^ 64)
     → is_within_size bytes limit s ≡ false
-within_size-too_large bytes limit s small large =
-    let same = closed_size-put bytes s in
-    let above : ¬ (closed_size (put bytes s) < 2 ^ 64) = rw same large in
-    grind (arith, nat_tests)
+within_size-too_large bytes limit s small large = grind (arith, closed_size-put, nat_tests)
 
 -- a size that is within the limit
 pub within_size-within : (bytes : List ℕ) (limit : ℕ) (s : State) → closed_size_with (length bytes) s ≤ limit → is_within_size bytes limit s ≡ true
-within_size-within bytes limit s within =
-    let same = closed_size-put bytes s in
-    let below : closed_size (put bytes s) ≤ limit = rw same within in
-    grind (arith, nat_tests)
+within_size-within bytes limit s within = grind (arith, closed_size-put, nat_tests)
 
 -- if no list is open, the closed text is all that was written
 pub closed_text-finished : (s : State) → IsFinished s → closed_text s ≡ s.stack.inner
@@ -112,24 +98,18 @@ raw_text-put x s = raw_put_around s.front s.stack.inner x s.stack.lists
 
 -- a new list is a byte 0 at the end of the raw text
 pub raw_text-with_list : (awaits : Option ℕ) (s : State) → raw_text (with_list awaits s) ≡ raw_text s ++ 0 ∷ []
-raw_text-with_list awaits s =
-    let t = top_around s.stack.inner s.stack.lists in
-    let around = levels_around s.stack.inner s.stack.lists in
-    let new : Level ℕ = record { payload = []; awaits = awaits } in
-    ap (λ (b : List ℕ). s.front ++ b) (levels_last t around new) ∙ sym (append_assoc s.front (t ++ levels_bytes around) (0 ∷ []))
+raw_text-with_list awaits s = search (arith, levels_last, append_assoc)
 
 -- ---- with no list open
 
 -- an item that is added to a finished stream
 pub add-finished : (x : Item) (s : State) → IsFinished s
     → add x s ≡ record { front = s.front; stack = record { inner = s.stack.inner ++ encoding x; lists = [] }; is_counted = is_list x }
-add-finished (string t) s e = rw e refl
-add-finished (list xs) s e = rw e refl
+add-finished x s e = grind arith
 
 -- an item that is put in a finished stream
 pub put_item-finished : (x : Item) (s : State) → IsFinished s → (put_item x s).stack ≡ record { inner = s.stack.inner ++ encoding x; lists = [] }
-put_item-finished (string t) s e = rw e refl
-put_item-finished (list xs) s e = rw e refl
+put_item-finished x s e = grind arith
 
 pub ruleset states = (raw_text-put, raw_text-with_list, closed_size-put, closed_text-shut, closed_text-count, add-finished, put_item-finished)
 

@@ -1,10 +1,10 @@
 -- Headers and strings that are written.
-use Rattle.std.proofs.Common.{◌≡◌, ℕ, ◌+◌, ◌-◌, ◌/◌, ◌%◌, ◌<◌, ◌≤◌, List, ◌∷◌, [], ◌++◌, length, take, drop, length-append, length-drop, append-nil, true}
-use Rattle.std.proofs.{Common.{false, refl, sym, ap, ◌∙◌, arith, add-one, append_assoc}, lemmas.Bool.Decides.nat_tests}
+use Rattle.std.proofs.Common.{◌≡◌, ℕ, ◌+◌, ◌-◌, ◌<◌, ◌≤◌, List, ◌∷◌, [], ◌++◌, length, take, drop, length-append, length-drop, append-nil, true}
+use Rattle.std.proofs.{Common.{false, refl, ap, ◌∙◌, arith, add-one, append_assoc}, lemmas.Bool.Decides.nat_tests}
 use Rattle.std.proofs.{lemmas.Bool.{cond-true, cond-false}, lemmas.List.{drop-set, take_at, drop_at, drop_all, take-append-drop, take_all}}
 use Rattle.std.specs.Prelude.{slice_set}
 use Rattle.rlp_format.specs.{Format.Encoding.{string, big_endian, written_header, encoding, is_low_byte, BeginsWith}, Values.Value.number_item}
-use Rattle.rlp_write.proofs.Streams.MovedBytes.{follows}
+use Rattle.rlp_write.proofs.Streams.Closings.{follows}
 use Rattle.rlp_format.proofs.{Lemmas.Digits.big_endian_step, Lemmas.Headers.{written_header_short, written_header_long}}
 
 -- a string that is its own encoding
@@ -15,13 +15,7 @@ encoding_low s e = cond-true (is_low_byte s) s (written_header 0x80 (length s) +
 -- a number that is its own encoding
 pub encoding_digit : (n : ℕ) → 0 < n → n < 0x80 → encoding (number_item n) ≡ n ∷ []
 unfolding big_endian
-encoding_digit n some low =
-    let step : big_endian n ≡ big_endian (n / 256) ++ (n % 256) ∷ [] = big_endian_step n some in
-    let none : n / 256 ≡ 0 = omega arith in
-    let same : n % 256 ≡ n = omega arith in
-    let digits : big_endian n ≡ n ∷ [] = step ∙ ap (λ m. big_endian m ++ (n % 256) ∷ []) none ∙ ap (λ d. d ∷ []) same in
-    let lone : is_low_byte (n ∷ []) ≡ true = grind (arith, nat_tests) in
-    ap (λ s. encoding (string s)) digits ∙ encoding_low (n ∷ []) lone
+encoding_digit n some low = grind (arith, big_endian_step, nat_tests, encoding_low)
 
 -- any other string
 pub encoding_other : (s : List ℕ) → is_low_byte s ≡ false → encoding (string s) ≡ written_header 0x80 (length s) ++ s
@@ -32,18 +26,12 @@ encoding_other s e = cond-false (is_low_byte s) s (written_header 0x80 (length s
 pub header_set : (base n zeros first : ℕ) (bytes : List ℕ) → 55 < n → drop zeros bytes ≡ big_endian n → zeros + length (big_endian n) ≡ 8
     → zeros ≤ length bytes → first ≡ base + 55 + (8 - zeros)
     → drop zeros (slice_set (0 ∷ bytes) zeros first) ≡ written_header base n
-header_set base n zeros first bytes long digits len within is =
-    let value : first ≡ base + 55 + length (big_endian n) = omega arith in
-    let after : drop (zeros + 1) (0 ∷ bytes) ≡ drop zeros bytes = rw add-one refl in
-    drop-set (0 ∷ bytes) zeros first (omega arith) ∙ ap (λ ds. first ∷ ds) (after ∙ digits) ∙ ap (λ d. d ∷ big_endian n) value
-    ∙ sym (written_header_long base n long)
+header_set base n zeros first bytes long digits len within is = grind (arith, add-one, drop-set, written_header_long)
 
 -- the header and the string, one after the other behind the old bytes
 pub string_written : (old value header : List ℕ) {first second new : List ℕ} → is_low_byte value ≡ false → header ≡ written_header 0x80 (length value)
     → first ≡ old → second ≡ first ++ header → new ≡ second ++ value → old ++ encoding (string value) ≡ new
-string_written old value header other heads same headed is =
-    ap (λ b. old ++ b) (encoding_other value other ∙ ap (λ h. h ++ value) (sym heads)) ∙ sym (is ∙ ap (λ b. b ++ value) (headed ∙ ap (λ b. b ++ header) same)
-    ∙ append_assoc old header value)
+string_written old value header other heads same headed is = grind (arith, encoding_other, append_assoc)
 
 -- a part is inserted at a place from which the bytes were moved further
 pub inserted : (b part moved : List ℕ) (at n : ℕ) → n + at + length part ≡ length b
@@ -83,12 +71,7 @@ header_placed b view new header payload same is heads within room =
 -- the bytes of a string were put after the old ones, and then its header was inserted
 pub parts_written : (old mid new : List ℕ) (start : ℕ) (Gives : List ℕ → Type 0) → (s : List ℕ) × Gives s × (mid ≡ old ++ s) → start ≡ length old
     → new ≡ take start mid ++ encoding (string (drop start mid)) → (s : List ℕ) × Gives s × (new ≡ old ++ encoding (string s))
-parts_written old mid new start Gives (s, gives, put) at is = (
-  s,
-  gives,
-  is ∙ ap (λ b. take start b ++ encoding (string (drop start b))) put
-      ∙ ap (λ b. b ++ encoding (string (drop start (old ++ s)))) (take_at old s start (sym at)) ∙ ap (λ b. old ++ encoding (string b)) (drop_at old s start (sym at)),
-)
+parts_written old mid new start Gives (s, gives, put) at is = grind (arith, take_at, drop_at)
 
 -- if that is refused, they still begin with the old ones
 pub parts_left : (old mid new : List ℕ) (Gives : List ℕ → Type 0) → (s : List ℕ) × Gives s × (mid ≡ old ++ s) → new ≡ mid → BeginsWith new old

@@ -1,14 +1,12 @@
 -- The bytes of a number without leading zeros are its digits.
-use Rattle.std.proofs.Common.{◌≡◌, ◌≢◌, ◌+◌, ◌*◌, ℕ, List, [], ◌∷◌, length, drop, get_or, Fits, w8, arith, pos_of_ne-zero, refl, subst, ap, le_refl}
-use Rattle.std.specs.Int.Digits.{number_from_digits, number_from_digits_after}
+use Rattle.std.proofs.Common.{◌≡◌, ◌≢◌, ℕ, List, [], ◌∷◌, length, drop, get_or, Fits, w8, arith, pos_of_ne-zero, refl, subst, le_refl}
+use Rattle.std.specs.Int.Digits.{number_from_digits}
 use Rattle.rlp_format.specs.{Format.Encoding.big_endian, Values.Value.FitsBytes}
-use Rattle.rlp_format.proofs.{Lemmas.Digits.{big_endian_zero, digits_again, digits_fit}, Lemmas.Digits.bytes_held}
+use Rattle.rlp_format.proofs.Lemmas.Digits.{big_endian_zero, digits_again, digits_fit, bytes_held}
 
 -- a leading zero doesn't change the number
 pub zero_in_front : (ds : List ℕ) → get_or ds 0 0 ≡ 0 → number_from_digits 256 (drop 1 ds) ≡ number_from_digits 256 ds
-zero_in_front [] is = refl
-zero_in_front (d ∷ ds) is = let none : 0 * 256 + d ≡ 0 = omega (arith, is) in
-    ap (λ n. number_from_digits_after 256 n ds) (let other : 0 ≡ 0 * 256 + d = omega (arith, is) in other)
+zero_in_front ds e = grind arith
 
 -- the digits of 0 are no bytes
 pub none_significant : (ds : List ℕ) → length ds ≡ 0 → ds ≡ big_endian (number_from_digits 256 ds)

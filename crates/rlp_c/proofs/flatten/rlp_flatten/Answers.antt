@@ -1,4 +1,4 @@
-use Rattle.rlp_c.proofs.Flattening.{faulty, flattened, lacking}
+use Rattle.rlp_c.proofs.Splitting.{faulty, flattened, lacking}
 use Rattle.rlp_c.proofs.flatten.rlp_flatten.Goals as goal
 
 pub returns-in-Err : goal.returns-in-Err

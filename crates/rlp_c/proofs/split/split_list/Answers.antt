@@ -1,5 +1,5 @@
 use Rattle.std.proofs.Common.{inl, inr, refl, arith}
-use Rattle.rlp_c.proofs.Splitting.{itemized, payload_fits}
+use Rattle.rlp_c.proofs.Splitting.{itemized}
 use Rattle.rlp_c.proofs.split.split_list.Goals as goal
 
 pub returns-then-items-out : goal.returns-then-items-out
@@ -15,8 +15,3 @@ returns-else-items-out c =
     c.args.count.now c.in-Ok-split_payload.items 13 c.in-Ok.ensures.fault c.in-Ok.ensures.value c.in-Ok.ensures.header c.in-Ok-split_payload.ensures.fault
     c.in-Ok-split_payload.ensures.count c.in-Ok-split_payload.ensures.rows
     (inr (omega (arith, c.if-items-out.false, c.in-Ok-split_payload.ensures.rows.same_len), refl))
-
-pub split_payload-requires : goal.split_payload-requires
-split_payload-requires c =
-    payload_fits c.args.place c.args.bytes.now c.in-Ok.list.content.now c.in-Ok.list.header c.if-not-begins_as_list.ensures c.in-Ok.ensures.value
-    c.in-Ok.ensures.whole.0 c.in-Ok.ensures.header c.requires

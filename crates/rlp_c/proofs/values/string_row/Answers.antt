@@ -1,5 +1,5 @@
 use Rattle.std.proofs.Common.{arith}
-use Rattle.rlp_c.proofs.Strings.{no_row}
+use Rattle.rlp_c.proofs.Texts.{no_row}
 use Rattle.rlp_c.proofs.values.string_row.Goals as goal
 
 pub returns-in-Err : goal.returns-in-Err

@@ -1,22 +1,8 @@
-use Rattle.std.proofs.{Common.{◌<◌, ◌++◌, ◌∙◌, ap, ◌∷◌, [], length, sym, rules, refl}, Output.{has_written_styled_append, has_written_styled_of_eq}}
+use Rattle.std.proofs.{Common.{◌<◌, ◌++◌, ◌∷◌, [], length, sym, rules}, Output.{has_written_styled_append, has_written_styled_of_eq}}
 use Rattle.rlp_reading.specs.Format.Framing.{split}
-use Rattle.rlp_reading.proofs.Lemmas.Texts.{length-framed, text-string, text-list, texts-more, separator_after-more, item-shorter, items-list, done-next}
+use Rattle.rlp_reading.proofs.Lemmas.Texts.{length-framed, text-list, texts-more, separator_after-more, item-shorter, done-next}
 use Rattle.rlp_reading.proofs.Lemmas.Texts.{done-more, done-all}
 use Rattle.rlp_reading.proofs.text.+write_framed.Goals as goal
-
-pub returns-then-not-is_list : goal.returns-then-not-is_list
-returns-then-not-is_list g t c flush ok =
-    let some = length-framed c.args.framed.now.item.now c.args.framed.now.content.now c.args.framed.now.reads in
-    has_written_styled_of_eq _ _ _ _ _
-    (text-string _ _ some (sym c.if-not-is_list.ensures) c.args.framed.now.reads) (c.write_string.ensures flush ok)
-
-pub loop-item-init : goal.loop-item-init
-loop-item-init g t c = record {
-  done = [];
-  all = ap split c.new-items.ensures.rest ∙ sym (items-list _ _ (sym c.if-not-is_list.ensures) c.args.framed.now.reads);
-  next_separator = refl;
-  wrote = search rules;
-}
 
 pub write_framed-requires : goal.write_framed-requires
 write_framed-requires g t c κs within =

@@ -1,5 +1,5 @@
-use Rattle.std.proofs.{Common.{[], ◌++◌, ap, refl, rules, ◌∙◌}, Output.{has_written_styled_append, has_written_styled_of_eq}}
-use Rattle.hex.specs.Hex.{encode_lower, encode_with}
+use Rattle.std.proofs.{Common.{[], ◌++◌, refl, rules}, Output.{has_written_styled_append, has_written_styled_of_eq}}
+use Rattle.hex.specs.Hex.{encode_with}
 use Rattle.rlp_format.proofs.HexDigits.{digits_append}
 use Rattle.rlp_reading.proofs.Lemmas.Texts.{all-cut}
 use Rattle.rlp_reading.proofs.text.write_hex.Goals as goal
@@ -17,9 +17,3 @@ loop-rest-preserved g c = record {
       has_written_styled_of_eq _ _ _ _ _ (digits_append c.loop-rest.invariant.done c.split_at.result.0.now)
       (has_written_styled_append _ _ _ _ _ _ before (c.write_few.ensures before.flush (search rules)));
 }
-
-pub returns : goal.returns
-returns g c flush ok =
-    let before = c.loop-rest.invariant.wrote flush in
-    has_written_styled_of_eq _ _ _ _ _ (digits_append c.loop-rest.invariant.done c.loop-rest.rest.now ∙ ap encode_lower c.loop-rest.invariant.all)
-    (has_written_styled_append _ _ _ _ _ _ before (c.write_few-2.ensures before.flush ok))

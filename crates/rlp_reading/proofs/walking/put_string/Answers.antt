@@ -1,5 +1,5 @@
 use Rattle.std.proofs.Common.{rules, sym, ◌∙◌, arith}
-use Rattle.rlp_reading.proofs.{Lemmas.Frames.item_some, Trees.Canonical.{fault_refutes, needless_fault-none, needless_fault-some, walk_fault-string}}
+use Rattle.rlp_reading.proofs.{Lemmas.Frames.item_some, Trees.Canonical.{fault_refutes, needless_fault-some, walk_fault-string}}
 use Rattle.rlp_reading.proofs.{Trees.Needless.whole_item, Trees.Walks.walked_string}
 use Rattle.rlp_reading.proofs.walking.put_string.Goals as goal
 
@@ -8,16 +8,7 @@ returns-then-is_needless-clause-walked g c = λ most.
     fault_refutes most c.args.framed.now.item.now _ (omega (arith, c.requires.room))
     (walk_fault-string most c.args.framed.now.item.now c.requires.kind ∙ needless_fault-some c.args.framed.now.item.now (sym c.if-is_needless.ensures))
 
-pub returns-then-is_needless-clause-fault : goal.returns-then-is_needless-clause-fault
-returns-then-is_needless-clause-fault g c = needless_fault-some c.args.framed.now.item.now (sym c.if-is_needless.ensures)
-
-pub overflow_add-result : goal.overflow_add-result
-overflow_add-result g c = omega (arith, c.requires.few, c.requires.room, item_some c.args.framed.now.item.now c.requires.item)
-
 pub returns-clause-walked : goal.returns-clause-walked
 returns-clause-walked g c =
     walked_string (whole_item c.requires.item c.requires.header c.args.framed.now.reads) (sym c.requires.kind) (sym c.if-is_needless.ensures) c.requires.few
     (item_some _ c.requires.item) (search rules)
-
-pub returns-clause-fault : goal.returns-clause-fault
-returns-clause-fault g c = needless_fault-none c.args.framed.now.item.now (sym c.if-is_needless.ensures)

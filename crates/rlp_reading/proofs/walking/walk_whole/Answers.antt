@@ -1,5 +1,5 @@
 use Rattle.std.proofs.Common.{arith}
-use Rattle.rlp_reading.proofs.{Trees.Canonical.{not_whole, tree_fault-frame}, Trees.Walks.fault_whole}
+use Rattle.rlp_reading.proofs.{Trees.Canonical.not_whole, Trees.Walks.fault_whole}
 use Rattle.rlp_reading.proofs.walking.walk_whole.Goals as goal
 
 pub returns-in-Ok-clause-fault : goal.returns-in-Ok-clause-fault
@@ -8,6 +8,3 @@ returns-in-Ok-clause-fault g c =
 
 pub returns-in-Err-clause-walked : goal.returns-in-Err-clause-walked
 returns-in-Err-clause-walked g c = not_whole c.args.bytes.now c.args.max_depth c.in-Err.fault (omega arith) c.in-Err.ensures.fault
-
-pub returns-in-Err-clause-fault : goal.returns-in-Err-clause-fault
-returns-in-Err-clause-fault g c = tree_fault-frame c.args.max_depth c.args.bytes.now c.in-Err.fault c.in-Err.ensures.fault

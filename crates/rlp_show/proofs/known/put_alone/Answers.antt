@@ -1,5 +1,5 @@
 use Rattle.rlp_records.specs.KnownOrOther.{any_alone, with_others}
-use Rattle.rlp_show.proofs.Readings.{fault_put, placed, value_put}
+use Rattle.rlp_show.proofs.LineLemmas.{fault_put, placed, value_put}
 use Rattle.rlp_show.proofs.known.put_alone.Goals as goal
 
 pub returns-in-Ok : goal.returns-in-Ok

@@ -1,5 +1,5 @@
 use Rattle.rlp.specs.Views.View.{strict_view_of}
-use Rattle.rlp_show.proofs.Readings.{fault_put, value_put}
+use Rattle.rlp_show.proofs.LineLemmas.{fault_put, value_put}
 use Rattle.rlp_show.proofs.known.put_record.Goals as goal
 
 pub returns-in-Ok : goal.returns-in-Ok

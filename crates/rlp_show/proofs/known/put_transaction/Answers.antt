@@ -1,6 +1,6 @@
 use Rattle.std.proofs.Common.{refl, sym}
 use Rattle.rlp_show.specs.Transactions.{any_transaction_display}
-use Rattle.rlp_show.proofs.Readings.{other_fault, put_as, unsigned_faulty}
+use Rattle.rlp_show.proofs.LineLemmas.{other_fault, put_as, unsigned_faulty}
 use Rattle.rlp_show.proofs.known.put_transaction.Goals as goal
 
 pub returns-in_default : goal.returns-in_default

@@ -1,5 +1,5 @@
 use Rattle.std.proofs.Common.{refl}
-use Rattle.rlp_show.specs.Items.{node_display}
+use Rattle.rlp_show.specs.ItemDisplays.{node_display}
 use Rattle.rlp_show.specs.declared.kind.Kind.TheVariants as kind
 use Rattle.rlp_show.proofs.laws.only_nodes_are_shown.Goals as goal
 

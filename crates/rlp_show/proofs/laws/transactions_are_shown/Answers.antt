@@ -4,7 +4,7 @@ use Rattle.rlp_records.specs.Alone.{bytes_alone}
 use Rattle.rlp_records.proofs.OtherTypes.{any_strings}
 use Rattle.rlp_transactions.specs.Transaction.{any_transaction, transaction_types}
 use Rattle.rlp_show.specs.Transactions.{any_transaction_display}
-use Rattle.rlp_show.proofs.{LineLemmas.line_answered, Readings.unsigned_faulty}
+use Rattle.rlp_show.proofs.LineLemmas.{line_answered, unsigned_faulty}
 use Rattle.rlp_show.specs.declared.kind.Kind.TheVariants as kind
 use Rattle.rlp_show.proofs.laws.transactions_are_shown.Goals as goal
 

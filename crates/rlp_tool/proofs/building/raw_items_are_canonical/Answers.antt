@@ -1,15 +1,8 @@
-use Rattle.std.proofs.{Common.{arith, pos_of_ne-zero, rules}, lemmas.Bool.Decides.Decides-eqb}
-use Rattle.rlp_tool.proofs.RawLemmas.{first_item, no_bytes, no_items, not_empty, not_true, refuted, stray_bytes}
+use Rattle.std.proofs.Common.{arith, pos_of_ne-zero, rules}
+use Rattle.rlp_tool.proofs.RawLemmas.{first_item, not_empty, not_true, refuted}
 use Rattle.rlp_tool.proofs.building.raw_items_are_canonical.Goals.{then-awaited-eq0-via-else-awaited-eq0+then-not-is_canonical}
 use Rattle.rlp_tool.proofs.building.raw_items_are_canonical.Goals.{then-awaited-eq0-via-then-awaited-eq0}
 use Rattle.rlp_tool.proofs.building.raw_items_are_canonical.Goals as goal
-
-pub loop-rest-init : goal.loop-rest-init
-loop-rest-init c = (λ a. a, λ a. a)
-
-pub returns-in_default : goal.returns-in_default
-returns-in_default c = refuted _ _ _ _ c.loop-rest.invariant
-    (stray_bytes _ _ c.encoding_is_framed.ensures (not_empty _ c.loop-rest-test.ensures) c.in_default.ensures)
 
 pub returns-then-awaited-eq0 : goal.returns-then-awaited-eq0
 returns-then-awaited-eq0 c =
@@ -30,9 +23,3 @@ loop-rest-preserved c =
       λ a. (first.0 (walked.0 a)).2,
       λ a. walked.1 (first.1 (pos_of_ne-zero c.if-awaited-eq0.false, rw c.new.ensures at (c.if-not-is_canonical.ensures.0 (search rules)), a)),
     )
-
-pub returns : goal.returns
-returns c =
-    let none = no_items _ c.loop-rest.awaited c.encoding_is_framed-2.ensures (no_bytes _ c.loop-rest-test.ensures) in
-    let zero = Decides-eqb c.loop-rest.awaited 0 in
-    (λ t. c.loop-rest.invariant.1 (none.1 (zero.0 t)), λ a. zero.1 (none.0 (c.loop-rest.invariant.0 a)))

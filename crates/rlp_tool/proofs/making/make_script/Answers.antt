@@ -1,4 +1,4 @@
-use Rattle.rlp_tool.proofs.MakingLemmas.{script_made, script_stops, script_unread}
+use Rattle.rlp_tool.proofs.CallsLemmas.{script_made, script_stops, script_unread}
 use Rattle.rlp_tool.proofs.making.make_script.Goals as goal
 
 pub returns-in-Some-clause-refused : goal.returns-in-Some-clause-refused

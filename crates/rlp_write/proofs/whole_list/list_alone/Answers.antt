@@ -1,6 +1,5 @@
-use Rattle.std.proofs.Common.{◌≡◌, ◌-◌, ◌≤◌, length, length-drop, take, drop, ap, sym, subst, ◌∙◌, arith}
-use Rattle.rlp_write.specs.Streams.Closing.{header_len}
-use Rattle.rlp_write.proofs.{Streams.Joined.{alone_written, payload_moved}, Streams.MovedBytes.Follows, whole_list.list_alone.Goals.After-shift}
+use Rattle.std.proofs.Common.{◌≡◌, ◌-◌, length, take, drop, ap, sym, ◌∙◌, arith}
+use Rattle.rlp_write.proofs.{Streams.Joined.{alone_written, payload_moved}, Streams.Closings.Follows, whole_list.list_alone.Goals.After-shift}
 use Rattle.rlp_write.proofs.whole_list.list_alone.Goals as goal
 
 moved : (c : After-shift) → Follows c.list_header_len-header.result c.advance_mut.new.self.items (drop 1 c.args.bytes.items) c.shift.new.self.items
@@ -13,18 +12,6 @@ moved c =
     let many : c.saturating_sub-len.result ≡ length b - 1 = omega (arith, c.saturating_sub-len.ensures, c.len.ensures.value, ap length c.new-buffer.ensures.items) in
     payload_moved b c.advance_mut.new.self.items _ _ _ many front
     (omega (arith, c.advance_mut.ensures.len, size, c.len-2.ensures.value, ap length c.new-buffer.ensures.items)) c.shift.ensures.items
-
-pub write_list_header-requires-clause-within : goal.write_list_header-requires-clause-within
-write_list_header-requires-clause-within c =
-    let now = moved (goal.at.write_list_header-requires-clause-within c).After-shift in
-    omega (arith, now.len)
-
-pub write_list_header-requires-clause-room : goal.write_list_header-requires-clause-room
-write_list_header-requires-clause-room c =
-    let payload : c.saturating_sub-len.result ≡ length c.shift.new.self.items - c.list_header_len-header.result =
-    let now = moved (goal.at.write_list_header-requires-clause-room c).After-shift in
-    omega (arith, now.len, length-drop 1 c.args.bytes.items, c.saturating_sub-len.ensures, c.len.ensures.value, ap length c.new-buffer.ensures.items) in
-    subst (λ n. header_len n ≤ c.list_header_len-header.result) payload (omega (arith, c.list_header_len-header.ensures.value))
 
 pub returns : goal.returns
 returns c =

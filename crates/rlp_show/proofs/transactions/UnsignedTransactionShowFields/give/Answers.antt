@@ -1,8 +1,5 @@
 use Rattle.rlp_show.proofs.transactions.UnsignedTransactionShowFields.give.Goals as goal
 
-pub returns-in-AccessList : goal.returns-in-AccessList
-returns-in-AccessList g c = rw c.in-AccessList.is c.give-in-AccessList.ensures
-
 pub returns-in-FeeMarket : goal.returns-in-FeeMarket
 returns-in-FeeMarket g c = rw c.in-FeeMarket.is c.give-in-FeeMarket.ensures
 

@@ -1,6 +1,6 @@
 use Rattle.std.proofs.{Common.{◌∙◌, Bool, Ok, Err, Some, ap, true}, lemmas.Result.err_from_is_err_and}
 use Rattle.rlp_tool.specs.Pieces.{piece_call}
-use Rattle.rlp_tool.proofs.{CutLemmas.read-next, MakingLemmas.{fails_at, makes_finishes, makes_one, one_more}}
+use Rattle.rlp_tool.proofs.{CutLemmas.read-next, CallsLemmas.{fails_at, makes_finishes, makes_one, one_more}}
 use Rattle.rlp_tool.proofs.making.ScriptCalls.make_next.Goals as goal
 
 pub returns-in_err-take_finishes-clause-made : goal.returns-in_err-take_finishes-clause-made

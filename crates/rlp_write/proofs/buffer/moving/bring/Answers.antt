@@ -1,5 +1,5 @@
 use Rattle.std.proofs.Common.{arith}
-use Rattle.rlp_write.proofs.Streams.MovedBytes.{moved_up}
+use Rattle.rlp_write.proofs.Streams.Closings.{moved_up}
 use Rattle.rlp_write.proofs.buffer.moving.bring.Goals as goal
 
 pub returns-in-1 : goal.returns-in-1

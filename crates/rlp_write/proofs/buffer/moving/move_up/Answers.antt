@@ -1,5 +1,5 @@
 use Rattle.std.proofs.Common.{arith}
-use Rattle.rlp_write.proofs.Streams.MovedBytes.{brought_next}
+use Rattle.rlp_write.proofs.Streams.Closings.{brought_next}
 use Rattle.rlp_write.proofs.buffer.moving.move_up.Goals as goal
 
 pub bytes-preserved : goal.bytes-preserved

@@ -1,5 +1,5 @@
 use Rattle.std.proofs.Common.{◌-◌}
-use Rattle.rlp_write.proofs.Streams.MovedBytes.{Brought}
+use Rattle.rlp_write.proofs.Streams.Closings.{Brought}
 use Rattle.rlp_write.proofs.buffer.moving.move_up.Given as goal
 
 abbrev pub invariant-bytes : goal.invariant-bytes

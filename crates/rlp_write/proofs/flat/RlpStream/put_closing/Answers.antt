@@ -1,19 +1,7 @@
-use Rattle.std.proofs.Common.{◌≡◌, true, ap, length, length-append, sym, ◌∙◌, arith}
-use Rattle.rlp_write.specs.{Streams.Placeholders.Descends, Streams.Stream.{Seen, closed_size, count, put}}
-use Rattle.rlp_write.proofs.{Streams.FlatBuffer.{StandsFor, laid_below, stands, stands_filled, stands_moved}, flat.RlpStream.put_closing.Goals.{After-count_innermost, After-len-end}}
+use Rattle.std.proofs.Common.{◌≡◌, true, ap, length, sym, ◌∙◌, arith}
+use Rattle.rlp_write.specs.Streams.Stream.{Seen, closed_size, count, put}
+use Rattle.rlp_write.proofs.{Streams.FlatBuffer.{StandsFor, stands, stands_filled, stands_moved}, flat.RlpStream.put_closing.Goals.After-count_innermost}
 use Rattle.rlp_write.proofs.flat.RlpStream.put_closing.Goals as goal
-
-order : (c : After-len-end) → Descends c.len-end.result c.self.inside.lists
-order c =
-    let i = c.self.inside in
-    laid_below i.start c.len-end.result i.buffer.items i.lists c.self.invariant
-    (omega (arith, c.len-end.ensures.value, ap length c.in_ok-extend_from_slice.ensures.ok, length-append i.buffer.items c.args.bytes.now))
-
-pub plan_count-plan-requires-clause-order : goal.plan_count-plan-requires-clause-order
-plan_count-plan-requires-clause-order c = order (goal.at.plan_count-plan-requires-clause-order c).After-len-end
-
-pub close_lists-requires-clause-order : goal.close_lists-requires-clause-order
-close_lists-requires-clause-order c = order (goal.at.close_lists-requires-clause-order c).After-len-end
 
 done : (c : After-count_innermost)
     → StandsFor (count c.args.items (put c.args.bytes.now c.args.self.now.state)) c.self.inside.start c.close_lists.new.buffer.items c.count_innermost.new.self true

@@ -1,7 +1,6 @@
-use Rattle.std.proofs.{Common.{◌≡◌, ◌+◌, ◌≤◌, length, Ok, Err, sym, ◌∙◌, ap, arith, subst}, lemmas.Result.err_from_is_err_and}
+use Rattle.std.proofs.{Common.{◌≡◌, ◌+◌, ◌≤◌, length, Ok, sym, ◌∙◌, ap, arith}, lemmas.Result.err_from_is_err_and}
 use Rattle.rlp_reading.specs.{Format.Framing.{framing, value, payload}, Views.View.View}
-use Rattle.rlp_reading.proofs.Lemmas.Numbered.{told_begins, value-payload, IsWalked}
-use Rattle.rlp_reading.proofs.Lemmas.Numbered.{walked-none, walked-one, walked-item, walked-past, walked-length, not_framed_item, not_told_item}
+use Rattle.rlp_reading.proofs.Lemmas.Numbered.{told_begins, value-payload, walked-one, walked-past, walked-length, not_told_item}
 use Rattle.rlp.proofs.rlpin.rlp.Rlp.at_with_offset.Goals.{After-new-items, After-rest}
 use Rattle.rlp.proofs.rlpin.rlp.Rlp.at_with_offset.Goals as goal
 
@@ -23,17 +22,6 @@ pub returns-in_err-check_items : goal.returns-in_err-check_items
 returns-in_err-check_items c =
     let p = err_from_is_err_and c.from_residual.result c.from_residual.ensures.1 in
     rw (p.1, p.2) (not_told_item c.args.self.now c.args.index c.in_err-check_items.field-0.0 c.in_err-check_items.ensures)
-
-pub returns-in_err-list : goal.returns-in_err-list
-returns-in_err-list c =
-    let framed : framing c.args.self.now.bytes ≡ Err c.in_err-list.field-0.0 =
-    ap (λ (v : View). framing v.bytes) (sym c.self.view_is) ∙ c.in_err-list.ensures.header in
-    let p = err_from_is_err_and c.from_residual-in_err-list.result c.from_residual-in_err-list.ensures.1 in
-    rw (p.1, p.2) (not_framed_item c.args.self.now c.args.index c.in_err-list.field-0.0 c.in_ok-check_items.ensures framed)
-
-pub loop-walked-init : goal.loop-walked-init
-loop-walked-init c =
-    walked-none c.args.self.now.bytes c.new-items.result.rest (c.new-items.ensures.rest ∙ content (goal.at.loop-walked-init c).After-new-items)
 
 pub loop-walked-preserved : goal.loop-walked-preserved
 loop-walked-preserved c =
@@ -58,18 +46,3 @@ pub overflow_sub-before : goal.overflow_sub-before
 overflow_sub-before c =
     let a = goal.at.overflow_sub-before c in
     omega (arith, ap length c.rest.ensures, room a.After-rest (ap length (content a.After-new-items)))
-
-pub overflow_sub-before-2 : goal.overflow_sub-before-2
-overflow_sub-before-2 c =
-    let a = goal.at.overflow_sub-before-2 c in
-    omega (arith, ap length c.rest.ensures, room a.After-rest (ap length (content a.After-new-items)))
-
-pub returns : goal.returns
-returns c =
-    let a = (goal.at.returns c).After-new-items in
-    let here : IsWalked c.args.self.now.bytes c.args.index c.loop-walked.items.rest =
-    subst (λ k. IsWalked c.args.self.now.bytes k c.loop-walked.items.rest) (omega arith) c.loop-walked.invariant in
-    rw (c.with_bytes.ensures, c.rest.ensures)
-    (walked-item c.args.self.now c.in_ok-item.item.now c.args.index
-    (length c.in_ok-list.list.content.now) c.in_ok-list.list.header c.next_item-2.new.self.rest c.loop-walked.items.rest
-    c.in_ok-check_items.ensures (framed a) (ap length (content a)) here c.in_ok-item.ensures.parts c.in_ok-item.ensures.whole)
