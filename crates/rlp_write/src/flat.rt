@@ -3,6 +3,7 @@
 
 ghost use Rattle.std.specs.Prelude.{◌≡◌, ◌≤◌, ◌<◌, ◌+◌, ◌*◌, ◌^◌, ◌++◌, ◌↔◌, ℕ, List, IsTrue, IsOk, OnOk, OnErr, false, length, min};
 ghost use Rattle.std.specs.{Iterator.IsFiniteIterable, Option.SomeIff};
+ghost use Rattle.bytes.specs.Filled.{MakesSpare};
 ghost use Rattle.rlp_format.specs.Format.Encoding.{string, encoding};
 ghost use Rattle.rlp_write.specs.Streams.Stream.{AwaitsSome, awaited, is_counted_after, is_unbounded, unbounded_count, clear, effect, State, IsAsBefore, IsFinished, MovesWithin, closed_size, closed_size_with, count, initial_state, put, raw_text, with_awaiting, with_is_counted, with_list};
 ghost use Rattle.rlp_write.specs.{Streams.Growth.GrowsTo, Streams.Places.place_of, Streams.Iterated.GivesAll};
@@ -167,9 +168,10 @@ impl RlpStream {
         if self.lists.closes(items) {
             return self.put_closing(bytes, items);
         }
-        self.buffer.extend_from_slice(bytes)?;
+        make_room(&mut self.buffer, &self.lists, bytes.len())?;
         self.lists.count_innermost(items);
         self.is_counted &= self.lists.is_empty();
+        self.buffer.extend_reserved(bytes);
         Ok(())
     }
 
@@ -356,4 +358,18 @@ impl RlpStream {
     pub(crate) fn allocator(&self) -> Global {
         self.lists.allocator()
     }
+}
+
+/// Makes room for `len` more bytes. If there is none, it makes room for all items that the innermost
+/// list awaits, as if each had this length.
+#[inline(always)]
+fn make_room(buffer: &mut Buffer, lists: &OpenLists, len: usize) -> Result<(), AllocError>
+    ensures items { buffer.new.items ≡ buffer.old.items }
+    ensures spare { MakesSpare result buffer.old.spare buffer.new.spare len }
+    ensures moved { buffer.new.moved ≡ buffer.old.moved }
+{
+    if buffer.has_room(len) {
+        return Ok(());
+    }
+    buffer.reserve_ahead(len, lists.innermost_awaits().unwrap_or(1))
 }

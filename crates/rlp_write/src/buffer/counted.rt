@@ -1,6 +1,6 @@
 //! A buffer, and the number of its bytes that were moved to a later place.
 
-ghost use Rattle.std.specs.Prelude.{◌≡◌, ◌<◌, ◌≤◌, ◌+◌, ◌-◌, ◌^◌, ◌++◌, length, take, drop, OnOk, OnErr};
+ghost use Rattle.std.specs.Prelude.{◌≡◌, ◌<◌, ◌≤◌, ◌+◌, ◌-◌, ◌^◌, ◌++◌, ◌↔◌, IsTrue, length, take, drop, OnOk, OnErr};
 ghost use Rattle.bytes.specs.Filled.{MakesSpare};
 ghost use Rattle.rlp_format.specs.Format.Encoding.{written_header};
 ghost use Rattle.rlp_write.specs.Streams.Closing.{header_len};
@@ -11,6 +11,12 @@ use bytes::BytesMut;
 use rlp_format::count::Count;
 use std::alloc::AllocError;
 use std::marker::Model;
+
+// The size of a buffer up to which room is made ahead.
+const AHEAD_UP_TO: usize = 16 * 1024;
+
+// The greatest number of bytes by which a header is longer than its placeholder.
+const LONGEST_GROWTH: usize = 8;
 
 /// The bytes of a stream. Only these methods touch them.
 ///
@@ -103,6 +109,30 @@ impl Buffer {
         self.bytes.reserve(part.len())?;
         self.bytes.extend_reserved(part);
         Ok(())
+    }
+
+    /// Whether there is room for `additional` more bytes.
+    #[inline]
+    pub(crate) fn has_room(&self, additional: usize) -> bool
+        ensures { IsTrue result ↔ (additional ≤ self.now.spare) }
+    {
+        additional <= self.bytes.capacity() - self.bytes.len()
+    }
+
+    /// Makes room for `len` more bytes, for which there is no room. It makes room ahead, for `parts`
+    /// parts of this length and the header of the list that they fill, but only up to a buffer of
+    /// `AHEAD_UP_TO` bytes.
+    #[cold]
+    #[inline(never)]
+    pub(crate) fn reserve_ahead(&mut self, len: usize, parts: usize) -> Result<(), AllocError>
+        requires { self.old.spare < len }
+        ensures items { self.new.items ≡ self.old.items }
+        ensures spare { MakesSpare result self.old.spare self.new.spare len }
+        ensures moved { self.new.moved ≡ self.old.moved }
+    {
+        let all = len.saturating_mul(parts).saturating_add(LONGEST_GROWTH);
+        let ahead = AHEAD_UP_TO.saturating_sub(self.bytes.len());
+        self.bytes.reserve(len.max(all.min(ahead)))
     }
 
     /// Appends `more` bytes of any value. There must be room for them.
