@@ -1,18 +1,18 @@
 //! The printed text of bytes.
 
-ghost use Rattle.std.specs.{Prelude.{◌≤◌, ◌∷◌, ◌++◌, [], length, codes}, Fmt.WritesStyledOnOk};
+ghost use Rattle.std.specs.{Prelude.{◌∷◌, ◌++◌, [], codes, if◌then◌else◌}, Fmt.WritesStyledOnOk};
 ghost use Rattle.hex.specs.Hex.{encode_lower};
+ghost use Rattle.rlp_reading.specs.Views.Buffered.{PutsOnOk};
 ghost use Rattle.rlp_reading.specs.Views.Text.{text};
+
+mod buffer;
 
 use crate::framed::{Framed, first_framed, is_null};
 use crate::items::ItemReader;
-use rlp_format::hex_digits::{digit_char, put_digits};
+use buffer::TextBuffer;
+use rlp_format::hex_digits::digit_char;
 use std::fmt;
 use std::fmt::Display;
-use std::str::from_utf8;
-
-/// The number of bytes that are written at once as digits.
-const AT_ONCE: usize = 64;
 
 /// Writes the text of bytes.
 #[tactic(auto, using(crate::proofs::Pieces::all_pieces))]
@@ -23,49 +23,94 @@ pub fn write_text<W: fmt::Write>(f: &mut fmt::Formatter<W>, bytes: &[u8]) -> fmt
         return f.write_str("null");
     }
     match first_framed(bytes) {
-        Ok((framed, _)) => write_framed(f, &framed),
+        Ok((framed, _)) => write_buffered(f, &framed),
         Err(fault) => fault.fmt(f),
     }
 }
 
-/// Writes the text of framed bytes.
-#[tactic(auto, using(crate::proofs::Pieces::list_pieces))]
-fn write_framed<W: fmt::Write>(f: &mut fmt::Formatter<W>, framed: &Framed<'_>) -> fmt::Result
+/// Writes the text of framed bytes in few large pieces.
+#[tactic(auto, using(crate::proofs::Pieces::put_and_written))]
+fn write_buffered<W: fmt::Write>(f: &mut fmt::Formatter<W>, framed: &Framed<'_>) -> fmt::Result
     ensures { WritesStyledOnOk W.write_str_gives f.old result (text framed.now.item.now) f.new }
 {
+    let mut buffer = TextBuffer::new();
+    write_framed(&mut buffer, f, framed)?;
+    buffer.flush(f)
+}
+
+/// Puts the text of framed bytes into the buffer.
+#[tactic(auto, using(crate::proofs::Pieces::list_pieces))]
+fn write_framed<W: fmt::Write>(
+    buffer: &mut TextBuffer,
+    f: &mut fmt::Formatter<W>,
+    framed: &Framed<'_>,
+) -> fmt::Result
+    ensures { PutsOnOk W.write_str_gives f.old buffer.old result (text framed.now.item.now)
+        f.new buffer.new }
+{
     if !framed.is_list() {
-        return write_string(f, framed.content);
+        return write_string(buffer, f, framed.content);
     }
-    f.write_str("[")?;
-    let mut separator = "";
+    buffer.put(f, b"[")?;
+    let mut is_first = true;
     let mut items = ItemReader::new(framed.content);
     while let Ok(item) = items.next_framed() {
-        f.write_str(separator)?;
-        write_framed(f, &item)?;
-        separator = ", ";
+        write_separator(buffer, f, is_first)?;
+        if item.is_list() {
+            write_framed(buffer, f, &item)?;
+        } else {
+            write_string(buffer, f, item.content)?;
+        }
+        is_first = false;
     }
-    f.write_str("]")
+    buffer.put(f, b"]")
 }
 
-/// Writes the text of a string.
-#[tactic(auto, using(crate::proofs::Pieces::pieces))]
-fn write_string<W: fmt::Write>(f: &mut fmt::Formatter<W>, value: &[u8]) -> fmt::Result
-    ensures { WritesStyledOnOk W.write_str_gives f.old result
-        (codes "\"0x" ++ encode_lower value.now ++ codes "\"") f.new }
+/// Puts what stands between an item and the item before it, if there is one.
+#[inline(always)]
+fn write_separator<W: fmt::Write>(
+    buffer: &mut TextBuffer,
+    f: &mut fmt::Formatter<W>,
+    is_first: bool,
+) -> fmt::Result
+    ensures { PutsOnOk W.write_str_gives f.old buffer.old result
+        (if is_first then [] else codes ", ") f.new buffer.new }
+{
+    if is_first {
+        return Ok(());
+    }
+    buffer.put(f, b", ")
+}
+
+/// Puts the text of a string.
+#[inline(always)]
+#[tactic(auto, using(crate::proofs::Pieces::buffered))]
+fn write_string<W: fmt::Write>(
+    buffer: &mut TextBuffer,
+    f: &mut fmt::Formatter<W>,
+    value: &[u8],
+) -> fmt::Result
+    ensures { PutsOnOk W.write_str_gives f.old buffer.old result
+        (codes "\"0x" ++ encode_lower value.now ++ codes "\"") f.new buffer.new }
 {
     if let [byte] = value {
-        return write_byte(f, *byte);
+        return write_byte(buffer, f, *byte);
     }
-    f.write_str("\"0x")?;
-    write_hex(f, value)?;
-    f.write_str("\"")
+    buffer.put(f, b"\"0x")?;
+    buffer.put_hex(f, value)?;
+    buffer.put(f, b"\"")
 }
 
-/// Writes the text of a string of one byte, in one piece.
+/// Puts the text of a string of one byte.
+#[inline(always)]
 #[tactic(auto, using(rlp_format::proofs::HexDigits::digits_of_byte))]
-fn write_byte<W: fmt::Write>(f: &mut fmt::Formatter<W>, byte: u8) -> fmt::Result
-    ensures { WritesStyledOnOk W.write_str_gives f.old result
-        (codes "\"0x" ++ encode_lower (byte ∷ []) ++ codes "\"") f.new }
+fn write_byte<W: fmt::Write>(
+    buffer: &mut TextBuffer,
+    f: &mut fmt::Formatter<W>,
+    byte: u8,
+) -> fmt::Result
+    ensures { PutsOnOk W.write_str_gives f.old buffer.old result
+        (codes "\"0x" ++ encode_lower (byte ∷ []) ++ codes "\"") f.new buffer.new }
 {
     let text = [
         b'"',
@@ -75,36 +120,5 @@ fn write_byte<W: fmt::Write>(f: &mut fmt::Formatter<W>, byte: u8) -> fmt::Result
         digit_char(byte % 16),
         b'"',
     ];
-    match from_utf8(&text) {
-        Ok(text) => f.write_str(text),
-        Err(_) => Err(fmt::Error),
-    }
-}
-
-/// Writes each byte as two digits.
-#[tactic(auto, using(crate::proofs::Pieces::digit_pieces))]
-fn write_hex<W: fmt::Write>(f: &mut fmt::Formatter<W>, bytes: &[u8]) -> fmt::Result
-    ensures { WritesStyledOnOk W.write_str_gives f.old result (encode_lower bytes.now) f.new }
-{
-    let mut rest = bytes;
-    while rest.len() > AT_ONCE {
-        let (front, after) = rest.split_at(AT_ONCE);
-        write_few(f, front)?;
-        rest = after;
-    }
-    write_few(f, rest)
-}
-
-/// Writes a few bytes in one piece, each as two digits.
-fn write_few<W: fmt::Write>(f: &mut fmt::Formatter<W>, bytes: &[u8]) -> fmt::Result
-    requires { length bytes.now ≤ 64 }
-    ensures { WritesStyledOnOk W.write_str_gives f.old result (encode_lower bytes.now) f.new }
-{
-    let mut room = [0u8; 2 * AT_ONCE];
-    let digits = &mut room[..2 * bytes.len()];
-    put_digits(bytes, digits);
-    match from_utf8(digits) {
-        Ok(digits) => f.write_str(digits),
-        Err(_) => Err(fmt::Error),
-    }
+    buffer.put(f, &text)
 }

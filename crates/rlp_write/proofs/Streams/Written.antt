@@ -1,11 +1,11 @@
 -- Headers and strings that are written.
-use Rattle.std.proofs.Common.{◌≡◌, ℕ, ◌+◌, ◌-◌, ◌<◌, ◌≤◌, List, ◌∷◌, [], ◌++◌, length, take, drop, length-append, length-drop, append-nil, true}
+use Rattle.std.proofs.Common.{◌≡◌, ℕ, ◌+◌, ◌-◌, ◌/◌, ◌%◌, ◌<◌, ◌≤◌, List, ◌∷◌, [], ◌++◌, length, take, drop, length-append, length-drop, append-nil, true}
 use Rattle.std.proofs.{Common.{false, refl, ap, ◌∙◌, arith, add-one, append_assoc}, lemmas.Bool.Decides.nat_tests}
 use Rattle.std.proofs.{lemmas.Bool.{cond-true, cond-false}, lemmas.List.{drop-set, take_at, drop_at, drop_all, take-append-drop, take_all}}
 use Rattle.std.specs.Prelude.{slice_set}
 use Rattle.rlp_format.specs.{Format.Encoding.{string, big_endian, written_header, encoding, is_low_byte, BeginsWith}, Values.Value.number_item}
 use Rattle.rlp_write.proofs.Streams.Closings.{follows}
-use Rattle.rlp_format.proofs.{Lemmas.Digits.big_endian_step, Lemmas.Headers.{written_header_short, written_header_long}}
+use Rattle.rlp_format.proofs.{Lemmas.Digits.{big_endian_digit, big_endian_step}, Lemmas.Headers.{written_header_short, written_header_long}}
 
 -- a string that is its own encoding
 pub encoding_low : (s : List ℕ) → is_low_byte s ≡ true → encoding (string s) ≡ s
@@ -54,19 +54,30 @@ header_none b start low = ap (λ z. take start b ++ z) (encoding_low (drop start
 pub encoding_length : (s : List ℕ) → is_low_byte s ≡ false → length (encoding (string s)) ≡ length (written_header 0x80 (length s)) + length s
 encoding_length s other = ap length (encoding_other s other) ∙ length-append (written_header 0x80 (length s)) s
 
--- a list's header is written over the bytes in front of its payload
+-- a header is written over the bytes in front of a place
 pub header_placed : (b view new header : List ℕ) (payload : ℕ) → b ≡ view
     → new ≡ take (payload - length header) b ++ (header ++ drop ((payload - length header) + length header) b)
-    → header ≡ written_header 0xc0 (length view - payload) → payload ≤ length view → length header ≤ payload
-    → take (length b) (new ++ drop (length new) b) ≡ take (payload - length header) view ++ (written_header 0xc0 (length view - payload) ++ drop payload view)
-header_placed b view new header payload same is heads within room =
+    → payload ≤ length view → length header ≤ payload
+    → take (length b) (new ++ drop (length new) b) ≡ take (payload - length header) view ++ (header ++ drop payload view)
+header_placed b view new header payload same is within room =
     let begin : ℕ = payload - length header in
     let rest : List ℕ = drop (begin + length header) b in
     let now = follows begin b (header ++ rest) new (omega (arith, within, ap length same)) is in
     let size : length new ≡ length b =
     omega (arith, now.len, length-append header rest, length-drop (begin + length header) b, within, room, ap length same) in
     let place : begin + length header ≡ payload = omega (arith, room) in
-    take_at new (drop (length new) b) (length b) size ∙ is ∙ rw (place, same, heads) refl
+    take_at new (drop (length new) b) (length b) size ∙ is ∙ rw (place, same) refl
+
+-- the header of a list whose length has one byte
+pub list_header_one : (n : ℕ) → 55 < n → n < 256 → written_header 0xc0 n ≡ 0xf8 ∷ n ∷ []
+list_header_one n long small = grind (arith, written_header_long, big_endian_digit)
+
+-- and of a list whose length has two bytes
+pub list_header_two : (n : ℕ) → 255 < n → n < 65536 → written_header 0xc0 n ≡ 0xf9 ∷ n / 256 ∷ n % 256 ∷ []
+list_header_two n long small =
+    let digits : big_endian n ≡ n / 256 ∷ n % 256 ∷ [] =
+    big_endian_step n (omega arith) ∙ ap (λ (front : List ℕ). front ++ n % 256 ∷ []) (big_endian_digit (n / 256) (omega arith) (omega arith)) in
+    written_header_long 0xc0 n (omega arith) ∙ rw digits refl
 
 -- the bytes of a string were put after the old ones, and then its header was inserted
 pub parts_written : (old mid new : List ℕ) (start : ℕ) (Gives : List ℕ → Type 0) → (s : List ℕ) × Gives s × (mid ≡ old ++ s) → start ≡ length old
@@ -82,6 +93,8 @@ pub begins_still : (old more : List ℕ) {mid new : List ℕ} → mid ≡ old ++
 begins_still old more put same = (more, same ∙ put)
 
 pub ruleset written = (encoding_low, encoding_other, written_header_short, header_set)
+
+pub ruleset list_headers = (written_header_short, list_header_one, list_header_two)
 
 pub ruleset parts = (parts_written, parts_left)
 

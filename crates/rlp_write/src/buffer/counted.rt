@@ -6,7 +6,7 @@ ghost use Rattle.rlp_format.specs.Format.Encoding.{written_header};
 ghost use Rattle.rlp_write.specs.Streams.Closing.{header_len};
 
 use super::moving::{bring, insert, write_at};
-use crate::header::{LIST, written_header};
+use crate::header::{LIST, SHORT, written_header};
 use bytes::BytesMut;
 use rlp_format::count::Count;
 use std::alloc::AllocError;
@@ -181,7 +181,7 @@ impl Buffer {
     /// Writes the header of the list whose payload is all bytes from a place on. It writes over the
     /// bytes in front of that place. Returns the place where the header begins.
     #[inline]
-    #[tactic(auto, using(crate::proofs::Streams::Written::header_placed))]
+    #[tactic(auto, using(crate::proofs::Streams::Written::list_headers))]
     pub(crate) fn write_list_header(&mut self, payload: usize) -> usize
         requires within { payload ≤ length self.old.items }
         requires room { header_len (length self.old.items - payload) ≤ payload }
@@ -192,8 +192,31 @@ impl Buffer {
         ensures spare { self.new.spare ≡ self.old.spare }
         ensures moved { self.new.moved ≡ self.old.moved }
     {
-        let written = written_header(LIST, self.bytes.len() - payload);
-        let header = written.as_slice();
+        let len = self.bytes.len() - payload;
+        if len <= SHORT {
+            return self.write_before(payload, &[LIST + len as u8]);
+        }
+        if len <= 0xff {
+            return self.write_before(payload, &[LIST + 56, len as u8]);
+        }
+        if len <= 0xffff {
+            return self.write_before(payload, &[LIST + 57, (len / 256) as u8, (len % 256) as u8]);
+        }
+        self.write_before(payload, written_header(LIST, len).as_slice())
+    }
+
+    /// Writes a header over the bytes in front of a place. Returns the place where the header begins.
+    #[inline(always)]
+    #[tactic(auto, using(crate::proofs::Streams::Written::header_placed))]
+    fn write_before(&mut self, payload: usize, header: &[u8]) -> usize
+        requires within { payload ≤ length self.old.items }
+        requires room { length header.now ≤ payload }
+        ensures begin { result + length header.now ≡ payload }
+        ensures items { self.new.items
+            ≡ take result self.old.items ++ (header.now ++ drop payload self.old.items) }
+        ensures spare { self.new.spare ≡ self.old.spare }
+        ensures moved { self.new.moved ≡ self.old.moved }
+    {
         let begin = payload - header.len();
         write_at(self.bytes.as_mut_slice(), begin, header);
         begin
