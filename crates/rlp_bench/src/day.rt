@@ -1,7 +1,7 @@
 //! The blocks of a day, with their receipts and with nodes of the trie: each is read strictly, written
 //! again and compared.
 
-use rlp::{StrictRead, decode_list_whole, decode_whole, encode, encode_list};
+use rlp::{StrictRead, decode_list_whole, encode, encode_list};
 use rlp_blocks::Block;
 use rlp_headers::TypedReceipt;
 use rlp_lines::read_bytes;
@@ -62,15 +62,15 @@ impl Sums {
 
     /// Reads and writes a block, and takes the hashes of its header and of its transactions.
     fn add_block(&mut self, alloc: Global, bytes: &[u8]) -> Option<()> {
-        let block = decode_whole::<Block>(alloc, bytes).ok()?;
+        let (block, hashes) = Block::decode_with_hashes(alloc, bytes).ok()?;
         if encode(alloc, &block).ok()?.as_slice() != bytes {
             return None;
         }
         self.blocks = self.blocks.wrapping_add(1);
-        self.add_hash(&block.header.hash(alloc).ok()?);
-        for transaction in block.transactions.iter() {
+        self.add_hash(&hashes.header);
+        for hash in hashes.transactions.iter() {
             self.transactions = self.transactions.wrapping_add(1);
-            self.add_hash(&transaction.hash(alloc).ok()?);
+            self.add_hash(hash);
         }
         Some(())
     }

@@ -2,6 +2,7 @@
 #![tactic(auto)]
 
 mod block;
+mod hashes;
 pub mod laws;
 
-pub use block::{Block, Body};
+pub use block::{Block, BlockHashes, Body};

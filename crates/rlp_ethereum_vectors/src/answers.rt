@@ -1,7 +1,9 @@
 //! The calls that rows name.
 
 use crate::kinds::both_ways;
-use crate::{fields, hashes, messages, node_records, nodes, places, reading, transactions, uses};
+use crate::{
+    fields, hashes, messages, node_records, nodes, places, read_hashes, reading, transactions, uses,
+};
 use rlp::DecoderError;
 use std::alloc::Global;
 
@@ -43,6 +45,7 @@ fn about_bytes(alloc: Global, call: &str, bytes: &[u8]) -> Result<String, Decode
         "received" => uses::tell_received(alloc, bytes),
         "payment" => transactions::made(alloc),
         "headers from" => messages::headers_from(alloc, bytes),
+        "read hash" => read_hashes::answer(alloc, name, bytes),
         "signing" => transactions::signing(alloc, name, bytes),
         _ => both_ways(alloc, call, bytes),
     }

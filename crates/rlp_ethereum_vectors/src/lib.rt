@@ -11,6 +11,7 @@ mod messages;
 mod node_records;
 mod nodes;
 mod places;
+mod read_hashes;
 mod reading;
 mod transactions;
 mod uses;

@@ -9,16 +9,15 @@ use std::alloc::Global;
 
 /// Returns the hash of a transaction, or what to tell the peer that sent it.
 fn received(alloc: Global, bytes: &[u8]) -> Result<Hash, &'static str> {
-    let transaction = match AnyTransaction::from_bytes(alloc, bytes) {
-        Ok(transaction) => transaction,
-        Err(DecoderError::OutOfMemory) => return Err("no memory: try again"),
-        Err(DecoderError::RlpIsTooShort) => return Err("the bytes are cut off"),
-        Err(DecoderError::RlpIsTooBig) => return Err("bytes follow, or a number is too large"),
-        Err(DecoderError::RlpIncorrectListLen) => return Err("fields are missing or added"),
-        Err(DecoderError::Custom(text)) => return Err(text),
-        Err(_) => return Err("this isn't a canonical encoding"),
-    };
-    transaction.hash(alloc).or(Err("no memory: try again"))
+    match AnyTransaction::from_bytes_with_hash(alloc, bytes) {
+        Ok((_, hash)) => Ok(hash),
+        Err(DecoderError::OutOfMemory) => Err("no memory: try again"),
+        Err(DecoderError::RlpIsTooShort) => Err("the bytes are cut off"),
+        Err(DecoderError::RlpIsTooBig) => Err("bytes follow, or a number is too large"),
+        Err(DecoderError::RlpIncorrectListLen) => Err("fields are missing or added"),
+        Err(DecoderError::Custom(text)) => Err(text),
+        Err(_) => Err("this isn't a canonical encoding"),
+    }
 }
 
 /// Returns the encoding of the account at an address, or `None` if there is none. The nodes are the

@@ -1,11 +1,13 @@
 //! Hashes: strings of 32 bytes.
 
-ghost use Rattle.std.specs.Prelude.{IfOk, OnOk};
-ghost use Rattle.rlp.specs.Format.Encoding.{encoding};
-ghost use Rattle.rlp_records.specs.{Hash.hash, Hashing.IsHashOf};
+ghost use Rattle.std.specs.Prelude.{◌≡◌, ◌⊎◌, Err, IfErr, IfOk, IsTrue, Ok, OnOk, map};
+ghost use Rattle.rlp.specs.{DecoderError.TheVariants.OutOfMemory, Format.Encoding.encoding, Views.View.strict_view_of};
+ghost use Rattle.rlp_reading.specs.Form.{Faults, fault_of};
+ghost use Rattle.rlp_records.specs.{Alone.bytes_alone, Hash.hash};
+ghost use Rattle.rlp_records.specs.Hashing.{IsHashOf, hash_of, hashes_of};
 
 use crate::keccak256;
-use rlp::{DecoderError, Encodable, Record, Rlp, RlpStream};
+use rlp::{DecoderError, Encodable, Fields, Record, Rlp, RlpStream, StrictRead};
 use std::alloc::{AllocError, Global};
 
 /// A hash of 32 bytes: a Keccak-256 hash or the root of a trie, as in section 4.3 and appendix B of
@@ -49,4 +51,65 @@ pub fn encoding_hash<E: Encodable>(alloc: Global, value: &E) -> Result<Hash, All
 {
     let encoding = rlp::encode(alloc, value)?;
     Ok(Hash(keccak256(encoding.as_slice())))
+}
+
+/// Reads a record strictly from its whole encoding, as [`rlp::decode_whole`] does, and returns it
+/// with the hash of its standalone bytes: of the encoding of a list, and of a string without its
+/// header, such as a typed transaction in a list. `hash` of a header, a transaction or a node of
+/// the trie returns the same hash, but encodes the value for it.
+///
+/// Fails as [`rlp::decode_whole`] does.
+#[tactic(auto, using(crate::proofs::ItemHashes::strict_hash, crate::proofs::ItemHashes::strict_hash_there))]
+pub fn decode_with_hash<R: StrictRead>(
+    alloc: Global,
+    bytes: &[u8],
+) -> Result<(R, Hash), DecoderError>
+    ensures whole { IfOk result (λ r. R.fits r.0 × (bytes.now ≡ encoding (R.item r.0))) }
+    ensures hash { IfOk result (λ r. IsHashOf r.1 (bytes_alone (R.item r.0))) }
+    ensures fault { IfErr result (λ e. Faults R.reading (strict_view_of bytes.now) e
+        ⊎ ((e ≡ OutOfMemory) × IsTrue R.reading.takes_memory)) }
+    ensures memory { (v : R) → R.fits v → bytes.now ≡ encoding (R.item v)
+        → IfErr result (λ e. (e ≡ OutOfMemory) × IsTrue R.reading.takes_memory) }
+{
+    let record = rlp::decode_whole(alloc, bytes)?;
+    let hash = item_hash(&Rlp::new_strict(bytes))?;
+    Ok((record, hash))
+}
+
+/// Returns the hash of the item that a view begins with, as it stands alone: of a list with its
+/// header, or of a string without one. In a list of transactions this hash names the transaction.
+/// It doesn't allocate.
+///
+/// Fails as [`Rlp::payload_info`] does for a list, and as [`rlp::BasicDecoder::string`] does for
+/// anything else.
+pub fn item_hash(rlp: &Rlp<'_>) -> Result<Hash, DecoderError>
+    ensures hash { IfOk result (λ h. hash_of rlp.now ≡ Ok h.0) }
+    ensures fault { IfErr result (λ e. hash_of rlp.now ≡ Err (fault_of e)) }
+{
+    let bytes = if rlp.is_list() {
+        let (item, _) = rlp.split_first()?;
+        item.as_raw()
+    } else {
+        rlp.decoder().string()?
+    };
+    Ok(Hash(keccak256(bytes)))
+}
+
+/// Returns the hash of each item of a view that is read as a list, in order, as [`item_hash`]
+/// returns it.
+///
+/// Fails as [`Fields::of_list`] does, then with the first fault of [`item_hash`], and with
+/// `OutOfMemory` if memory is refused.
+#[tactic(auto, using(rlp_reading::proofs::ListLaws::pushed, rlp_reading::proofs::ListLaws::all_pushed))]
+pub fn item_hashes(alloc: Global, rlp: &Rlp<'_>) -> Result<Vec<Hash>, DecoderError>
+    ensures hashes { IfOk result (λ hs. hashes_of rlp.now ≡ Ok (map (λ h. h.0) hs.items)) }
+    ensures fault { IfErr result (λ e. (hashes_of rlp.now ≡ Err (fault_of e)) ⊎ (e ≡ OutOfMemory)) }
+{
+    let mut items = Fields::of_list(rlp)?;
+    let mut hashes = Vec::new(alloc);
+    while let Some(item) = items.next() {
+        let hash = item_hash(&item)?;
+        hashes.push(hash)?;
+    }
+    Ok(hashes)
 }

@@ -57,6 +57,31 @@ impl<T: Eip2718> KnownOrOther<T> {
         Ok(KnownOrOther::Known(known))
     }
 
+    /// Reads a value as [`KnownOrOther::from_bytes`] does, and returns it with the hash of the bytes,
+    /// which names a transaction: what [`KnownOrOther::hash`] returns of the value. Nothing is
+    /// encoded.
+    ///
+    /// Fails as [`KnownOrOther::from_bytes`] does.
+    pub fn from_bytes_with_hash(
+        alloc: Global,
+        bytes: &[u8],
+    ) -> Result<(KnownOrOther<T>, Hash), DecoderError>
+        ensures whole { IfOk result (λ r. (with_others T.types).Fits r.0
+            × (bytes.now ≡ bytes_alone ((with_others T.types).item r.0))) }
+        ensures hash { IfOk result
+            (λ r. IsHashOf r.1 (bytes_alone ((with_others T.types).item r.0))) }
+        ensures value { IfOk result (λ r.
+            (any_alone T.types bytes.now).result ≡ Ok ((with_others T.types).reading.seen r.0)) }
+        ensures fault { IfErr result (λ e. ((any_alone T.types bytes.now).result ≡ Err (fault_of e))
+            ⊎ ((e ≡ OutOfMemory) × IsTrue (with_others T.types).reading.takes_memory)) }
+        ensures memory { (x : KnownOrOther T) → (with_others T.types).Fits x
+            → bytes.now ≡ bytes_alone ((with_others T.types).item x)
+            → IfErr result (λ e. e ≡ OutOfMemory) }
+    {
+        let value = KnownOrOther::from_bytes(alloc, bytes)?;
+        Ok((value, Hash(keccak256(bytes))))
+    }
+
     /// Appends the places that lead to the item at fault, as [`Eip2718::put_path_alone`] does, for
     /// bytes that [`KnownOrOther::from_bytes`] fails on.
     pub fn put_path_alone(

@@ -22,7 +22,7 @@ pub use envelope::{
     from_envelope, to_envelope, typed_list,
 };
 pub use enveloped::Enveloped;
-pub use hash::{Hash, encoding_hash};
+pub use hash::{Hash, decode_with_hash, encoding_hash, item_hash, item_hashes};
 pub use keccak::keccak256;
 pub use known_or_other::KnownOrOther;
 pub use other_envelope::OtherEnvelope;

@@ -1,9 +1,11 @@
 //! Transactions of every type.
 
-ghost use Rattle.std.specs.Prelude.{◌∷◌, IfOk, OnOk};
-ghost use Rattle.rlp.specs.Format.Encoding.{encoding, list_of};
-ghost use Rattle.rlp_records.specs.{Alone.bytes_alone, Hashing.IsHashOf};
+ghost use Rattle.std.specs.Prelude.{◌≡◌, ◌∷◌, ◌⊎◌, Err, IfErr, IfOk, Ok, OnOk};
+ghost use Rattle.rlp.specs.{DecoderError.TheVariants.OutOfMemory, Format.Encoding.{encoding, list_of}};
+ghost use Rattle.rlp_reading.specs.Form.{fault_of};
+ghost use Rattle.rlp_records.specs.{Alone.bytes_alone, Eip2718.typed_alone, Hashing.IsHashOf};
 ghost use Rattle.rlp_transactions.specs.{Transaction.{transaction, transaction_types}, UnsignedTransaction.unsigned_transaction};
+ghost use Rattle.rlp_transactions.specs.declared.transaction.Transaction.{Transaction};
 
 use crate::{
     AccessListTransaction, BlobTransaction, FeeMarketTransaction, SetCodeTransaction, Signed,
@@ -148,6 +150,29 @@ impl Transaction {
     {
         let bytes = self.to_bytes(alloc)?;
         Ok(Hash(keccak256(bytes.as_slice())))
+    }
+
+    /// Reads a transaction as [`Eip2718::from_bytes`] does, and returns it with the hash of the
+    /// bytes: what [`Transaction::hash`] returns of the transaction. Nothing is encoded.
+    ///
+    /// Fails as [`Eip2718::from_bytes`] does.
+    pub fn from_bytes_with_hash(
+        alloc: Global,
+        bytes: &[u8],
+    ) -> Result<(Transaction, Hash), DecoderError>
+        ensures whole { IfOk result (λ r. transaction.Fits r.0
+            × (bytes.now ≡ bytes_alone (transaction.item r.0))) }
+        ensures hash { IfOk result (λ r. IsHashOf r.1 (bytes_alone (transaction.item r.0))) }
+        ensures value { IfOk result (λ r.
+            (typed_alone transaction_types bytes.now).result ≡ Ok (transaction.reading.seen r.0)) }
+        ensures fault { IfErr result (λ e.
+            ((typed_alone transaction_types bytes.now).result ≡ Err (fault_of e))
+            ⊎ (e ≡ OutOfMemory)) }
+        ensures memory { (x : Transaction) → transaction.Fits x
+            → bytes.now ≡ bytes_alone (transaction.item x) → IfErr result (λ e. e ≡ OutOfMemory) }
+    {
+        let transaction = Transaction::from_bytes(alloc, bytes)?;
+        Ok((transaction, Hash(keccak256(bytes))))
     }
 }
 
