@@ -11,7 +11,7 @@ use Rattle.rlp_reading.specs.Form.{fault_of, items_of, list_of_views, map_value,
 use Rattle.rlp_reading.proofs.Lemmas.Numbered.{item_count-fault, item_count-told, payload-fault, told_begins, length-split, split-nil, strict_whole}
 use Rattle.rlp_reading.proofs.Lemmas.Numbered.{after_items-next, after_items-nil, after_items-none, strict_counted, strict_not_begun}
 use Rattle.rlp_reading.proofs.Lemmas.Numbered.{strict_not_whole, value-items, counted_told, framed_place, unframed_place, not_framed_item}
-use Rattle.rlp_reading.proofs.Lemmas.Numbered.{not_told_item, value-payload, walked-none, walked-one, walked-item, walked-past, walked-length}
+use Rattle.rlp_reading.proofs.Lemmas.Numbered.{not_told_item, skipped-item, skipped-past, skipped-end}
 use Rattle.rlp_reading.proofs.{Lemmas.Texts.{depth-followed, depth-fault, shallow-other}, Lemmas.Fronts.{faulty_front, front_frame_fault}}
 use Rattle.rlp.specs.Left.{ItemsLeft, after_next}
 
@@ -196,13 +196,9 @@ pub ruleset strict_lists = (strict_not_begun, strict_not_whole, strict_whole, va
 
 pub ruleset walks = (
   err_from_is_err_and,
-  told_begins,
-  value-payload,
-  walked-none,
-  walked-one,
-  walked-item,
-  walked-past,
-  walked-length,
+  skipped-item,
+  skipped-past,
+  skipped-end,
   not_framed_item,
   not_told_item,
 )

@@ -14,6 +14,8 @@ pub mod Strings
 pub mod Frames
 -- the encodings of lists, and bytes that are exactly one item
 pub mod Views
+-- bytes after some of their items
+pub mod Skipping
 -- the items of a view, one after another and by number
 pub mod Numbered
 -- the string or the number that a view holds

@@ -12,6 +12,7 @@ pub mod items;
 pub mod laws;
 pub mod numbers;
 pub mod prototype;
+pub mod skipping;
 pub mod string_reading;
 pub mod text;
 pub mod walking;

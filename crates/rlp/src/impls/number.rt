@@ -68,7 +68,7 @@ impl Decodable for u128 {
     ghost reading = { (number 16).reading };
 
     fn decode(_alloc: Global, rlp: &Rlp<'_>) -> Result<u128, DecoderError> {
-        Ok(wide_number_of(number_digits(rlp, 16)?))
+        Ok(wide_number_of(number_digits(rlp.as_raw(), rlp.is_strict(), 16)?))
     }
 }
 
@@ -110,6 +110,23 @@ fn short_number<const WIDTH: usize>(bytes: &[u8], is_strict: bool) -> Option<usi
     }
 }
 
+/// Returns the digits of a number of at most `width` bytes, if its header is at most one byte and
+/// nothing is wrong with it. `None` says nothing about the bytes.
+#[inline(always)]
+fn short_digits(bytes: &[u8], is_strict: bool, width: usize) -> Option<&[u8]>
+    ensures few { IfSome result (λ d. length d.now ≤ width) }
+    ensures fits { IfSome result (λ d. FitsBytes width (number_from_digits 256 d.now)) }
+    ensures value { IfSome result (λ d.
+        and_then (string_of (record { bytes = bytes.now; is_strict = is_strict })) (number_of width)
+        ≡ Ok (number_from_digits 256 d.now)) }
+{
+    let digits = short_string(bytes, is_strict)?;
+    match check_digits(digits, width) {
+        Ok(()) => Some(digits),
+        Err(_) => None,
+    }
+}
+
 /// Reads a number of at most `width` bytes, at most 8.
 #[inline(never)]
 fn any_number(bytes: &[u8], is_strict: bool, width: usize) -> Result<usize, DecoderError>
@@ -122,20 +139,22 @@ fn any_number(bytes: &[u8], is_strict: bool, width: usize) -> Result<usize, Deco
         and_then (string_of (record { bytes = bytes.now; is_strict = is_strict })) (number_of width)
         ≡ Err (fault_of e)) }
 {
-    let digits = number_digits(&Rlp::of_kind(bytes, is_strict), width)?;
-    Ok(number_of(digits))
+    Ok(number_of(number_digits(bytes, is_strict, width)?))
 }
 
-/// Returns the digits of the number of at most `width` bytes that the view begins with.
-pub(crate) fn number_digits<'a>(rlp: &Rlp<'a>, width: usize) -> Result<&'a [u8], DecoderError>
+/// Returns the digits of the number of at most `width` bytes that the bytes begin with.
+#[inline(never)]
+fn number_digits(bytes: &[u8], is_strict: bool, width: usize) -> Result<&[u8], DecoderError>
     ensures few { IfOk result (λ d. length d.now ≤ width) }
     ensures fits { IfOk result (λ d. FitsBytes width (number_from_digits 256 d.now)) }
-    ensures value { IfOk result (λ d. and_then (string_of rlp.now) (number_of width)
+    ensures value { IfOk result (λ d.
+        and_then (string_of (record { bytes = bytes.now; is_strict = is_strict })) (number_of width)
         ≡ Ok (number_from_digits 256 d.now)) }
-    ensures fault { IfErr result (λ e. and_then (string_of rlp.now) (number_of width)
+    ensures fault { IfErr result (λ e.
+        and_then (string_of (record { bytes = bytes.now; is_strict = is_strict })) (number_of width)
         ≡ Err (fault_of e)) }
 {
-    let digits = rlp.decoder().string_in_line()?;
+    let digits = Rlp::of_kind(bytes, is_strict).decoder().string_in_line()?;
     check_digits(digits, width)?;
     Ok(digits)
 }
@@ -238,8 +257,14 @@ impl<const N: usize> Decodable for Uint<N> {
 
     #[inline(always)]
     fn decode(_alloc: Global, rlp: &Rlp<'_>) -> Result<Uint<N>, DecoderError> {
-        let bytes = padded(number_digits(rlp, N)?);
-        Ok(Uint { bytes })
+        let (bytes, is_strict) = (rlp.as_raw(), rlp.is_strict());
+        let digits = match short_digits(bytes, is_strict, N) {
+            Some(digits) => digits,
+            None => number_digits(bytes, is_strict, N)?,
+        };
+        Ok(Uint {
+            bytes: padded(digits),
+        })
     }
 }
 

@@ -20,6 +20,7 @@ use rlp_reading::flat::{FlatItem, TreeFault};
 use rlp_reading::framed::{Framed, first_framed, framing_of, whole_framed, whole_framing};
 use rlp_reading::header::PayloadInfo;
 use rlp_reading::items::{ItemReader, count_items, try_count_items};
+use rlp_reading::skipping::skip_items;
 use rlp_reading::walking::{flatten, is_canonical};
 use std::alloc::Global;
 use std::marker::Model;
@@ -207,13 +208,13 @@ impl<'a> Rlp<'a> {
     {
         self.check_items()?;
         let (list, _) = first_framed(self.bytes)?;
-        let mut items = ItemReader::new(list.content);
-        for _walked in 0..index {
-            items.next_item()?;
-        }
-        let item = items.next_item()?;
-        let before = list.content.len() - items.rest().len() - item.len();
-        Ok((self.with_bytes(item), list.header.header_len + before))
+        let rest = skip_items(list.content, index)?;
+        let item = ItemReader::new(rest).next_item()?;
+        let before = list.content.len() - rest.len();
+        Ok((
+            Rlp::of_kind(item, self.strict),
+            list.header.header_len + before,
+        ))
     }
 
     /// Whether there are no bytes.
@@ -464,13 +465,6 @@ impl<'a> Rlp<'a> {
         ensures fault { IfErr result (λ e. IsFlatFault max_depth self.now.bytes e) }
     {
         flatten(alloc, self.bytes, max_depth)
-    }
-
-    /// A view of other bytes, of the same kind.
-    pub(crate) fn with_bytes(&self, bytes: &'a [u8]) -> Rlp<'a>
-        ensures { result ≡ record self.now { bytes = bytes.now } }
-    {
-        Rlp::of_kind(bytes, self.strict)
     }
 
     /// A view of these bytes, lenient or strict.

@@ -10,8 +10,9 @@ use Rattle.rlp_reading.specs.Format.Framing.{frame, split, split_within, frame_a
 use Rattle.rlp_reading.specs.Format.Framing.{payload_in, rest, fault_of_some, strict_fault, strict_list_fault, unless, after_items, fault_in}
 use Rattle.rlp_reading.specs.Views.View.{View, item_views, item_count, item_with_place, item_by, item_at, list_fault, items_fault, strict_view_of}
 use Rattle.rlp_reading.specs.{declared.error.DecoderError.TheVariants.RlpExpectedToBeList, declared.header.PayloadInfo.PayloadInfo, Values.FieldPlace.IsAtPlace}
-use Rattle.rlp_reading.proofs.Lemmas.Views.{passed}
-use Rattle.std.proofs.{Common.take_all, Math.Seq.{drop-append-add, drop-nil, take-suc}, lemmas.List.{Folds.concat-append, drop-drop}}
+use Rattle.rlp_reading.specs.Format.Skipping.{IsAfterItems}
+use Rattle.rlp_reading.proofs.{Lemmas.Views.passed, Lemmas.Skipping.after-all}
+use Rattle.std.proofs.{Common.take_all, Math.Seq.{drop-append-add, drop-nil}, lemmas.List.{drop-drop}}
 use Rattle.std.proofs.lemmas.Grind.{common_steps}
 
 frame_and_more-shorter : (turns : ℕ) (p : List ℕ) (r : Result (List ℕ) DecoderError) → ((q : List ℕ) → length (split_within turns q) ≤ turns)
@@ -246,7 +247,7 @@ pub strict_counted : (v : View) (r : Result ℕ DecoderError) → v.is_strict �
 strict_counted v (Ok n) strict none same = sym (item_count-told v (items_strict v strict ∙ none) ∙ ap Ok (sym same))
 strict_counted v (Err e) strict fault same = sym (item_count-fault v e (items_strict v strict ∙ fault))
 
--- ---- the places of the items of a list, found by going over them
+-- ---- the places of the items of a list
 
 -- the fault of bytes without any of the headers
 pub fault-err : (b : List ℕ) (e : DecoderError) → framing b ≡ Err e → e ≡ fault b
@@ -256,59 +257,40 @@ fault-err b e is = sym (ap fault_in is)
 pub get_or-drop : {A : Type 0} (i : ℕ) (xs ys : List A) (x d : A) → drop i xs ≡ x ∷ ys → get_or xs i d ≡ x
 get_or-drop i xs ys x d e = grind (arith, common_steps)
 
-take-next : {A : Type 0} (i : ℕ) (xs ys : List A) (x : A) → drop i xs ≡ x ∷ ys → take (suc i) xs ≡ take i xs ++ x ∷ []
-take-next i xs ys x e = take-suc xs i x (drop-inside i xs ys x e) ∙ ap (λ y. take i xs ++ y ∷ []) (get_or-drop i xs ys x x e)
-
--- the bytes of the payload of b after its first k items
-pub record IsWalked (b : List ℕ) (k : ℕ) (left : List ℕ) : Type 0 where
-  pub others : split left ≡ drop k (items b)
-  pub whole : payload b ≡ concat (take k (items b)) ++ left
-
--- the walk begins with no item taken and the whole payload left
-pub walked-none : (b p : List ℕ) → p ≡ payload b → IsWalked b 0 p
-unfolding items
-walked-none b p e = record { others = ap split e; whole = sym e }
-
--- the walk goes on after one item
-pub walked-one : (b item others left : List ℕ) (k : ℕ) → IsWalked b k left → split left ≡ item ∷ split others → left ≡ item ++ others
-    → IsWalked b (k + 1) others
-walked-one b item others left k is parts whole =
-    grind (arith, drop-next, append_assoc, take-next, concat-append, append-nil)
-
--- the item after i items of a walk, and its place
-pub walked-item : (v : View) (item : List ℕ) (i n : ℕ) (p : PayloadInfo) (others left : List ℕ) → items_fault v ≡ None → framing v.bytes ≡ Ok p
-    → n ≡ length (payload v.bytes)
-    → IsWalked v.bytes i left → split left ≡ item ∷ split others → left ≡ item ++ others
-    → Ok (record v { bytes = item }, p.header_len + (n - length others - length item)) ≡ item_with_place v i
-walked-item v item i n p others left kind is long walked parts whole =
-    let here : drop i (items v.bytes) ≡ item ∷ split others = sym walked.others ∙ parts in
+-- the item after the first i items of a list, and its place
+pub skipped-item : (v : View) (item : List ℕ) (i : ℕ) (p : PayloadInfo) (others left q : List ℕ) → items_fault v ≡ None → framing v.bytes ≡ Ok p
+    → value v.bytes ≡ Ok q → IsAfterItems q i left → split left ≡ item ∷ split others
+    → Ok (record v { bytes = item }, p.header_len + (length q - length left)) ≡ item_with_place v i
+skipped-item v item i p others left q told is content after parts =
+    let same : split q ≡ items v.bytes = value-items v.bytes q (sym (told_begins v told)) content in
+    let here : drop i (items v.bytes) ≡ item ∷ split others = ap (drop i) (sym same) ∙ sym after.others ∙ parts in
     let inside : i < length (items v.bytes) = drop-inside i (items v.bytes) (split others) item here in
-    let lengths : length (payload v.bytes) ≡ length (concat (take i (items v.bytes))) + length left = ap length walked.whole
-    ∙ length-append (concat (take i (items v.bytes))) left in
-    let place : p.header_len + (n - length others - length item) ≡ p.header_len + length (concat (take i (items v.bytes))) =
-    omega (arith, ap length whole, length-append item others) in
+    let lengths : length q ≡ length (concat (take i (split q))) + length left = ap length after.whole ∙ length-append (concat (take i (split q))) left in
+    let place : p.header_len + (length q - length left) ≡ p.header_len + length (concat (take i (items v.bytes))) =
+    omega (arith, ap (λ fs. length (concat (take i fs))) same) in
     let found : item ≡ get_or (items v.bytes) i [] = sym (get_or-drop i (items v.bytes) (split others) item [] here) in
     ap (λ (n : ℕ). Ok (record v { bytes = item }, n)) place
     ∙ ap (λ (b : List ℕ). Ok (record v { bytes = b }, p.header_len + length (concat (take i (items v.bytes))))) found
     ∙ sym (cond-true (ltb i (length (items v.bytes))) _ _ (lt-ltb i (length (items v.bytes)) inside))
-    ∙ sym (item_with_place-told v i (Ok p) kind is)
+    ∙ sym (item_with_place-told v i (Ok p) told is)
 
--- after the last item, the fault is that of the bytes that follow the items
-pub walked-past : (v : View) (i k : ℕ) (p : PayloadInfo) (left : List ℕ) (e : DecoderError) → items_fault v ≡ None → framing v.bytes ≡ Ok p
-    → IsWalked v.bytes k left → split left ≡ [] → e ≡ fault left → k ≤ i
-    → Err e ≡ item_with_place v i
-unfolding rest
-walked-past v i k p left e kind is walked none same below =
-    let gone : drop k (items v.bytes) ≡ [] = sym walked.others ∙ none in
-    let few : length (items v.bytes) ≤ k = let zero_left : length (items v.bytes) - k ≡ 0 = sym (length-drop k (items v.bytes))
-    ∙ ap length gone in omega arith in
-    let past : ltb i (length (items v.bytes)) ≡ false = le-ltb i (length (items v.bytes)) (omega arith) in
-    let whole : payload v.bytes ≡ concat (items v.bytes) ++ left = walked.whole ∙ ap (λ fs. concat fs ++ left) (take_all k (items v.bytes) few) in
-    let after : rest v.bytes ≡ left = ap (drop (length (concat (items v.bytes)))) whole
-    ∙ drop_at (concat (items v.bytes)) left (length (concat (items v.bytes))) refl in
-    ap Err (same ∙ ap fault (sym after))
+-- a list of fewer items has the fault of the bytes that follow the items
+pub skipped-past : (v : View) (i : ℕ) (p : PayloadInfo) (q : List ℕ) (e : DecoderError) → items_fault v ≡ None → framing v.bytes ≡ Ok p
+    → value v.bytes ≡ Ok q → length (split q) ≤ i → e ≡ fault (after_items q) → Err e ≡ item_with_place v i
+unfolding rest items
+skipped-past v i p q e told is content few fault_is =
+    let same : q ≡ payload v.bytes = value-payload v.bytes q (sym (told_begins v told)) content in
+    let past : ltb i (length (items v.bytes)) ≡ false = le-ltb i (length (items v.bytes)) (omega (arith, ap (λ b. length (split b)) same)) in
+    ap Err (fault_is ∙ ap (λ b. fault (after_items b)) same)
     ∙ sym (cond-false (ltb i (length (items v.bytes))) _ _ past)
-    ∙ sym (item_with_place-told v i (Ok p) kind is)
+    ∙ sym (item_with_place-told v i (Ok p) told is)
+
+-- the same where no item is left after the first i items
+pub skipped-end : (v : View) (i : ℕ) (p : PayloadInfo) (left q : List ℕ) (e : DecoderError) → items_fault v ≡ None → framing v.bytes ≡ Ok p
+    → value v.bytes ≡ Ok q → IsAfterItems q i left → split left ≡ [] → e ≡ fault left → Err e ≡ item_with_place v i
+skipped-end v i p left q e told is content after none fault_is =
+    let all = after-all q left i (i + 1) after none (omega arith) in
+    skipped-past v i p q e told is content (omega (arith, all.0)) (fault_is ∙ all.1)
 
 -- a view that isn't framed has its fault for each number
 pub not_framed_item : (v : View) (i : ℕ) (e : DecoderError) → items_fault v ≡ None → framing v.bytes ≡ Err e → Err e ≡ item_with_place v i
@@ -317,11 +299,6 @@ not_framed_item v i e told is = sym (item_with_place-told v i (Err e) told is)
 pub not_told_item : (v : View) (i : ℕ) (e : DecoderError) → items_fault v ≡ Some e → Err e ≡ item_with_place v i
 unfolding item_with_place
 not_told_item v i e is = grind arith
-
--- the bytes that are left for a walk
-pub walked-length : (b item others left : List ℕ) (k n : ℕ) → IsWalked b k left → left ≡ item ++ others → n ≡ length (payload b)
-    → length item + length others ≤ n
-walked-length b item others left k n is whole long = grind (arith, length-append)
 
 -- ---- the items of a view, taken one after another
 
