@@ -9,6 +9,10 @@ use crate::framed::{first_framed, short_framed};
 /// The most bytes that a string takes whose first byte tells its length.
 const LONGEST_SHORT: usize = 56;
 
+/// How many items must be left to skip for a look at four first bytes at once. For fewer items,
+/// whose kinds mostly differ, it costs more than it saves.
+const MANY: usize = 32;
+
 /// The bytes after the first `count` items of these bytes.
 ///
 /// If the bytes begin with fewer items, it fails with the fault of the bytes that follow the items.
@@ -31,8 +35,8 @@ pub fn skip_items<'a>(bytes: &'a [u8], count: usize) -> Result<&'a [u8], Decoder
     Ok(rest)
 }
 
-/// Skips strings of at most 55 bytes by four, for as long as four have the same first byte. Returns
-/// the bytes after them, and how many of `count` items are left to skip.
+/// Skips strings of at most 55 bytes by four, for as long as four have the same first byte and many
+/// items are left. Returns the bytes after them, and how many of `count` items are left to skip.
 // One first byte tells where the others would be, so the processor needn't read them one by one.
 #[inline(always)]
 #[tactic(auto, using(crate::proofs::Lemmas::Skipping::skips))]
@@ -42,7 +46,7 @@ fn skip_alike<'a>(bytes: &'a [u8], count: usize) -> (&'a [u8], usize)
 {
     let mut rest = bytes;
     let mut left = count;
-    while left >= 4 && rest.len() >= 4 * LONGEST_SHORT {
+    while left >= MANY && rest.len() >= 4 * LONGEST_SHORT {
         let first = rest[0];
         let len = short_len(first);
         if first >= 0xb8 || rest[len] != first || rest[2 * len] != first || rest[3 * len] != first {

@@ -9,10 +9,10 @@ use Rattle.rlp_format.specs.Format.Encoding.{Item, string, AreBytes, written_hea
 use Rattle.rlp_format.specs.Values.Value.{FitsBytes}
 use Rattle.rlp_format.proofs.{Lemmas.Encodings.{front_sized, string_cases}, Lemmas.Headers.written_header_short}
 use Rattle.rlp_format.proofs.Lemmas.Digits.{bytes_held, digits_fit, digits_again, big_endian_is, pow-bytes}
-use Rattle.rlp_reading.specs.{declared.error.DecoderError.DecoderError, declared.error.DecoderError.TheVariants.{RlpIsTooBig, RlpInvalidIndirection}}
+use Rattle.rlp_reading.specs.{declared.error.DecoderError.DecoderError, declared.error.DecoderError.TheVariants.RlpIsTooBig}
 use Rattle.rlp_reading.specs.Format.Framing.{HasHeader, ReadsString, read_string, is_followed, is_longer, whole_string}
 use Rattle.rlp_reading.specs.Views.View.{View, Holds, HoldsItem, HoldsNoString, HoldsString, view_string}
-use Rattle.rlp_reading.specs.Values.ValueReading.{IsDigitsFault, too_long, leading_zero, GivesNumber}
+use Rattle.rlp_reading.specs.Values.ValueReading.{GivesNumber}
 use Rattle.rlp_reading.proofs.{Lemmas.Frames.{encoding_item, framing_is, longer}, Lemmas.Strings.{string_only, string_reads}}
 
 begins_by : (strict : Bool) (b s : List ℕ) → Holds strict b s → BeginsWith b s
@@ -159,14 +159,6 @@ leading_is_value width [] bytes few leading = absurd (leading refl)
 leading_is_value width (d ∷ ds) bytes few leading =
     let held = bytes_held (d ∷ ds) bytes in
     (digits_fit width (d ∷ ds) held few, digits_again d ds held (pos_of_ne-zero leading))
-
--- digits that begin with a zero have a fault
-pub zero_is_fault : (width : ℕ) (digits : List ℕ) → length digits ≤ width → 1 ≤ length digits → get_or digits 0 0 ≡ 0
-    → IsDigitsFault width digits RlpInvalidIndirection
-zero_is_fault width [] few some leads = absurd (omega arith)
-zero_is_fault width (d ∷ ds) few some leads = leading_zero ds few (ap (λ c. c ∷ ds) leads)
-
-pub ruleset digit_faults = (too_long, zero_is_fault)
 
 -- ---- a view that begins with a number of one digit
 

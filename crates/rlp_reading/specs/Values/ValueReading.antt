@@ -1,6 +1,6 @@
 -- The value that a view gives, and why it gives none: numbers, byte strings and text.
-use Rattle.std.specs.Prelude.{ℕ, ◌≡◌, ◌≤◌, ◌<◌, ◌⊎◌, List, ◌∷◌, length}
-use Rattle.rlp_reading.specs.{declared.error.DecoderError.DecoderError, declared.error.DecoderError.TheVariants.{RlpIsTooBig, RlpInvalidIndirection}}
+use Rattle.std.specs.Prelude.{ℕ, ◌≡◌, ◌⊎◌}
+use Rattle.rlp_reading.specs.declared.error.DecoderError.{DecoderError}
 use Rattle.rlp_reading.specs.{Views.Text.error_name, Views.View.{View, HoldsItem}}
 use Rattle.rlp_format.specs.{Format.Encoding.Item, Values.Value.{number_item, FitsBytes, AreAlike}}
 
@@ -12,11 +12,6 @@ pub record GivesValue {A : Type 0} (Fits : A → Type 0) (item : A → Item) (v 
 -- the view gives the number n, which has at most this number of bytes
 abbrev pub GivesNumber : ℕ → View → ℕ → Type 0
 GivesNumber width v n = GivesValue (FitsBytes width) number_item v n
-
--- Why a string isn't a number of at most this number of bytes, in the order of the tests: the string is longer, or it begins with a zero.
-pub data IsDigitsFault (width : ℕ) (digits : List ℕ) : DecoderError → Type 0 where
-  too_long : width < length digits → IsDigitsFault width digits RlpIsTooBig
-  leading_zero : (more : List ℕ) → length digits ≤ width → digits ≡ 0 ∷ more → IsDigitsFault width digits RlpInvalidIndirection
 
 -- two faults are the same if they are the same variant, and for `Custom` also have the same text
 abbrev pub IsSameFault : DecoderError → DecoderError → Type 0
