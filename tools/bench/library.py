@@ -40,6 +40,8 @@ OPERATIONS = {
     "as_list": "as_list of 1,000 numbers",
     "decode_transaction": "decode a transaction of nine fields, typed",
     "decode_transaction_strictly": "decode a transaction of nine fields, typed and strictly",
+    "decode_header": "decode a header of 21 fields, typed",
+    "decode_header_strictly": "decode a header of 21 fields, typed and strictly",
     "transaction_by_iter": "nine fields by iter",
     "transaction_by_at": "nine fields by at(0) to at(8)",
     "transaction_by_fields": "nine fields by Fields",

@@ -6,8 +6,7 @@ use Rattle.rlp_reading.specs.{declared.error.DecoderError.DecoderError, declared
 use Rattle.rlp_reading.specs.{Format.Framing.items, Views.View.{View, item_count, item_views}}
 use Rattle.rlp_reading.specs.Form.{Fault, Faults, FieldsReading, Gives, all_taken, fault_of, incorrect_list_len, items_of, struct_reading, and_then, take_all}
 use Rattle.rlp_reading.specs.Laws.{TakePossible}
-use Rattle.rlp_reading.proofs.{Lemmas.Numbered.{item_count-told, counted_told}, ListLaws.items_told}
-use Rattle.rlp_reading.proofs.StructLaws.{other_number, struct_given, this_number}
+use Rattle.rlp_reading.proofs.{Lemmas.Numbered.{item_count-told, counted_told}, ListLaws.items_told, StructLaws.{other_number, struct_given, this_number}}
 use Rattle.rlp.specs.Left.{AreFaulty}
 
 module _ {P : Type 0} (r : FieldsReading P) (v : View) where

@@ -2,8 +2,7 @@
 use Rattle.std.proofs.Common.{◌≡◌, ℕ, ◌≤◌, ◌↔◌, Option, IsTrue, true, false, MatchResult, IfOk, List, [], ◌∷◌, ◌++◌, length, take, drop, map, ◌<◌}
 use Rattle.std.proofs.{Common.{◌^◌, Bool, arith, Result, Ok, Err, None, Some, refl, sym, ap, ◌∙◌}, lemmas.Bool.{cond-true, cond-false}}
 use Rattle.std.proofs.{lemmas.List.length-map, lemmas.Result.err_from_is_err_and}
-use Rattle.rlp_reading.specs.{declared.error.DecoderError.DecoderError, declared.error.DecoderError.TheVariants.RlpExpectedToBeList}
-use Rattle.rlp_reading.specs.declared.header.PayloadInfo.{PayloadInfo}
+use Rattle.rlp_reading.specs.{declared.error.DecoderError.DecoderError, declared.error.DecoderError.TheVariants.RlpExpectedToBeList, declared.header.PayloadInfo.{PayloadInfo}}
 use Rattle.rlp_reading.specs.Format.Framing.{fault, framing, map_ok, value, begins_as_list, items, payload, payload_in, split, after_items}
 use Rattle.rlp_reading.specs.{Format.Framing.{fault_of_some, strict_fault, strict_list_fault}, Values.RawItem.view_frame}
 use Rattle.rlp_reading.specs.Views.View.{View, view_header, item_at, item_count, item_views, items_fault, list_fault}

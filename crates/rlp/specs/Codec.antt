@@ -1,15 +1,13 @@
 -- Codecs of types, from which the traits of a type are made. Each codec is the form of the same name in `rlp_reading`, with the proof of its laws.
 use Rattle.std.specs.{Prelude.{ℕ, ◌≡◌, ◌==◌, ◌⊎◌, Bool, true, false, List, Option, Result}, Int.Digits.number_from_digits}
 use Rattle.rlp_format.specs.{declared.uint.Uint.Uint, Format.Encoding.{Item, is_list}}
-use Rattle.rlp_reading.specs.{Form.{Form, Fault, FieldsForm, FieldsReading, Reading}, Sums.CasesForm}
-use Rattle.rlp_reading.specs.Laws.{AreLawful, CasesAreLawful, IsLawful, IsReadBack, form_of, fields_of}
+use Rattle.rlp_reading.specs.{Form.{Form, Fault, FieldsForm, FieldsReading, Reading}, Sums.CasesForm, Laws.{AreLawful, CasesAreLawful, IsLawful, IsReadBack, form_of, fields_of}}
 use Rattle.rlp_reading.specs.Form as form
 use Rattle.rlp_reading.specs.Sums as sums
 use Rattle.rlp_reading.proofs.StringLaws.{ReadsStrings, array_lawful, bytes_lawful, number_lawful, string_lawful, text_lawful, truth_lawful}
 use Rattle.rlp_reading.proofs.{ListLaws.{list_lawful, option_lawful, read_back, value_lawful}, RawLaws.raw_lawful}
 use Rattle.rlp_reading.proofs.FieldLaws.{each_lawful, end_lawful, field_lawful, group_lawful, optional_group_lawful, optional_lawful}
-use Rattle.rlp_reading.proofs.{StructLaws.struct_lawful, SumLaws.{and_case_lawful, either_lawful, enveloped_lawful, last_case_lawful, tagged_lawful}}
-use Rattle.rlp_reading.proofs.GroupLaws.{groups_lawful}
+use Rattle.rlp_reading.proofs.{StructLaws.struct_lawful, SumLaws.{and_case_lawful, either_lawful, enveloped_lawful, last_case_lawful, tagged_lawful}, GroupLaws.{groups_lawful}}
 
 -- How the values of a type are written and read: which values fit, the item of a value, what views give, and the laws: each value that is written is read back, and
 -- a strict view gives no other value.

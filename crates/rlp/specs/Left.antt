@@ -1,7 +1,6 @@
 -- What a reader of the items of a list has left.
 use Rattle.std.specs.Prelude.{ℕ, ◌≡◌, ◌≤◌, List, [], ◌∷◌, drop, length, None, Result, Ok, Err}
-use Rattle.rlp_reading.specs.{declared.error.DecoderError.DecoderError, Format.Framing.{strict_fault, value}, Views.View.View}
-use Rattle.rlp_reading.specs.Form.{FieldsReading, fault_of, take_all}
+use Rattle.rlp_reading.specs.{declared.error.DecoderError.DecoderError, Format.Framing.{strict_fault, value}, Views.View.View, Form.{FieldsReading, fault_of, take_all}}
 
 -- The views of the items that are left, in order; the error past the last item; and the bytes that follow the items in the list, which are the same before and after
 -- an item is taken.

@@ -5,7 +5,7 @@ use rlp_records::Address;
 use rlp_transactions::{
     LegacyTransaction, NonZeroScalar, Payload, Recipient, SignedLegacyTransaction,
 };
-use std::alloc::Global;
+use std::alloc::{AllocError, Global};
 
 /// Values, and encodings. Each encoding is there twice, one after the other.
 #[derive(Drop)]
@@ -25,6 +25,8 @@ pub(crate) struct Inputs {
     /// The encodings of the transaction and of a list of 100 transactions.
     pub transaction_bytes: Vec<u8>,
     pub block: Vec<u8>,
+    /// The encoding of a header of 21 fields, as blocks have since Prague.
+    pub header: Vec<u8>,
     /// The encodings of the list of the numbers and of a list of 10,000 small items.
     pub list: Vec<u8>,
     pub long_list: Vec<u8>,
@@ -57,6 +59,7 @@ impl Inputs {
             transaction,
             transaction_bytes,
             block,
+            header: twice(alloc, header(alloc).ok()?.as_raw())?,
             list,
         })
     }
@@ -97,6 +100,22 @@ fn transaction(alloc: Global) -> Option<SignedLegacyTransaction> {
     let r = NonZeroScalar::new(Uint { bytes: [0x28; 32] })?;
     let s = NonZeroScalar::new(Uint { bytes: [0x67; 32] })?;
     Some(payload.with_signature(Uint::from(37), r, s))
+}
+
+/// Returns a stream with a header of 21 fields.
+fn header(alloc: Global) -> Result<RlpStream, AllocError> {
+    let hash = [0x35u8; 32];
+    let mut s = RlpStream::new_list(alloc, 21)?;
+    s.append(&hash)?.append(&hash)?.append(&[0x35u8; 20])?;
+    s.append(&hash)?.append(&hash)?.append(&hash)?;
+    s.append(&[0u8; 256])?.append_empty_data()?;
+    s.append(&22_431_084u64)?.append(&36_000_000u64)?;
+    s.append(&17_000_000u64)?.append(&1_746_612_311u64)?;
+    s.append(&"extra data")?.append(&hash)?.append(&[0u8; 8])?;
+    s.append(&537_000_000u64)?.append(&hash)?;
+    s.append(&786_432u64)?.append(&917_504u64)?;
+    s.append(&hash)?.append(&hash)?;
+    Ok(s)
 }
 
 /// Returns the encoding of a value.

@@ -3,6 +3,7 @@
 use crate::inputs::Inputs;
 use crate::summed;
 use rlp::{Rlp, decode, decode_list, decode_strict};
+use rlp_headers::Header;
 use rlp_records::keccak256;
 use rlp_transactions::SignedLegacyTransaction as Transaction;
 use std::alloc::Global;
@@ -49,6 +50,12 @@ pub(crate) fn run(alloc: Global, inputs: &Inputs, operation: &str, times: usize)
                     .gas_limit as usize,
             )
         }),
+        "decode_header" => each(inputs.header.as_slice(), times, |b| {
+            Some(decode::<Header>(alloc, b).ok()?.gas_limit as usize)
+        }),
+        "decode_header_strictly" => each(inputs.header.as_slice(), times, |b| {
+            Some(decode_strict::<Header>(alloc, b).ok()?.gas_limit as usize)
+        }),
         "transaction_by_iter" => each(transaction, times, by_iter),
         "transaction_by_at" => each(transaction, times, |b| by_at(b, 9)),
         "transaction_by_fields" => each(transaction, times, |b| by_fields(b, 9)),
@@ -85,11 +92,11 @@ fn each<F: FnMut(&[u8]) -> Option<usize>>(bytes: &[u8], times: usize, mut read: 
     requires { F.IsAlwaysCallable read }
 {
     let half = bytes.len() / 2;
-    let (first, second) = (bytes.get(..half)?, bytes.get(half..)?);
+    let (mut encoding, mut other) = (bytes.get(..half)?, bytes.get(half..)?);
     let mut sum: usize = 0;
-    for turn in 0..times {
-        let encoding = if turn % 2 == 0 { first } else { second };
+    for _ in 0..times {
         sum = sum.wrapping_add(read(encoding)?);
+        std::mem::swap(&mut encoding, &mut other);
     }
     Some(sum)
 }

@@ -5,16 +5,13 @@ use Rattle.std.proofs.{lemmas.Bool.{cond-true, cond-false}, lemmas.Bool.Decides.
 use Rattle.std.specs.Bool.{⊤}
 use Rattle.rlp_format.specs.Format.Encoding.{Item, list_of, IsSized, encoding}
 use Rattle.rlp_format.proofs.Lemmas.Encodings.{listed_from}
-use Rattle.rlp_reading.specs.{Format.Framing.{begins_as_list, items}, Views.View.{View, strict_view_of}}
-use Rattle.rlp_reading.specs.Form.{Answer, Fault, custom, here, map_answer, map_fault}
+use Rattle.rlp_reading.specs.{Format.Framing.{begins_as_list, items}, Views.View.{View, strict_view_of}, Form.{Answer, Fault, custom, here, map_answer, map_fault}}
 use Rattle.rlp_reading.proofs.{Lemmas.Views.list_shape, Lemmas.WholeLists.{strict_items, whole_sized}}
 use Rattle.rlp.specs.Codec.{truth_value}
 use Rattle.rlp_records.specs.{Alone.{bytes_alone, unknown_type}, Eip2718.{type_of, typed_alone}}
-use Rattle.rlp_transactions.specs.declared.transaction.Transaction.{Transaction}
-use Rattle.rlp_transactions.specs.AccessListTransaction.{access_list_transaction_fields, signed_access_list_transaction}
+use Rattle.rlp_transactions.specs.{declared.transaction.Transaction.{Transaction}, AccessListTransaction.{access_list_transaction_fields, signed_access_list_transaction}}
 use Rattle.rlp_transactions.specs.BlobTransaction.{blob_transaction_fields, signed_blob_transaction}
-use Rattle.rlp_transactions.specs.FeeMarketTransaction.{fee_market_transaction_fields, signed_fee_market_transaction}
-use Rattle.rlp_transactions.specs.LegacyTransaction.{signed_legacy_transaction_fields}
+use Rattle.rlp_transactions.specs.{FeeMarketTransaction.{fee_market_transaction_fields, signed_fee_market_transaction}, LegacyTransaction.{signed_legacy_transaction_fields}}
 use Rattle.rlp_transactions.specs.{SetCodeTransaction.{set_code_transaction_fields, signed_set_code_transaction}, Signed.signed_fields}
 use Rattle.rlp_transactions.specs.Transaction.{transaction, transaction_types}
 use Rattle.rlp_transactions.specs.declared.transaction.Transaction.TheVariants.{AccessList as of_access_list, Blob as of_blob, FeeMarket as of_fee_market}

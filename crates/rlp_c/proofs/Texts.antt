@@ -1,7 +1,6 @@
 -- Bytes that are put one after another.
 use Rattle.std.proofs.Common.{◌≡◌, ℕ, ◌+◌, ◌-◌, ◌^◌, ◌<◌, ◌≤◌, List, [], ◌∷◌, ◌++◌, length, take, drop, map, codes, sym, ap, ◌∙◌, subst, arith}
-use Rattle.std.proofs.Common.{append_assoc, length-append, false, le-leb, Ok, Err, MatchResult}
-use Rattle.std.proofs.{lemmas.List.{drop-drop, drop_at, length-take-le, take_at}, lemmas.Bool.cond-true}
+use Rattle.std.proofs.{Common.{append_assoc, length-append, false, le-leb, Ok, Err, MatchResult}, lemmas.List.{drop-drop, drop_at, length-take-le, take_at}, lemmas.Bool.cond-true}
 use Rattle.rlp_reading.specs.{Format.Framing.{items, split, framing, framing_in, header, payload_info, IsString}, Views.Text.{separated, text}}
 use Rattle.rlp_reading.specs.{declared.error.DecoderError.DecoderError, declared.header.PayloadInfo.PayloadInfo, Form.Fault}
 use Rattle.rlp_reading.proofs.{Lemmas.Texts.{done-more, separator_after, separator_after-more, texts-more}, Trees.Needless.{Ok_same, string_placed}}

@@ -1,10 +1,8 @@
 -- The tree that rows describe, by what is written for one row after another.
 use Rattle.std.proofs.Common.{◌≡◌, ◌≢◌, ℕ, zero, suc, ◌+◌, ◌<◌, ◌≤◌, ⊎_elim, ltb, ◌==◌, List, [], ◌∷◌, ◌++◌, length, refl, sym, ap, ◌∙◌, arith}
-use Rattle.std.proofs.Common.{append-nil, append_assoc, length-append, lt-ltb, le-ltb, eq-eqb, ne_eqb}
-use Rattle.std.proofs.lemmas.Bool.{cases_eq, cond-true, cond-false}
+use Rattle.std.proofs.{Common.{append-nil, append_assoc, length-append, lt-ltb, le-ltb, eq-eqb, ne_eqb}, lemmas.Bool.{cases_eq, cond-true, cond-false}}
 use Rattle.rlp_format.specs.Format.Encoding.{Item, string, list, Items, no_items, item_and, encoding, join_items, string_encoding, written_header}
-use Rattle.rlp_c.specs.{declared.item.RlpItem.RlpItem, Rows.payload_at}
-use Rattle.rlp_c.specs.Tree.{AreRows, DescribeTree, depth_behind, front_of, item_of, items_of, tree_of}
+use Rattle.rlp_c.specs.{declared.item.RlpItem.RlpItem, Rows.payload_at, Tree.{AreRows, DescribeTree, depth_behind, front_of, item_of, items_of, tree_of}}
 
 -- ---- one row
 

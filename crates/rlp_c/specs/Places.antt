@@ -1,8 +1,7 @@
 -- Where the fields of a transaction and of a header are, by the codecs of `rlp_transactions` and `rlp_headers`.
 use Rattle.std.specs.Prelude.{ℕ, ◌≡◌, ◌⊎◌, List, [], map}
 use Rattle.rlp_format.specs.Format.Encoding.{Item, list, listed, string, encoding}
-use Rattle.rlp_transactions.specs.declared.transaction.Transaction.{Transaction}
-use Rattle.rlp_transactions.specs.declared.transaction.Transaction.TheVariants.{AccessList, Blob, FeeMarket, Legacy, SetCode}
+use Rattle.rlp_transactions.specs.{declared.transaction.Transaction.{Transaction}, declared.transaction.Transaction.TheVariants.{AccessList, Blob, FeeMarket, Legacy, SetCode}}
 use Rattle.rlp_transactions.specs.{AccessListTransaction.signed_access_list_transaction, BlobTransaction.signed_blob_transaction}
 use Rattle.rlp_transactions.specs.{FeeMarketTransaction.signed_fee_market_transaction, LegacyTransaction.signed_legacy_transaction}
 use Rattle.rlp_transactions.specs.SetCodeTransaction.{signed_set_code_transaction}

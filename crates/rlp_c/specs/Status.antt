@@ -1,7 +1,6 @@
 -- The status numbers of faults in C.
 use Rattle.std.specs.Prelude.{ℕ, ◌≡◌, Bool, List, Result, Ok, Err}
-use Rattle.rlp_reading.specs.{declared.error.DecoderError.DecoderError, declared.flat.TreeFault.TreeFault}
-use Rattle.rlp_reading.specs.declared.flat.TreeFault.TheVariants.{Decoding, TooDeep}
+use Rattle.rlp_reading.specs.{declared.error.DecoderError.DecoderError, declared.flat.TreeFault.TreeFault, declared.flat.TreeFault.TheVariants.{Decoding, TooDeep}}
 use Rattle.rlp_reading.specs.Form.{Fault, custom, data_len_with_zero, expected_data, expected_list, fault_of, inconsistent_len, incorrect_list_len}
 use Rattle.rlp_reading.specs.{Form.{invalid_indirection, invalid_len, is_too_big, is_too_short, list_len_with_zero, out_of_memory}, Views.View.View}
 

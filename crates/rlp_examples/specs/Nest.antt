@@ -1,7 +1,6 @@
 -- How nests are written and read.
 use Rattle.std.specs.{Vec.vec_items, declared.alloc.Global.Global}
-use Rattle.rlp.specs.Codec.{Codec, end, field, list_type, struct_of}
-use Rattle.rlp.specs.Form.{Form, Reading, group_before, list_reading, no_fields, one_field, struct_reading}
+use Rattle.rlp.specs.{Codec.{Codec, end, field, list_type, struct_of}, Form.{Form, Reading, group_before, list_reading, no_fields, one_field, struct_reading}}
 use Rattle.rlp.specs.Form as form
 use Rattle.rlp_examples.specs.declared.nest.Nest.{Nest}
 

@@ -2,10 +2,8 @@
 use Rattle.std.specs.{Prelude.false, Vec.vec_items, declared.alloc.Global.Global}
 use Rattle.rlp.specs.{Form.{Form}, Laws.IsReadBack}
 use Rattle.rlp.specs.Form as form
-use Rattle.rlp_reading.proofs.{ListLaws.{list_back, list_told}, FieldLaws.{end_back, end_told, field_back, field_told}}
-use Rattle.rlp_reading.proofs.StructLaws.{struct_back, struct_told}
-use Rattle.rlp_examples.specs.declared.nest.Nest.{Nest}
-use Rattle.rlp_examples.specs.Nest.{nest_form}
+use Rattle.rlp_reading.proofs.{ListLaws.{list_back, list_told}, FieldLaws.{end_back, end_told, field_back, field_told}, StructLaws.{struct_back, struct_told}}
+use Rattle.rlp_examples.specs.{declared.nest.Nest.{Nest}, Nest.{nest_form}}
 
 -- If the values of a nest are read back, the nest is read back, strictly or not.
 pub nest_read_back : {A : Type 0} (c : Form A) → IsReadBack c → IsReadBack (nest_form c)

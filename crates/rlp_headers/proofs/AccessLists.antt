@@ -3,8 +3,7 @@ use Rattle.std.proofs.{Common.{◌≡◌, Ok, Err, ap, ◌∙◌, codes}, lemmas
 use Rattle.std.specs.{Prelude.Vec, declared.alloc.Global.Global}
 use Rattle.rlp.specs.{Form.{and_then, custom}, Views.View.View}
 use Rattle.rlp_records.specs.TestedForm.{passing}
-use Rattle.rlp_headers.specs.AccessOrder.{AreAccountsInOrder, accounts, accounts_in_order, block_access_list}
-use Rattle.rlp_headers.specs.declared.block_access_list.changes.AccountChanges.{AccountChanges}
+use Rattle.rlp_headers.specs.{AccessOrder.{AreAccountsInOrder, accounts, accounts_in_order, block_access_list}, declared.block_access_list.changes.AccountChanges.{AccountChanges}}
 
 -- accounts in order
 pub read_in_order : (v : View) (xs : Vec AccountChanges Global) → (accounts.reading.read v).result ≡ Ok (accounts.reading.seen xs) → AreAccountsInOrder xs

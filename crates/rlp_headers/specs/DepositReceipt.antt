@@ -1,8 +1,7 @@
 -- How receipts of deposits of the OP stack are written and read.
 use Rattle.std.specs.{Prelude.refl, Vec.vec_items}
 use Rattle.rlp.specs.Codec.{Codec, Fields, field, list_type, number, optional, optional_group, struct_of}
-use Rattle.rlp_headers.specs.{Log.log, Receipt.{bloom, receipt_status}, declared.deposit_receipt.DepositReceipt.DepositReceipt}
-use Rattle.rlp_headers.specs.declared.deposit_receipt.Regolith.{Regolith}
+use Rattle.rlp_headers.specs.{Log.log, Receipt.{bloom, receipt_status}, declared.deposit_receipt.DepositReceipt.DepositReceipt, declared.deposit_receipt.Regolith.{Regolith}}
 
 -- the fields since Regolith: depositNonce, and since Canyon depositReceiptVersion
 abbrev pub regolith_fields : Fields Regolith

@@ -1,8 +1,7 @@
 -- What strings are the statuses of receipts.
 use Rattle.std.specs.Prelude.{ℕ, ⊤, ◌==◌, ◌∷◌, ◌≡◌, Bool, Err, List, None, Ok, Option, Result, Some, [], codes, false, if◌then◌else◌, length, suc, true, zero}
 use Rattle.rlp.specs.Form.{Fault, custom, map_value}
-use Rattle.rlp_headers.specs.declared.receipt.ReceiptStatus.{ReceiptStatus}
-use Rattle.rlp_headers.specs.declared.receipt.ReceiptStatus.TheVariants.{Failure, StateRoot, Success}
+use Rattle.rlp_headers.specs.{declared.receipt.ReceiptStatus.{ReceiptStatus}, declared.receipt.ReceiptStatus.TheVariants.{Failure, StateRoot, Success}}
 
 -- EIP-658: "1 indicating success, 0 indicating failure", as a number, so 0 is the empty string. Before Byzantium the status is the 32 bytes of the root of the
 -- state.

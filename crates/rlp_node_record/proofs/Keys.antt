@@ -4,8 +4,7 @@ use Rattle.std.proofs.lemmas.{Bool.{cond-true, cond-false, false_from_ne_true, l
 use Rattle.std.specs.Vec.{vec_items}
 use Rattle.rlp.specs.{Format.Encoding.encoding, Views.View.strict_view_of, Form.{Fault, and_then, custom, is_too_big}}
 use Rattle.rlp_records.proofs.Alone.{result_same}
-use Rattle.rlp_node_record.specs.{NodeFields.node_fields, NodeKeys.{HasId, has_key, value_among}}
-use Rattle.rlp_node_record.specs.NodeLaws.{key_found, keys_pass, read_short, read_tested, record_back, tested}
+use Rattle.rlp_node_record.specs.{NodeFields.node_fields, NodeKeys.{HasId, has_key, value_among}, NodeLaws.{key_found, keys_pass, read_short, read_tested, record_back, tested}}
 use Rattle.rlp_node_record.specs.NodeRecord.{AreInOrder, AreRecordKeys, IsNodeRecord, keys_of, keys_rise, longest_record, read_record, test_fields, test_keys}
 use Rattle.rlp_node_record.specs.{declared.node_fields.NodeFields.NodeFields, declared.node_fields.NodePair.NodePair}
 

@@ -4,8 +4,7 @@ use Rattle.base64.specs.{Engines.url_safe_no_pad, GeneralPurpose.{IsBytes, decod
 use Rattle.base64.proofs.EngineFacts.{decode_of-encode_of}
 use Rattle.rlp.specs.{DecoderError.DecoderError, DecoderError.TheVariants.OutOfMemory, Format.Encoding.{encoding, AreBytes}}
 use Rattle.rlp.specs.{Views.View.strict_view_of, Form.{Faults, custom, fault_of}}
-use Rattle.rlp_reading.proofs.Corollaries.{not_both}
-use Rattle.rlp_reading.proofs.Lemmas.Reading.{bytes_held}
+use Rattle.rlp_reading.proofs.{Corollaries.{not_both}, Lemmas.Reading.{bytes_held}}
 use Rattle.rlp_node_record.specs.{NodeFields.node_fields, NodeRecord.IsNodeRecord, NodeLaws.node_record}
 use Rattle.rlp_node_record.specs.NodeText.{HasPrefix, IsNodeTextFault, IsNotBase64, base64_of, faulty_bytes, no_prefix, node_text, not_base64}
 use Rattle.rlp_node_record.specs.declared.node_fields.NodeFields.{NodeFields}

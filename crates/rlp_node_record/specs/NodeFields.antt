@@ -1,7 +1,6 @@
 -- How the fields of a node record are written and read.
 use Rattle.std.specs.{Prelude.{◌∷◌, refl}, Vec.vec_items}
-use Rattle.rlp.specs.{Format.Encoding.{Item, list_of}, Values.Value.{all_items, number_item}}
-use Rattle.rlp.specs.Codec.{Codec, Fields, byte_string, end, field, groups, number, raw_item, struct_of}
+use Rattle.rlp.specs.{Format.Encoding.{Item, list_of}, Values.Value.{all_items, number_item}, Codec.{Codec, Fields, byte_string, end, field, groups, number, raw_item, struct_of}}
 use Rattle.rlp_node_record.specs.{declared.node_fields.NodeFields.NodeFields, declared.node_fields.NodePair.NodePair}
 
 -- the fields of a pair: its key, and its value, which is any item

@@ -2,8 +2,7 @@
 use Rattle.std.proofs.Common.{◌≡◌, ◌≤◌, ◌<◌, ◌^◌, ℕ, List, [], ◌∷◌, length, map, refl, sym, ap, ◌∙◌, subst, arith, Result, Ok, Err, ltb, ltb-false, le-ltb}
 use Rattle.std.proofs.{Common.{◌||◌, Bool, true, false, if◌then◌else◌, codes, Option, Some, is_some}, lemmas.Bool.{cond-true, cond-false}}
 use Rattle.std.specs.{Str.bytes_eq, Bool.⊤, Vec.vec_items}
-use Rattle.rlp.specs.{Format.Encoding.{encoding, AreBytes}, Views.View.strict_view_of, Form.{Fault, and_then, custom, is_too_big, map_value}}
-use Rattle.rlp.specs.Codec.{Codec, lawful}
+use Rattle.rlp.specs.{Format.Encoding.{encoding, AreBytes}, Views.View.strict_view_of, Form.{Fault, and_then, custom, is_too_big, map_value}, Codec.{Codec, lawful}}
 use Rattle.rlp_reading.specs.FirstItems.{item_type}
 use Rattle.rlp_reading.proofs.{RawLaws.{ReadsItems, items_lawful}, ListLaws.{goes_on, is_mapped}}
 use Rattle.rlp_records.proofs.Alone.{result_same}

@@ -1,10 +1,8 @@
 -- Node records whose keys are in order, with `id` among them, and whose size is within the limit.
 use Rattle.std.specs.Prelude.{ℕ, ◌≤◌, ◌&&◌, ⊤, nat_lt, if◌then◌else◌, Bool, true, IsTrue, List, [], ◌∷◌, length, map, codes, Result, Ok, Err}
 use Rattle.std.specs.{Cmp.Lexicographic.slice_cmp, Ordering.{is_lt, nat_cmp}, Vec.vec_items}
-use Rattle.rlp.specs.{Format.Encoding.{encoding, AreBytes}, Views.View.strict_view_of}
-use Rattle.rlp.specs.Form.{Answer, Fault, and_then, custom, go_on, here, is_too_big, map_value}
-use Rattle.rlp_node_record.specs.{NodeFields.node_fields, NodeKeys.{HasId, has_key}, declared.node_fields.NodeFields.NodeFields}
-use Rattle.rlp_node_record.specs.declared.node_fields.NodePair.{NodePair}
+use Rattle.rlp.specs.{Format.Encoding.{encoding, AreBytes}, Views.View.strict_view_of, Form.{Answer, Fault, and_then, custom, go_on, here, is_too_big, map_value}}
+use Rattle.rlp_node_record.specs.{NodeFields.node_fields, NodeKeys.{HasId, has_key}, declared.node_fields.NodeFields.NodeFields, declared.node_fields.NodePair.{NodePair}}
 
 -- the greatest number of bytes of a node record
 abbrev pub longest_record : ℕ

@@ -4,8 +4,7 @@ use Rattle.std.proofs.{Common.{Result, Ok, Err, IfOk, IfErr, IsOkAnd, append-nil
 use Rattle.std.specs.{List.All}
 use Rattle.std.proofs.Common.{arith}
 use Rattle.rlp_reading.specs.{declared.error.DecoderError.DecoderError, declared.error.DecoderError.TheVariants.OutOfMemory}
-use Rattle.rlp_reading.specs.{Values.RoundTrip.{AlwaysReadsBack, AlwaysReadsStrictly}, Values.ValueReading.GivesValue}
-use Rattle.rlp_reading.specs.{Views.View.{Holds, View, item_at, strict_view_of, view_of}}
+use Rattle.rlp_reading.specs.{Values.RoundTrip.{AlwaysReadsBack, AlwaysReadsStrictly}, Values.ValueReading.GivesValue, Views.View.{Holds, View, item_at, strict_view_of, view_of}}
 use Rattle.rlp_reading.specs.Form.{Form, Faults, Gives, Reading, and_then, fault_of, list_reading, reading_at, seen_fault}
 use Rattle.rlp_reading.specs.Laws.{viewed, GivesOnly, IsLawful, IsReadBack, IsSeen, ReadsBack}
 use Rattle.rlp_format.specs.{Format.Encoding.{list_of, AreBytes, BeginsWith, IsSized, encoding}, Values.Value.AreAlike}

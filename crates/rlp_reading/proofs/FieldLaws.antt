@@ -4,16 +4,12 @@ use Rattle.std.proofs.Common.{length, length-append, option_map, refl, subst, su
 use Rattle.std.proofs.{Common.get_or, lemmas.List.map-append}
 use Rattle.std.specs.List.{AllByRecursion}
 use Rattle.rlp_format.specs.{Format.Encoding.{IsSized, encoding, Item}, Values.Value.items_if}
-use Rattle.rlp_reading.specs.Views.View.{View}
-use Rattle.rlp_reading.specs.Form.{Answer, Form, Fault, FieldsForm, FieldsReading, Reading, Taken, and_then, each, end, field, group, group_before}
+use Rattle.rlp_reading.specs.{Views.View.{View}, Form.{Answer, Form, Fault, FieldsForm, FieldsReading, Reading, Taken, and_then, each, end, field, group, group_before}}
 use Rattle.rlp_reading.specs.Form.{map_value, no_fields, one, one_field, optional, optional_fields, optional_group, part_fields, take_both}
-use Rattle.rlp_reading.specs.Form.{take_if, take_item}
-use Rattle.rlp_reading.specs.Laws.{AreLawful, AreSeen, IsLawful, IsSeen, IsStrictPart, ReadsBack, TakePossible, TakeWidth, TakesBack, TakesOnly}
+use Rattle.rlp_reading.specs.{Form.{take_if, take_item}, Laws.{AreLawful, AreSeen, IsLawful, IsSeen, IsStrictPart, ReadsBack, TakePossible, TakeWidth, TakesBack, TakesOnly}}
 use Rattle.rlp_reading.specs.Laws.{viewed, views_of}
 use Rattle.rlp_reading.proofs.ListLaws.{is_mapped, item_back, item_only}
-use Rattle.std.proofs.Math.Seq.{get_or-append_seam}
-use Rattle.std.proofs.lemmas.Grind.{common_steps}
-use Rattle.std.proofs.lemmas.Bool.Decides.{nat_tests}
+use Rattle.std.proofs.{Math.Seq.{get_or-append_seam}, lemmas.Grind.{common_steps}, lemmas.Bool.Decides.{nat_tests}}
 
 -- ---- what was taken
 

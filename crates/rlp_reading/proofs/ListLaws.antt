@@ -3,8 +3,7 @@ use Rattle.std.proofs.Common.{◌≡◌, ℕ, ◌^◌, ◌<◌, Bool, true, fals
 use Rattle.std.proofs.Common.{arith, Result, Ok, Err, Option, None, Some, option_map, IfSome, append-nil, append_assoc, length-append}
 use Rattle.std.proofs.{lemmas.List.Elements.{All-from_recursion, recursion_from_All}, lemmas.List.map-append}
 use Rattle.std.specs.List.{All, AllByRecursion}
-use Rattle.rlp_reading.specs.{declared.error.DecoderError.DecoderError, Format.Framing.{items}}
-use Rattle.rlp_reading.specs.Views.View.{View, Holds, item_count, item_views, items_fault, strict_view_of}
+use Rattle.rlp_reading.specs.{declared.error.DecoderError.DecoderError, Format.Framing.{items}, Views.View.{View, Holds, item_count, item_views, items_fault, strict_view_of}}
 use Rattle.rlp_reading.specs.Form.{Form, Fault, and_then, held_type, items_of, list_of_views, list_type, map_value, option, read_each, read_option}
 use Rattle.rlp_reading.specs.{Form.{fault_of, seen_fault}, Laws.{ReadsBack, GivesOnly, IsLawful, IsReadBack, IsSeen, IsStrictPart, viewed, views_of}}
 use Rattle.rlp_format.specs.{Format.Encoding.{Item, list_of, AreBytes, encoding, join, IsSized}, Values.Value.option_item}

@@ -1,8 +1,7 @@
 -- Where readings have faults, for bodies that look for the path of a fault.
 use Rattle.std.specs.Prelude.{◌≡◌, ◌<◌, ◌-◌, ◌⊎◌, ℕ, List, [], ◌∷◌, length, Some, None, IsOkAnd, Result}
 use Rattle.std.proofs.Common.{arith}
-use Rattle.rlp_reading.specs.Views.View.{View}
-use Rattle.rlp_reading.specs.Form.{Answer, Fault, Path, Taken, fault_path, in_list, map_value, read_each, take_each, within}
+use Rattle.rlp_reading.specs.{Views.View.{View}, Form.{Answer, Fault, Path, Taken, fault_path, in_list, map_value, read_each, take_each, within}}
 
 -- an item without a fault leaves the fault to the items after it
 pub item_passed : {M : Type 0} (read : View → Answer M Fault) (n i : ℕ) (v : View) (vs : List View) → fault_path (within i (read v)) ≡ None

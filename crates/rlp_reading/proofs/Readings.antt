@@ -6,8 +6,7 @@ use Rattle.rlp_reading.specs.declared.error.DecoderError.TheVariants.{RlpIsTooBi
 use Rattle.rlp_reading.specs.declared.error.DecoderError.TheVariants.{RlpIncorrectListLen, RlpDataLenWithZeroPrefix, RlpListLenWithZeroPrefix}
 use Rattle.rlp_reading.specs.declared.error.DecoderError.TheVariants.{RlpInvalidIndirection, RlpInconsistentLengthAndData, RlpInvalidLength, Custom}
 use Rattle.rlp_reading.specs.{declared.error.DecoderError.TheVariants.OutOfMemory, Format.Framing.items, Values.StructReading.HoldsOrHasOneFault}
-use Rattle.rlp_reading.specs.{Values.ValueReading.{HasOneReading, IsSameFault}}
-use Rattle.rlp_reading.specs.Views.View.{View, item_at, item_count, item_views}
+use Rattle.rlp_reading.specs.{Values.ValueReading.{HasOneReading, IsSameFault}, Views.View.{View, item_at, item_count, item_views}}
 use Rattle.rlp_reading.specs.Form.{Fault, Faults, Form, Gives, Reading, and_then, custom, data_len_with_zero, expected_data, expected_list, fault_of}
 use Rattle.rlp_reading.specs.Form.{inconsistent_len, incorrect_list_len, invalid_indirection, invalid_len, is_too_big, is_too_short, items_of, list_len_with_zero}
 use Rattle.rlp_reading.specs.Form.{map_value, option_reading, out_of_memory, read_option, reading_at, seen_fault}

@@ -4,17 +4,13 @@ use Rattle.std.proofs.Common.{◌∙◌, subst, ◌≢◌, Fits, w8, arith, Resu
 use Rattle.std.proofs.{lemmas.Bool.{cond-true, cond-false, eqb-false}, lemmas.Str.{IsUtf8-from_is_utf8, is_utf8-from_IsUtf8}}
 use Rattle.std.proofs.lemmas.List.Elements.{All-from_recursion, recursion_from_All}
 use Rattle.std.specs.{Bool.⊤, Prelude.codes, Str.is_utf8, Int.Digits.number_from_digits}
-use Rattle.rlp_format.specs.Format.Encoding.{string, AreBytes, big_endian, encoding}
-use Rattle.rlp_format.specs.Values.Value.{FitsBytes, bit}
-use Rattle.rlp_format.proofs.Lemmas.Digits.{big_endian_first, big_endian_value, bytes_held, big_endian_zero, digits_fit, digits_again}
-use Rattle.rlp_format.proofs.Lemmas.Encodings.{front_sized}
+use Rattle.rlp_format.specs.{Format.Encoding.{string, AreBytes, big_endian, encoding}, Values.Value.{FitsBytes, bit}}
+use Rattle.rlp_format.proofs.{Lemmas.Digits.{big_endian_first, big_endian_value, bytes_held, big_endian_zero, digits_fit, digits_again}, Lemmas.Encodings.{front_sized}}
 use Rattle.rlp_reading.specs.{declared.error.DecoderError.DecoderError, Format.Framing.IsString, Views.View.{View, HoldsString, view_string}}
-use Rattle.rlp_reading.specs.Values.ValueReading.{GivesNumber}
-use Rattle.rlp_reading.specs.Form.{Fault, and_then, custom, expected_data, seen_fault, string_of, number_of}
+use Rattle.rlp_reading.specs.{Values.ValueReading.{GivesNumber}, Form.{Fault, and_then, custom, expected_data, seen_fault, string_of, number_of}}
 use Rattle.rlp_reading.specs.Form.{bit_of, text_of, fixed_of, begins_with_zero, string_type, number, truth_value, byte_string, text, byte_array}
 use Rattle.rlp_reading.specs.{Laws.{ReadsBack, GivesOnly, IsLawful}, Kinds.read_kind}
-use Rattle.rlp_reading.proofs.Lemmas.Reading.{front_bytes, back_bytes}
-use Rattle.rlp_reading.proofs.Lemmas.StringsHeld.{few_digits, ReadsHeld, held_begins, held_only, held_reads, string_sized}
+use Rattle.rlp_reading.proofs.{Lemmas.Reading.{front_bytes, back_bytes}, Lemmas.StringsHeld.{few_digits, ReadsHeld, held_begins, held_only, held_reads, string_sized}}
 
 -- ---- the bytes of a string
 

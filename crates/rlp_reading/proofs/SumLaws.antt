@@ -1,14 +1,11 @@
 -- Values of several types are read back, and strictly from nothing else.
 use Rattle.std.proofs.Common.{◌≡◌, ℕ, ◌^◌, ◌<◌, ◌⊎◌, inl, inr, ◌==◌, Bool, true, false, List, [], ◌∷◌, length, refl, sym, ap, ◌∙◌, subst}
-use Rattle.std.proofs.{Common.{arith, Result, Ok, eq-eqb}, lemmas.Bool.{cond-true, cond-false}}
-use Rattle.std.proofs.{lemmas.Bool.eqb-true, lemmas.List.Elements.{All-from_recursion, recursion_from_All}}
-use Rattle.rlp_reading.specs.{Format.Framing.{begins_as_list}}
-use Rattle.rlp_reading.specs.{Views.View.{View, Holds, strict_view_of}, Values.Sums.{OnSum, sum_item}}
+use Rattle.std.proofs.{Common.{arith, Result, Ok, eq-eqb}, lemmas.Bool.{cond-true, cond-false}, lemmas.Bool.eqb-true, lemmas.List.Elements.{All-from_recursion, recursion_from_All}}
+use Rattle.rlp_reading.specs.{Format.Framing.{begins_as_list}, Views.View.{View, Holds, strict_view_of}, Values.Sums.{OnSum, sum_item}}
 use Rattle.rlp_reading.specs.Form.{Answer, Form, Fault, and_then, items_of, map_value, number}
 use Rattle.rlp_reading.specs.Sums.{CasesForm, Unless, and_case, envelope, envelope_of, enveloped, last_case, list_or_string, read_either, read_first, read_last, read_tagged, seen_envelope, sum_map, tagged_list}
 use Rattle.rlp_reading.specs.Laws.{CasesAreLawful, ReadsBack, GivesOnly, IsLawful, IsStrictPart, viewed, views_of}
-use Rattle.rlp_format.specs.Format.Encoding.{Item, is_list, AreBytes, encoding}
-use Rattle.rlp_format.specs.Values.Value.{FitsBytes, number_item}
+use Rattle.rlp_format.specs.{Format.Encoding.{Item, is_list, AreBytes, encoding}, Values.Value.{FitsBytes, number_item}}
 use Rattle.rlp_reading.proofs.ListLaws.{goes_on, held_itself, item_back, item_only, items_held, items_only, items_sized, same_written}
 use Rattle.rlp_reading.proofs.StringLaws.{ReadsStrings, number_lawful, string_lawful}
 use Rattle.std.specs.List.{AllByRecursion}

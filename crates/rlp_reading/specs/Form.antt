@@ -1,7 +1,6 @@
 -- How the values of types are written as items and read from views.
 use Rattle.std.specs.Prelude.{◌≡◌, ⊤, ℕ, zero, suc, ◌+◌, ◌-◌, ◌%◌, ◌==◌, ◌&&◌, ◌||◌, nat_lt, nat_le, Bool, true, false, if◌then◌else◌, All, IfSome, IsSomeAnd, IsUtf8}
-use Rattle.std.specs.{Prelude.{List, [], ◌∷◌, ◌++◌, length, map, codes, Option, Some, None, option_map, Result, Ok, Err}, Str.{bytes_eq, is_utf8}}
-use Rattle.std.specs.Int.Digits.{number_from_digits}
+use Rattle.std.specs.{Prelude.{List, [], ◌∷◌, ◌++◌, length, map, codes, Option, Some, None, option_map, Result, Ok, Err}, Str.{bytes_eq, is_utf8}, Int.Digits.{number_from_digits}}
 use Rattle.rlp_format.specs.{declared.uint.Uint.Uint, Format.Encoding.{Item, string, list_of, big_endian, encoding}}
 use Rattle.rlp_format.specs.Values.Value.{FitsBytes, all_items, bit, items_if, option_item}
 use Rattle.rlp_reading.specs.declared.error.DecoderError.{DecoderError}
@@ -9,8 +8,7 @@ use Rattle.rlp_reading.specs.declared.error.DecoderError.TheVariants.{RlpIsTooBi
 use Rattle.rlp_reading.specs.declared.error.DecoderError.TheVariants.{RlpIncorrectListLen, RlpDataLenWithZeroPrefix, RlpListLenWithZeroPrefix}
 use Rattle.rlp_reading.specs.declared.error.DecoderError.TheVariants.{RlpInvalidIndirection, RlpInconsistentLengthAndData, RlpInvalidLength, Custom}
 use Rattle.rlp_reading.specs.{declared.error.DecoderError.TheVariants.OutOfMemory, Views.Depth.depth}
-use Rattle.rlp_reading.specs.Views.View.{View, item_at, item_count, item_views, view_string}
-use Rattle.rlp_reading.specs.Values.RawItem.{deepest_raw_item, raw_item_of, view_frame}
+use Rattle.rlp_reading.specs.{Views.View.{View, item_at, item_count, item_views, view_string}, Values.RawItem.{deepest_raw_item, raw_item_of, view_frame}}
 
 -- ---- faults and answers
 

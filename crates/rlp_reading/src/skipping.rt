@@ -11,7 +11,7 @@ const LONGEST_SHORT: usize = 56;
 
 /// How many items must be left to skip for a look at four first bytes at once. For fewer items,
 /// whose kinds mostly differ, it costs more than it saves.
-const MANY: usize = 32;
+const MANY: usize = 8;
 
 /// The bytes after the first `count` items of these bytes.
 ///
@@ -46,10 +46,13 @@ fn skip_alike<'a>(bytes: &'a [u8], count: usize) -> (&'a [u8], usize)
 {
     let mut rest = bytes;
     let mut left = count;
-    while left >= MANY && rest.len() >= 4 * LONGEST_SHORT {
+    while left >= MANY && !rest.is_empty() {
         let first = rest[0];
         let len = short_len(first);
-        if first >= 0xb8 || rest[len] != first || rest[2 * len] != first || rest[3 * len] != first {
+        if first >= 0xb8 || rest.len() < 4 * len {
+            return (rest, left);
+        }
+        if rest[len] != first || rest[2 * len] != first || rest[3 * len] != first {
             return (rest, left);
         }
         rest = rest.split_at(4 * len).1;

@@ -3,8 +3,7 @@ use Rattle.std.proofs.Common.{◌≡◌, ℕ, ◌^◌, ◌<◌, ◌⊎◌, inl, 
 use Rattle.std.proofs.lemmas.Bool.{cond-true, cond-false, lt-leb}
 use Rattle.rlp.specs.{Format.Encoding.{Item, is_list, list, string, encoding, AreBytes}, Format.Framing.begins_as_list, Values.Sums.{OnSum, sum_item}}
 use Rattle.rlp_reading.proofs.{Lemmas.Views.list_first, StringLaws.ReadsStrings, SumLaws.{envelope_strings, sums_fit, sums_written}}
-use Rattle.rlp_reading.specs.{Form.{Answer, Fault, Form, map_value}, Laws.{CasesAreLawful, IsLawful}}
-use Rattle.rlp_reading.specs.Sums.{CasesForm, envelope, seen_envelope, sum_map}
+use Rattle.rlp_reading.specs.{Form.{Answer, Fault, Form, map_value}, Laws.{CasesAreLawful, IsLawful}, Sums.{CasesForm, envelope, seen_envelope, sum_map}}
 use Rattle.rlp_records.specs.Alone.{bytes_alone, read_alone}
 
 -- a list by itself is its encoding

@@ -1,12 +1,10 @@
 -- What the walk over bytes, and the count of what is in their envelopes, say of the items in them.
 use Rattle.std.specs.Prelude.{codes}
 use Rattle.std.proofs.Common.{◌≡◌, ℕ, ◌+◌, ◌-◌, ◌^◌, ◌<◌, ◌≤◌, ◌⊎◌, inl, inr, true, false, None, Some, List, length, sym, ap, subst, ◌∙◌}
-use Rattle.std.proofs.{Common.{arith, Result, Ok, Err, IfOk, IfErr}, lemmas.Bool.{cond-false, cond-true}, lemmas.Bool.Decides.nat_tests}
-use Rattle.std.proofs.lemmas.Slice.Eq.{bytes_eq-Decides}
+use Rattle.std.proofs.{Common.{arith, Result, Ok, Err, IfOk, IfErr}, lemmas.Bool.{cond-false, cond-true}, lemmas.Bool.Decides.nat_tests, lemmas.Slice.Eq.{bytes_eq-Decides}}
 use Rattle.rlp.specs.{DecoderError.DecoderError, DecoderError.TheVariants.OutOfMemory, Format.Encoding.{Item, encoding}}
 use Rattle.rlp.specs.{Format.Framing.IsCanonicalWithin, Format.TreeFaults.tree_fault, Values.RawItem.raw_item_of, Views.View.{View, strict_view_of}}
-use Rattle.rlp_reading.proofs.Lemmas.Items.{encoding_same}
-use Rattle.rlp_reading.proofs.RawLaws.{raw_item_of-encoding, shallow_within}
+use Rattle.rlp_reading.proofs.{Lemmas.Items.{encoding_same}, RawLaws.{raw_item_of-encoding, shallow_within}}
 use Rattle.rlp_reading.specs.{Format.Walk.IsWalked, declared.flat.FlatItem.FlatItem, declared.flat.TreeFault.TreeFault}
 use Rattle.rlp_reading.specs.{declared.flat.TreeFault.TheVariants.{Decoding, TooDeep}, Form.{Answer, Fault, Form, custom, fault_of}, Laws.IsLawful}
 use Rattle.rlp_records.specs.Bounded.{IsBounded, IsWithinBounds, bound_fault, count_fault, depth_fault, is_encoding, items_in, items_in_envelopes, read_bounded, unless_fault}

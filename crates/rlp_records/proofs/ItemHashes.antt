@@ -1,6 +1,5 @@
 -- The hashes of items, from views that hold the items.
-use Rattle.std.proofs.Common.{◌≡◌, ℕ, ◌^◌, ◌<◌, ◌∙◌, ap, arith, sym, refl, Bool, List, [], ◌∷◌, length, map, Ok, Err}
-use Rattle.std.proofs.lemmas.Bool.{cond-true, cond-false}
+use Rattle.std.proofs.{Common.{◌≡◌, ℕ, ◌^◌, ◌<◌, ◌∙◌, ap, arith, sym, refl, Bool, List, [], ◌∷◌, length, map, Ok, Err}, lemmas.Bool.{cond-true, cond-false}}
 use Rattle.std.specs.List.{AllByRecursion}
 use Rattle.rlp.specs.{Format.Encoding.{IsSized, Item, encoding, is_list, list, list_of, string}, Format.Framing.begins_as_list, Views.View.{HoldsItem, View, strict_view_of}}
 use Rattle.rlp_reading.specs.{Form.{Fault, and_then, here, map_value, read_each, seen_fault}, Laws.{viewed, views_of}}

@@ -5,6 +5,7 @@ pub mod Alone
 pub mod Bounds
 pub mod Bytes
 pub mod Clones
+pub mod Complements
 pub mod ItemHashes
 pub mod OtherTypes
 pub mod Placed

@@ -19,10 +19,12 @@ table_by_rule = refl
 pub constant_at : (i : ℕ) → i < 24 → slice_index table i ≡ round_constant i
 constant_at i low = ap (λ (t : List ℕ). slice_index t i) (sym table_by_rule) ∙ get_or-map-range_with_len round_constant 0 24 i i 0 low (omega arith)
 
--- one round more
-pub rounds_next : (a : List ℕ) (n : ℕ) → rounds a (n + 1) ≡ round (rounds a n) n
+-- two rounds more
+pub rounds_next : (a : List ℕ) (n : ℕ) → rounds a (2 * (n + 1)) ≡ round (round (rounds a (2 * n)) (2 * n)) (2 * n + 1)
 unfolding rounds
-rounds_next a n = rw add-one refl
+rounds_next a n =
+    let more : 2 * (n + 1) ≡ suc (suc (2 * n)) = omega arith in
+    rw (more, add-one) refl
 
 -- the column and the row of the walk of ρ after t steps (3.2.2, steps 2 and 3)
 walk : ℕ → ℕ × ℕ

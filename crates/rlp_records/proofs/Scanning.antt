@@ -7,8 +7,7 @@ use Rattle.rlp.specs.Format.Encoding.{Item, Items, item_and, list, listed, no_it
 use Rattle.rlp.specs.Format.Framing.{IsFramedItem, frame, framing, total_len, value, HasHeader, lone, payload_info, written, begins_as_list}
 use Rattle.rlp.specs.{Format.Framing.{IsCanonical, IsCanonicalWithin, strict_fault}, Format.Walk.IsWalked, Values.RawItem.raw_item_of}
 use Rattle.rlp_format.proofs.Lemmas.Encodings.{first_of_header, list_written, string_cases}
-use Rattle.rlp_reading.proofs.Lemmas.Frames.{encoding_item, frame_front, framed_same, framing_is, item_some, value_is}
-use Rattle.rlp_reading.proofs.RawLaws.{list_by, raw_item_of-encoding}
+use Rattle.rlp_reading.proofs.{Lemmas.Frames.{encoding_item, frame_front, framed_same, framing_is, item_some, value_is}, RawLaws.{list_by, raw_item_of-encoding}}
 use Rattle.rlp_records.proofs.{AfterByte.with_first, Bounds.{one_item, told_encoding, told_no_encoding}}
 use Rattle.rlp_records.specs.Bounded.{bytes_counted, is_read_type, items_in, items_in_all_envelopes, items_in_envelopes, items_in_string, payload_items}
 

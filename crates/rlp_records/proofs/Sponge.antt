@@ -2,6 +2,8 @@
 use Rattle.std.proofs.Common.{◌≡◌, ℕ, zero, suc, ◌+◌, ◌-◌, ◌*◌, ◌/◌, ◌%◌, ◌<◌, ◌≤◌, List, [], ◌∷◌, ◌++◌, length, drop, take, replicate, set, slice_index, get_or, refl, ap, sym, ◌∙◌, arith, add-one, length-append, length-drop, bit_xor}
 use Rattle.std.proofs.lemmas.List.{append_assoc, get_or_append_left, get_or-append_right, get_or-replicate, length-replicate, replicate_more, set_at, take_all, take-append-le, drop-append-le}
 use Rattle.std.specs.Int.Bits.{xor_zero_r}
+use Rattle.rlp_records.specs.Complements.{complement, masked}
+use Rattle.rlp_records.proofs.Complements.{xor_l}
 use Rattle.rlp_records.specs.Keccak.{absorb, absorbed, bytes_of_lanes, keccak256, lane_of_bytes, padding, xor_bytes}
 
 -- a lane of the block
@@ -42,11 +44,12 @@ held b x i len low = ap (bit_xor x) (lane_in_block b (replicate 64 0) i (omega a
 kept : (b : List ℕ) (x i : ℕ) → length b ≡ 136 → 17 ≤ i → i < 25 → bit_xor x (lane_of_bytes (b ++ replicate 64 0) i) ≡ x
 kept b x i len over low = ap (bit_xor x) (lane_after_block b 64 i (omega arith) (omega arith)) ∙ xor_zero_r x
 
--- the state with a block xored into it: the last eight lanes stay
-pub block_xored : (a b : List ℕ) → length b ≡ 136 → xor_bytes a (b ++ replicate 64 0) ≡
-    bit_xor (slice_index a 0) (lane_of_bytes b 0) ∷ bit_xor (slice_index a 1) (lane_of_bytes b 1) ∷ bit_xor (slice_index a 2) (lane_of_bytes b 2) ∷ bit_xor (slice_index a 3) (lane_of_bytes b 3) ∷ bit_xor (slice_index a 4) (lane_of_bytes b 4) ∷ bit_xor (slice_index a 5) (lane_of_bytes b 5) ∷ bit_xor (slice_index a 6) (lane_of_bytes b 6) ∷ bit_xor (slice_index a 7) (lane_of_bytes b 7) ∷ bit_xor (slice_index a 8) (lane_of_bytes b 8) ∷ bit_xor (slice_index a 9) (lane_of_bytes b 9) ∷ bit_xor (slice_index a 10) (lane_of_bytes b 10) ∷ bit_xor (slice_index a 11) (lane_of_bytes b 11) ∷ bit_xor (slice_index a 12) (lane_of_bytes b 12) ∷ bit_xor (slice_index a 13) (lane_of_bytes b 13) ∷ bit_xor (slice_index a 14) (lane_of_bytes b 14) ∷ bit_xor (slice_index a 15) (lane_of_bytes b 15) ∷ bit_xor (slice_index a 16) (lane_of_bytes b 16) ∷ slice_index a 17 ∷ slice_index a 18 ∷ slice_index a 19 ∷ slice_index a 20 ∷ slice_index a 21 ∷ slice_index a 22 ∷ slice_index a 23 ∷ slice_index a 24 ∷ []
+-- the state with a block xored into it, where some lanes are complements: the last eight lanes stay
+pub block_xored : (a b : List ℕ) → length b ≡ 136 → xor_bytes (masked a) (b ++ replicate 64 0) ≡ masked (
+    bit_xor (slice_index a 0) (lane_of_bytes b 0) ∷ bit_xor (slice_index a 1) (lane_of_bytes b 1) ∷ bit_xor (slice_index a 2) (lane_of_bytes b 2) ∷ bit_xor (slice_index a 3) (lane_of_bytes b 3) ∷ bit_xor (slice_index a 4) (lane_of_bytes b 4) ∷ bit_xor (slice_index a 5) (lane_of_bytes b 5) ∷ bit_xor (slice_index a 6) (lane_of_bytes b 6) ∷ bit_xor (slice_index a 7) (lane_of_bytes b 7) ∷ bit_xor (slice_index a 8) (lane_of_bytes b 8) ∷ bit_xor (slice_index a 9) (lane_of_bytes b 9) ∷ bit_xor (slice_index a 10) (lane_of_bytes b 10) ∷ bit_xor (slice_index a 11) (lane_of_bytes b 11) ∷ bit_xor (slice_index a 12) (lane_of_bytes b 12) ∷ bit_xor (slice_index a 13) (lane_of_bytes b 13) ∷ bit_xor (slice_index a 14) (lane_of_bytes b 14) ∷ bit_xor (slice_index a 15) (lane_of_bytes b 15) ∷ bit_xor (slice_index a 16) (lane_of_bytes b 16) ∷ slice_index a 17 ∷ slice_index a 18 ∷ slice_index a 19 ∷ slice_index a 20 ∷ slice_index a 21 ∷ slice_index a 22 ∷ slice_index a 23 ∷ slice_index a 24 ∷ [])
+unfolding masked
 block_xored a b len =
-    λ t. held b (slice_index a 0) 0 len (omega arith) t ∷ held b (slice_index a 1) 1 len (omega arith) t ∷ held b (slice_index a 2) 2 len (omega arith) t ∷ held b (slice_index a 3) 3 len (omega arith) t ∷ held b (slice_index a 4) 4 len (omega arith) t ∷ held b (slice_index a 5) 5 len (omega arith) t ∷ held b (slice_index a 6) 6 len (omega arith) t ∷ held b (slice_index a 7) 7 len (omega arith) t ∷ held b (slice_index a 8) 8 len (omega arith) t ∷ held b (slice_index a 9) 9 len (omega arith) t ∷ held b (slice_index a 10) 10 len (omega arith) t ∷ held b (slice_index a 11) 11 len (omega arith) t ∷ held b (slice_index a 12) 12 len (omega arith) t ∷ held b (slice_index a 13) 13 len (omega arith) t ∷ held b (slice_index a 14) 14 len (omega arith) t ∷ held b (slice_index a 15) 15 len (omega arith) t ∷ held b (slice_index a 16) 16 len (omega arith) t ∷ kept b (slice_index a 17) 17 len (omega arith) (omega arith) t ∷ kept b (slice_index a 18) 18 len (omega arith) (omega arith) t ∷ kept b (slice_index a 19) 19 len (omega arith) (omega arith) t ∷ kept b (slice_index a 20) 20 len (omega arith) (omega arith) t ∷ kept b (slice_index a 21) 21 len (omega arith) (omega arith) t ∷ kept b (slice_index a 22) 22 len (omega arith) (omega arith) t ∷ kept b (slice_index a 23) 23 len (omega arith) (omega arith) t ∷ kept b (slice_index a 24) 24 len (omega arith) (omega arith) t ∷ []
+    λ t. held b (slice_index a 0) 0 len (omega arith) t ∷ (held b (complement (slice_index a 1)) 1 len (omega arith) ∙ xor_l (slice_index a 1) (lane_of_bytes b 1)) t ∷ (held b (complement (slice_index a 2)) 2 len (omega arith) ∙ xor_l (slice_index a 2) (lane_of_bytes b 2)) t ∷ held b (slice_index a 3) 3 len (omega arith) t ∷ held b (slice_index a 4) 4 len (omega arith) t ∷ held b (slice_index a 5) 5 len (omega arith) t ∷ held b (slice_index a 6) 6 len (omega arith) t ∷ held b (slice_index a 7) 7 len (omega arith) t ∷ (held b (complement (slice_index a 8)) 8 len (omega arith) ∙ xor_l (slice_index a 8) (lane_of_bytes b 8)) t ∷ held b (slice_index a 9) 9 len (omega arith) t ∷ held b (slice_index a 10) 10 len (omega arith) t ∷ held b (slice_index a 11) 11 len (omega arith) t ∷ (held b (complement (slice_index a 12)) 12 len (omega arith) ∙ xor_l (slice_index a 12) (lane_of_bytes b 12)) t ∷ held b (slice_index a 13) 13 len (omega arith) t ∷ held b (slice_index a 14) 14 len (omega arith) t ∷ held b (slice_index a 15) 15 len (omega arith) t ∷ held b (slice_index a 16) 16 len (omega arith) t ∷ kept b (complement (slice_index a 17)) 17 len (omega arith) (omega arith) t ∷ kept b (slice_index a 18) 18 len (omega arith) (omega arith) t ∷ kept b (slice_index a 19) 19 len (omega arith) (omega arith) t ∷ kept b (complement (slice_index a 20)) 20 len (omega arith) (omega arith) t ∷ kept b (slice_index a 21) 21 len (omega arith) (omega arith) t ∷ kept b (slice_index a 22) 22 len (omega arith) (omega arith) t ∷ kept b (slice_index a 23) 23 len (omega arith) (omega arith) t ∷ kept b (slice_index a 24) 24 len (omega arith) (omega arith) t ∷ []
 
 zeros_more : (k : ℕ) → replicate {A = ℕ} (suc k) 0 ≡ replicate k 0 ++ 0 ∷ []
 zeros_more k = sym (replicate_more {X = ℕ} k 0 ∙ rw add-one refl)

@@ -1,11 +1,8 @@
 -- Bounds on untrusted bytes.
-use Rattle.std.specs.Prelude.{ℕ, ◌≡◌, ◌+◌, ◌≤◌, ◌&&◌, nat_le, nat_lt, if◌then◌else◌, Bool, List, [], ◌∷◌, Option, Some, None, Err, length, codes}
-use Rattle.std.specs.Str.{bytes_eq}
+use Rattle.std.specs.{Prelude.{ℕ, ◌≡◌, ◌+◌, ◌≤◌, ◌&&◌, nat_le, nat_lt, if◌then◌else◌, Bool, List, [], ◌∷◌, Option, Some, None, Err, length, codes}, Str.{bytes_eq}}
 use Rattle.rlp.specs.{DecoderError.DecoderError, Format.Encoding.{Item, Items, item_and, item_depth, list, no_items, string, encoding}}
-use Rattle.rlp.specs.{Format.Flat.flat, Format.Framing.{begins_as_list, strict_fault}, Format.TreeFaults.tree_fault, Values.RawItem.raw_item_of}
-use Rattle.rlp.specs.Views.View.{View, strict_view_of}
-use Rattle.rlp_reading.specs.{Form.{Answer, Fault, custom, fault_of, here}, declared.flat.TreeFault.TreeFault}
-use Rattle.rlp_reading.specs.declared.flat.TreeFault.TheVariants.{Decoding, TooDeep}
+use Rattle.rlp.specs.{Format.Flat.flat, Format.Framing.{begins_as_list, strict_fault}, Format.TreeFaults.tree_fault, Values.RawItem.raw_item_of, Views.View.{View, strict_view_of}}
+use Rattle.rlp_reading.specs.{Form.{Answer, Fault, custom, fault_of, here}, declared.flat.TreeFault.TreeFault, declared.flat.TreeFault.TheVariants.{Decoding, TooDeep}}
 
 -- the number of strings and lists in an item: the item itself, and the items in it at every depth
 abbrev pub items_in : Item → ℕ

@@ -1,6 +1,7 @@
 pub mod Address
 pub mod Alone
 pub mod Bounded
+pub mod Complements
 pub mod Eip2718
 pub mod Envelope
 pub mod Hash

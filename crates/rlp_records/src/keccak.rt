@@ -1,6 +1,7 @@
 //! Keccak-256, the hash function of Ethereum: the sponge of FIPS 202 over Keccak-f[1600].
 
 ghost use Rattle.std.specs.Prelude.{◌≡◌, ◌+◌, ◌-◌, ◌*◌, ◌<◌, ◌≤◌, ◌++◌, length};
+ghost use Rattle.rlp_records.specs.Complements.{masked};
 ghost use Rattle.rlp_records.specs.Keccak.{absorb, bytes_of_lanes, keccak256, lane_of_bytes, padding};
 
 mod permutation;
@@ -26,38 +27,19 @@ fn lane(block: &[u8], i: usize) -> u64
     ])
 }
 
-// Takes a block into the state.
+// The lanes of a state, of which the first ones are xored with those of a block.
+macro_rules! xored {
+    ($state:ident $block:ident: $($i:literal)+; $($kept:literal)+) => {
+        [$($state[$i] ^ lane($block, $i),)+ $($state[$kept]),+]
+    };
+}
+
+// Takes a block into the state, in which some lanes are complements.
 fn absorb(state: &mut [u64; 25], block: &[u8])
     requires { length block.now ≡ 136 }
-    ensures { state.new ≡ absorb state.old block.now }
+    ensures { masked state.new ≡ absorb (masked state.old) block.now }
 {
-    *state = [
-        state[0] ^ lane(block, 0),
-        state[1] ^ lane(block, 1),
-        state[2] ^ lane(block, 2),
-        state[3] ^ lane(block, 3),
-        state[4] ^ lane(block, 4),
-        state[5] ^ lane(block, 5),
-        state[6] ^ lane(block, 6),
-        state[7] ^ lane(block, 7),
-        state[8] ^ lane(block, 8),
-        state[9] ^ lane(block, 9),
-        state[10] ^ lane(block, 10),
-        state[11] ^ lane(block, 11),
-        state[12] ^ lane(block, 12),
-        state[13] ^ lane(block, 13),
-        state[14] ^ lane(block, 14),
-        state[15] ^ lane(block, 15),
-        state[16] ^ lane(block, 16),
-        state[17],
-        state[18],
-        state[19],
-        state[20],
-        state[21],
-        state[22],
-        state[23],
-        state[24],
-    ];
+    *state = xored!(state block: 0 1 2 3 4 5 6 7 8 9 10 11 12 13 14 15 16; 17 18 19 20 21 22 23 24);
     keccak_f(state);
 }
 
@@ -75,11 +57,12 @@ fn last_block(rest: &[u8]) -> [u8; 136]
 
 // The first 32 bytes of the state.
 fn digest(state: &[u64; 25]) -> [u8; 32]
-    ensures { result ≡ bytes_of_lanes state.now 4 }
+    ensures { result ≡ bytes_of_lanes (masked state.now) 4 }
 {
+    let first = [state[0], !state[1], !state[2], state[3]];
     let mut out = [0u8; 32];
     'lanes: for i in 0..4 {
-        out[8 * i..8 * i + 8].copy_from_slice(&state[i].to_le_bytes());
+        out[8 * i..8 * i + 8].copy_from_slice(&first[i].to_le_bytes());
     }
     out
 }
@@ -93,7 +76,9 @@ fn digest(state: &[u64; 25]) -> [u8; 32]
 pub fn keccak256(bytes: &[u8]) -> [u8; 32]
     ensures { result ≡ keccak256 bytes.now }
 {
-    let mut state = [0u64; 25];
+    let mut state = [
+        0u64, !0, !0, 0, 0, 0, 0, 0, !0, 0, 0, 0, !0, 0, 0, 0, 0, !0, 0, 0, !0, 0, 0, 0, 0,
+    ];
     let count = bytes.len() / RATE;
     'whole: for i in 0..count {
         absorb(&mut state, &bytes[RATE * i..RATE * i + RATE]);

@@ -11,8 +11,7 @@ use Rattle.rlp_lines.specs.Digits.{bytes_in, digits_of}
 use Rattle.rlp_records.specs.{Alone.bytes_alone, Eip2718.typed_alone, KnownOrOther.any_alone}
 use Rattle.rlp_records.proofs.{TypedSums.typed_strings, OtherTypes.any_strings}
 use Rattle.rlp_headers.specs.TypedReceipt.{any_receipt, receipt_types}
-use Rattle.rlp_transactions.specs.{Transaction.any_transaction, Transaction.transaction_types}
-use Rattle.rlp_transactions.specs.UnsignedTransaction.{unsigned_transaction, unsigned_types}
+use Rattle.rlp_transactions.specs.{Transaction.any_transaction, Transaction.transaction_types, UnsignedTransaction.{unsigned_transaction, unsigned_types}}
 use Rattle.rlp_show.specs.Answers.{IsAnswered, IsRead, kind_text, own_name, shown_text, text_answer, value_text}
 use Rattle.rlp_show.specs.Shown.{Shown, ShowsAs, kind_shown, receipt_shown, signed_shown, transaction_shown, unsigned_or}
 use Rattle.rlp_show.specs.{Records.any_receipt_display, Transactions.any_transaction_display, Transactions.unsigned_display}

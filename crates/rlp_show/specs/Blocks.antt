@@ -1,8 +1,7 @@
 -- What is shown of headers of blocks, and of blocks.
 use Rattle.std.specs.Prelude.{ℕ, List, codes, length, map}
 use Rattle.rlp_records.specs.Keccak.{keccak256}
-use Rattle.rlp_headers.specs.{Forks.{amsterdam_fields, cancun_fields, london_fields, prague_fields, shanghai_fields}, Header.header}
-use Rattle.rlp_headers.specs.declared.header.Header.{Header}
+use Rattle.rlp_headers.specs.{Forks.{amsterdam_fields, cancun_fields, london_fields, prague_fields, shanghai_fields}, Header.header, declared.header.Header.{Header}}
 use Rattle.rlp_blocks.specs.Block.{block, body}
 use Rattle.rlp_show.specs.Display.{a_list, a_number, a_string, after_derived, an_object, bytes_as, derived, end, field, if_there, in_forms, in_order, one, one_if, same, through}
 use Rattle.rlp_show.specs.{Records.{hash_entries, withdrawal_display, written}, Transactions.any_transaction_display, Value.{Display, Fields}}

@@ -1,8 +1,7 @@
 -- The kind of a record that isn't named.
 use Rattle.std.specs.Prelude.{ℕ, ◌%◌, ◌==◌, ◌&&◌, ◌||◌, nat_le, nat_lt, if◌then◌else◌, List, [], ◌∷◌, drop, slice_index_or, Option, Some, None, Result, Ok, Err}
 use Rattle.rlp.specs.{DecoderError.DecoderError, Format.Framing.map_ok, Views.View.View, Views.View.item_count, Views.View.item_views, Views.View.strict_view_of}
-use Rattle.rlp_show.specs.declared.guessing.TheConstants.{ADDRESS, HASH, LIST, LONG}
-use Rattle.rlp_show.specs.declared.kind.Kind.{Kind}
+use Rattle.rlp_show.specs.{declared.guessing.TheConstants.{ADDRESS, HASH, LIST, LONG}, declared.kind.Kind.{Kind}}
 use Rattle.rlp_show.specs.declared.kind.Kind.TheVariants.{AccessList, Account, Authorization, Block, Body, Header, Node, NodeRecord, Receipt, Transaction, Withdrawal}
 
 -- the first byte of the first of some items; 0 if there is none

@@ -1,9 +1,7 @@
 -- The JSON of a value, with the names of Ethereum's execution API and without spaces.
 use Rattle.std.specs.{Prelude.{ℕ, Bool, true, false, List, [], ◌∷◌, ◌++◌, ◌==◌, codes, encode_utf8, if◌then◌else◌}, Char.to_ascii_uppercase}
-use Rattle.rlp_show.specs.Value.{Steps, after, Content, Value, number, type_byte, bytes, text, empty_list}
-use Rattle.rlp_show.specs.Lines.{bytes_text, hex_text, ip_text, number_text, word_text}
-use Rattle.rlp_show.specs.declared.{sink.NumberKind.NumberKind, sink.NumberKind.TheVariants.Place, sink.BytesKind.BytesKind}
-use Rattle.rlp_show.specs.declared.sink.BytesKind.TheVariants.{Ip, Null, Word}
+use Rattle.rlp_show.specs.{Value.{Steps, after, Content, Value, number, type_byte, bytes, text, empty_list}, Lines.{bytes_text, hex_text, ip_text, number_text, word_text}}
+use Rattle.rlp_show.specs.{declared.{sink.NumberKind.NumberKind, sink.NumberKind.TheVariants.Place, sink.BytesKind.BytesKind}, declared.sink.BytesKind.TheVariants.{Ip, Null, Word}}
 use Rattle.rlp_show.specs.declared.sink.{Bracket.Bracket, Bracket.TheVariants.CloseBrace, Bracket.TheVariants.CloseSquare, Bracket.TheVariants.OpenBrace, Bracket.TheVariants.OpenSquare}
 
 -- the text so far, and whether a value may come next without a comma before it

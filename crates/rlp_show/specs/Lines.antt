@@ -4,10 +4,8 @@ use Rattle.std.specs.{Char.is_ascii_digit, Char.is_ascii_lowercase, Fmt.digit_gl
 use Rattle.hex.specs.Hex.{encode_lower}
 use Rattle.rlp.specs.{NumberText.number_text as text_in_base, Values.Value.bit}
 use Rattle.rlp_transactions.specs.{Eip155.said_by, declared.eip155.Eip155.Eip155}
-use Rattle.rlp_show.specs.Value.{Steps, after, Content, Value, number, type_byte, bytes, text, empty_list}
-use Rattle.rlp_show.specs.declared.{sink.NumberKind.NumberKind, sink.BytesKind.BytesKind}
-use Rattle.rlp_show.specs.declared.sink.NumberKind.TheVariants.{Decimal, LegacyV, Place, Quantity}
-use Rattle.rlp_show.specs.declared.sink.BytesKind.TheVariants.{Ip, Path, Sparse, Word}
+use Rattle.rlp_show.specs.{Value.{Steps, after, Content, Value, number, type_byte, bytes, text, empty_list}, declared.{sink.NumberKind.NumberKind, sink.BytesKind.BytesKind}}
+use Rattle.rlp_show.specs.{declared.sink.NumberKind.TheVariants.{Decimal, LegacyV, Place, Quantity}, declared.sink.BytesKind.TheVariants.{Ip, Path, Sparse, Word}}
 
 -- a number in decimal
 abbrev pub number_text : ℕ → List ℕ

@@ -2,8 +2,7 @@
 use Rattle.std.specs.Prelude.{ℕ, Bool, true, false, if◌then◌else◌, ◌==◌, ◌-◌, ◌/◌, ◌%◌, nat_lt, List, [], ◌∷◌, drop, map, slice_get, slice_index_or, Option, Some, None}
 use Rattle.std.specs.Result.{result_unwrap_or}
 use Rattle.rlp.specs.{Views.View.{View, item_at, item_count, strict_view_of, view_string}, Format.Framing.begins_as_list}
-use Rattle.rlp_show.specs.{Value.inside, Value.item_name, declared.kind.Kind.Kind}
-use Rattle.rlp_show.specs.{declared.names.Part.Part, declared.names.Record.Record}
+use Rattle.rlp_show.specs.{Value.inside, Value.item_name, declared.kind.Kind.Kind, declared.names.Part.Part, declared.names.Record.Record}
 use Rattle.rlp_trie.specs.HexPrefix.{is_leaf_path}
 use Rattle.rlp_show.specs.declared.kind.Kind.TheVariants as kind
 use Rattle.rlp_show.specs.declared.kind.MessageKind.TheVariants as message

@@ -1,6 +1,5 @@
 -- What is shown of the values of the keys of node records.
-use Rattle.std.specs.Prelude.{ℕ, ◌==◌, ◌&&◌, ◌||◌, ◌⊎◌, nat_lt, if◌then◌else◌, Bool, false, List, codes, length, Result, Ok, Err}
-use Rattle.std.specs.{Int.Digits.number_from_digits, Str.bytes_eq}
+use Rattle.std.specs.{Prelude.{ℕ, ◌==◌, ◌&&◌, ◌||◌, ◌⊎◌, nat_lt, if◌then◌else◌, Bool, false, List, codes, length, Result, Ok, Err}, Int.Digits.number_from_digits, Str.bytes_eq}
 use Rattle.std.proofs.Common.{inl, inr}
 use Rattle.rlp.specs.{DecoderError.DecoderError, Form.begins_with_zero, Format.Encoding.Item, Format.Framing.read_string, Values.RawItem.raw_item_of}
 use Rattle.rlp_show.specs.{Value.{Content, Value, content, bytes, number}, Items.shown_within}

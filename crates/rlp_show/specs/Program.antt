@@ -1,12 +1,10 @@
 -- What the program does for its arguments, and its exit status. in0 and in1 are its input before and after, out0 and out1 its output, and err0 and err1
 -- its standard error. `remaining` is what a reader has left, and `contents` is what a writer holds.
 use Rattle.std.specs.{Prelude.{ℕ, ◌≡◌, ◌⊎◌, true, false, List, Bool, Option, Result, IfOk}, Io.KnownBytes.Appends}
-use Rattle.rlp_lines.specs.{Run.{AppendsPart, RunLeaves, TellsFault, TextLeaves}, Replies.answer_by, Watched.Watched}
-use Rattle.rlp_lines.specs.declared.serving.RunFault.{RunFault}
+use Rattle.rlp_lines.specs.{Run.{AppendsPart, RunLeaves, TellsFault, TextLeaves}, Replies.answer_by, Watched.Watched, declared.serving.RunFault.{RunFault}}
 use Rattle.rlp_show.specs.Answers.{answer_of, exit_status, long_line, longest_line}
 use Rattle.rlp_show.specs.{declared.request.Request.TheVariants.{Help, Lines, Record, Unknown, Version}, declared.answers.Answers.Answers}
-use Rattle.rlp_show.specs.{declared.help.TheConstants.HELP, declared.help.TheConstants.USAGE, declared.help.TheConstants.VERSION}
-use Rattle.rlp_show.specs.declared.request.Request.{Request}
+use Rattle.rlp_show.specs.{declared.help.TheConstants.HELP, declared.help.TheConstants.USAGE, declared.help.TheConstants.VERSION, declared.request.Request.{Request}}
 
 -- the answer to any line, for records of a kind and in a form
 abbrev pub line_answer : Answers → List ℕ → List ℕ

@@ -3,8 +3,7 @@ use Rattle.std.proofs.{Common.{◌∙◌, ap, inl, inr, sym}, lemmas.Bool.true�
 use Rattle.std.specs.Prelude.{ℕ, ◌==◌, ◌≡◌, ◌⊎◌, Bool, List, None, Option, Some, [], codes, drop, false, refl, true}
 use Rattle.rlp.specs.{Form.Reading, Format.Encoding.encoding}
 use Rattle.rlp_records.specs.OtherEnvelope.{other_type}
-use Rattle.rlp_headers.specs.{Account.account, Log.log, Receipt.{receipt_fields, receipt_status}, TypedReceipt.{any_receipt, typed_receipt}}
-use Rattle.rlp_headers.specs.Withdrawal.{withdrawal}
+use Rattle.rlp_headers.specs.{Account.account, Log.log, Receipt.{receipt_fields, receipt_status}, TypedReceipt.{any_receipt, typed_receipt}, Withdrawal.{withdrawal}}
 use Rattle.rlp_show.specs.Display.{a_bit, a_list, a_number, a_string, a_text, a_type, after_derived, an_object, and_type, bytes_as, content_bytes, content_number, either, end, field, field_if, in_order, last_type, no_type_entries, number_as, of_type, one, same, through}
 use Rattle.rlp_show.specs.{DisplayLaws.bit_back, Value.{Display, Entries, Fields, both, by_form, bytes, content, entry}, declared.sink.BytesKind.TheVariants.{Any, Payload, Sparse}}
 use Rattle.rlp_show.specs.declared.sink.NumberKind.TheVariants.{Place}

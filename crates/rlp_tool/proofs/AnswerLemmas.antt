@@ -12,8 +12,7 @@ use Rattle.rlp_tool.specs.declared.making.LineFault.{LineFault}
 use Rattle.rlp_tool.specs.Building.{AreRefused, AreTaken, BringsItems, BringsNoItems, BringsTooMany, HasNothingToFinish, StayOpen, is_raw, is_finish}
 use Rattle.rlp_tool.specs.{Building.IsSomeStep, Making.{AppendsFault, AreMade, IsLineFault, MakesScript}, RawItems.IsShallow}
 use Rattle.rlp_tool.specs.Script.{script, call_in, is_call, raw_call, raw_parts}
-use Rattle.rlp_tool.specs.Answer.{SaysCalls, answer, brings_items, finished_answer, open_answer, state_answer, refusal_name, outcome_answer}
-use Rattle.rlp_tool.specs.{Answer.calls_answer, Pieces.spaces}
+use Rattle.rlp_tool.specs.{Answer.{SaysCalls, answer, brings_items, finished_answer, open_answer, state_answer, refusal_name, outcome_answer}, Answer.calls_answer, Pieces.spaces}
 use Rattle.rlp_lines.specs.{Replies.answer_by, Digits.{bytes_in, digits_of}}
 use Rattle.rlp_tool.proofs.{CallsLemmas.{Leaves, made_if, step_begin, step_raw}, RawLemmas.{are_raw_items-join, are_raw_items-told}}
 use Rattle.std.specs.{List.{list_all, prefix_len, cons_option, onto_first}, Str.Lines.strip_carriage_return, Result.result_ok}

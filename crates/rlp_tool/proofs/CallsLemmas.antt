@@ -10,15 +10,11 @@ use Rattle.rlp.specs.Streams.Stream.{begin_list, effect, is_admitted, after, unb
 use Rattle.rlp.specs.Streams.Described.{Step, brings, opens, finishes, clears, DescribesWhere, by_append, by_raw, by_empty_list, by_list}
 use Rattle.rlp.specs.Streams.Described.{by_unbounded_list, by_finalize, by_clear, AreDescribedWhere, AreDescribed, IsDescribedWhere, items_after_all}
 use Rattle.rlp.specs.Streams.Described.{joined_list, joined_stack}
-use Rattle.rlp_tool.specs.{declared.building.Built.Built, declared.building.Built.TheVariants.{Finished, Open}}
-use Rattle.rlp_tool.specs.declared.building.BuildFault.{BuildFault}
-use Rattle.rlp_tool.specs.declared.building.BuildFault.TheVariants.{TooManyItems, NothingToFinish, RawNotItems, OutOfMemory}
-use Rattle.rlp_tool.specs.declared.calls.StreamCall.{StreamCall}
-use Rattle.rlp_tool.specs.declared.calls.StreamCall.TheVariants.{Value, Values, Raw, Begin, BeginUnbounded, Finish, Clear}
-use Rattle.rlp_tool.specs.{RawItems.{AreRawItems, IsShallow}, StreamCalls.call_of}
+use Rattle.rlp_tool.specs.{declared.building.Built.Built, declared.building.Built.TheVariants.{Finished, Open}, declared.building.BuildFault.{BuildFault}}
+use Rattle.rlp_tool.specs.{declared.building.BuildFault.TheVariants.{TooManyItems, NothingToFinish, RawNotItems, OutOfMemory}, declared.calls.StreamCall.{StreamCall}}
+use Rattle.rlp_tool.specs.{declared.calls.StreamCall.TheVariants.{Value, Values, Raw, Begin, BeginUnbounded, Finish, Clear}, RawItems.{AreRawItems, IsShallow}, StreamCalls.call_of}
 use Rattle.rlp_tool.specs.Building.{AreRefused, AreTaken, BringsItems, IsBuilt, IsJoined, IsRefusal, AreJoined, IsFinishedAs, IsSomeStep}
-use Rattle.rlp_tool.specs.Making.{AreMade, IsHeld, Fails, Goes, IsStopped, IsTaken, MakesScript, MakesSome, NoneIsNext, StopsScript}
-use Rattle.rlp_tool.specs.Script.{IsUnread, prepend, script}
+use Rattle.rlp_tool.specs.{Making.{AreMade, IsHeld, Fails, Goes, IsStopped, IsTaken, MakesScript, MakesSome, NoneIsNext, StopsScript}, Script.{IsUnread, prepend, script}}
 use Rattle.rlp_tool.proofs.CutLemmas.{prepend-append, prepend-nil}
 
 -- room for k items, by the number of awaited items

@@ -2,8 +2,7 @@
 use Rattle.std.specs.Prelude.{ℕ, ◌≡◌, ◌≤◌, ◌==◌, ◌+◌, nat_lt, Bool, true, if◌then◌else◌, List, [], ◌∷◌, ◌++◌, length, codes, decimal, Option, Some}
 use Rattle.std.specs.{Prelude.{None, Result, Ok, Err}, Str.byte, Str.Lines.strip_carriage_return}
 use Rattle.hex.specs.Hex.{encode_lower}
-use Rattle.rlp.specs.{Views.Depth.depth, Views.Text.text}
-use Rattle.rlp.specs.Streams.Stream.{OpenList, State, initial_state, closed_size, raw_text, Call, append_raw, effect, is_admitted}
+use Rattle.rlp.specs.{Views.Depth.depth, Views.Text.text, Streams.Stream.{OpenList, State, initial_state, closed_size, raw_text, Call, append_raw, effect, is_admitted}}
 use Rattle.rlp_tool.specs.{Building.is_raw, RawItems.are_raw_items, Script.script}
 use Rattle.rlp_lines.specs.{Digits.bytes_in, Replies.answer_by}
 

@@ -1,13 +1,10 @@
 -- The result of calls over a front.
 use Rattle.std.specs.Prelude.{ℕ, suc, ◌≡◌, Bool, true, false, IsTrue, List, ◌∷◌, ◌++◌, length, Ok}
-use Rattle.rlp.specs.Format.Encoding.{Item, join}
-use Rattle.rlp.specs.Streams.Stream.{Call, append_raw, append_raw_checked, finalize_unbounded_list, is_admitted, after}
+use Rattle.rlp.specs.{Format.Encoding.{Item, join}, Streams.Stream.{Call, append_raw, append_raw_checked, finalize_unbounded_list, is_admitted, after}}
 use Rattle.rlp.specs.Streams.Stream.{State, initial_state, IsFinished, closed_size, raw_text}
 use Rattle.rlp.specs.Streams.Described.{Step, DescribesWhere, AreDescribedWhere, IsDescribed, IsDescribedWhere, FinishAs}
-use Rattle.rlp_tool.specs.{declared.building.Built.Built, declared.building.Built.TheVariants.{Finished, Open}}
-use Rattle.rlp_tool.specs.declared.building.BuildFault.{BuildFault}
-use Rattle.rlp_tool.specs.declared.building.BuildFault.TheVariants.{TooManyItems, NothingToFinish, RawNotItems, OutOfMemory}
-use Rattle.rlp_tool.specs.RawItems.{AreRawItems, IsShallow}
+use Rattle.rlp_tool.specs.{declared.building.Built.Built, declared.building.Built.TheVariants.{Finished, Open}, declared.building.BuildFault.{BuildFault}}
+use Rattle.rlp_tool.specs.{declared.building.BuildFault.TheVariants.{TooManyItems, NothingToFinish, RawNotItems, OutOfMemory}, RawItems.{AreRawItems, IsShallow}}
 
 -- all calls over the front are admitted and leave a list open; the closed size and the raw text are these
 pub record StayOpen (front : List ℕ) (calls : List Call) (size : ℕ) (raw : List ℕ) : Type 0 where

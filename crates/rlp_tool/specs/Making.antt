@@ -1,8 +1,7 @@
 -- Calls that are made one after another, for private functions.
 use Rattle.std.specs.Prelude.{ℕ, ◌≡◌, ◌+◌, IsTrue, List, [], ◌∷◌, ◌++◌, length, codes, decimal, Result, Ok, Err}
 use Rattle.rlp.specs.Streams.Stream.{State, initial_state, IsFinished, closed_size, raw_text, Call, is_admitted, effect}
-use Rattle.rlp_tool.specs.{declared.building.Built.Built, declared.building.Built.TheVariants.{Finished, Open}}
-use Rattle.rlp_tool.specs.declared.building.BuildFault.{BuildFault}
+use Rattle.rlp_tool.specs.{declared.building.Built.Built, declared.building.Built.TheVariants.{Finished, Open}, declared.building.BuildFault.{BuildFault}}
 use Rattle.rlp_tool.specs.declared.building.BuildFault.TheVariants.{TooManyItems, NothingToFinish, RawNotItems, OutOfMemory}
 use Rattle.rlp_tool.specs.{declared.making.LineFault.LineFault, declared.making.LineFault.TheVariants.{Syntax, Failed}, Script.{prepend, script}}
 use Rattle.rlp_tool.specs.Building.{BringsTooMany, BringsNoItems, HasNothingToFinish, IsRefusal, IsSomeStep}

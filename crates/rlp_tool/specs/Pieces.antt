@@ -2,8 +2,7 @@
 use Rattle.std.specs.{Prelude.{ℕ, ◌≡◌, ◌+◌, ◌%◌, ◌==◌, List, [], ◌∷◌, length, get_or, IsTrue, Option, Some, None}, Borrow.Bor}
 use Rattle.std.specs.{List.{slice_split, list_all}, Result.result_unwrap_or, Str.byte}
 use Rattle.hex.specs.Hex.{decode_of, is_hex_digit}
-use Rattle.rlp.specs.Format.Encoding.{string}
-use Rattle.rlp.specs.Streams.Stream.{Call, append, append_raw, begin_list, begin_unbounded_list, finalize_unbounded_list, clear}
+use Rattle.rlp.specs.{Format.Encoding.{string}, Streams.Stream.{Call, append, append_raw, begin_list, begin_unbounded_list, finalize_unbounded_list, clear}}
 use Rattle.rlp_tool.specs.{declared.script.Piece.Piece, declared.script.Piece.TheVariants.{Value, Byte, Raw, Begin, BeginUnbounded, Finish, Clear}}
 
 -- the bytes of digits

@@ -1,9 +1,7 @@
 -- Scripts: calls of a stream as text.
 use Rattle.std.specs.Prelude.{ℕ, ◌≡◌, ◌+◌, ◌==◌, ◌++◌, length, Bool, if◌then◌else◌, List, [], ◌∷◌, take, drop, is_some}
-use Rattle.std.specs.{Prelude.{Option, Some, None, option_map, position, filter_map, Result, Ok, Err}, List.{slice_split, list_all, prefix_len}}
-use Rattle.std.specs.Str.{byte}
-use Rattle.rlp.specs.Format.Encoding.{string}
-use Rattle.rlp.specs.Streams.Stream.{Call, append, append_raw, begin_list, begin_unbounded_list, finalize_unbounded_list, clear}
+use Rattle.std.specs.{Prelude.{Option, Some, None, option_map, position, filter_map, Result, Ok, Err}, List.{slice_split, list_all, prefix_len}, Str.{byte}}
+use Rattle.rlp.specs.{Format.Encoding.{string}, Streams.Stream.{Call, append, append_raw, begin_list, begin_unbounded_list, finalize_unbounded_list, clear}}
 use Rattle.rlp_lines.specs.Digits.{bytes_in, number_in}
 use Rattle.rlp_tool.specs.{declared.script.ScriptFault.ScriptFault, declared.script.ScriptFault.TheVariants.{Syntax, OutOfMemory}}
 

@@ -1,9 +1,7 @@
 -- The calls of a stream for `StreamCall`s.
 use Rattle.std.specs.{Prelude.{ℕ, List, map, Vec}, declared.alloc.Global.Global}
-use Rattle.rlp.specs.Format.Encoding.{Item, string, list_of}
-use Rattle.rlp.specs.Streams.Stream.{Call, append, append_raw, begin_list, begin_unbounded_list, finalize_unbounded_list, clear}
-use Rattle.rlp_tool.specs.declared.calls.StreamCall.{StreamCall}
-use Rattle.rlp_tool.specs.declared.calls.StreamCall.TheVariants.{Value, Values, Raw, Begin, BeginUnbounded, Finish, Clear}
+use Rattle.rlp.specs.{Format.Encoding.{Item, string, list_of}, Streams.Stream.{Call, append, append_raw, begin_list, begin_unbounded_list, finalize_unbounded_list, clear}}
+use Rattle.rlp_tool.specs.{declared.calls.StreamCall.{StreamCall}, declared.calls.StreamCall.TheVariants.{Value, Values, Raw, Begin, BeginUnbounded, Finish, Clear}}
 
 -- the call of a stream, with `item` for the item of a value: a value is appended, and values are appended as their list
 abbrev pub call_of : {E : Type 0} → (E → Item) → StreamCall E → Call

@@ -1,10 +1,8 @@
 -- Transactions as they are sent, and as they stand in blocks.
 use Rattle.std.proofs.Common.{◌≡◌, ◌≢◌, refl, sym, ap, ◌∙◌}
 use Rattle.rlp_records.specs.{Alone.bytes_alone, Eip2718.type_of}
-use Rattle.rlp_transactions.specs.PooledTransaction.{consensus_form, pooled_transaction, seen_consensus}
-use Rattle.rlp_transactions.specs.Transaction.{transaction, transaction_types}
-use Rattle.rlp_transactions.specs.declared.blob_wrapper.PooledBlobTransaction.TheVariants.{CellProofs, Proofs}
-use Rattle.rlp_transactions.specs.declared.pooled_transaction.PooledTransaction.{PooledTransaction}
+use Rattle.rlp_transactions.specs.{PooledTransaction.{consensus_form, pooled_transaction, seen_consensus}, Transaction.{transaction, transaction_types}}
+use Rattle.rlp_transactions.specs.{declared.blob_wrapper.PooledBlobTransaction.TheVariants.{CellProofs, Proofs}, declared.pooled_transaction.PooledTransaction.{PooledTransaction}}
 use Rattle.rlp_transactions.specs.declared.pooled_transaction.PooledTransaction.TheVariants.{AccessList, Blob, FeeMarket, Legacy, SetCode}
 
 -- a transaction that can be sent can stand in a block

@@ -1,16 +1,11 @@
 -- Whether a transaction of type 3 is sent with as many blobs as it has versioned hashes, and with the commitments of these hashes.
-use Rattle.std.specs.Prelude.{ℕ, suc, ◌*◌, ◌==◌, not, ⊤, Bool, if◌then◌else◌, List, [], ◌∷◌, ◌++◌, codes, decimal, length, drop, Result, Ok, Err}
-use Rattle.std.specs.{Str.bytes_eq, Vec.vec_items}
+use Rattle.std.specs.{Prelude.{ℕ, suc, ◌*◌, ◌==◌, not, ⊤, Bool, if◌then◌else◌, List, [], ◌∷◌, ◌++◌, codes, decimal, length, drop, Result, Ok, Err}, Str.bytes_eq, Vec.vec_items}
 use Rattle.sha2.specs.Sha256.{sha256}
 use Rattle.rlp_records.specs.declared.hash.Hash.{Hash}
-use Rattle.rlp_transactions.specs.declared.blob_check.BlobFault.{BlobFault}
-use Rattle.rlp_transactions.specs.declared.blob_check.BlobFault.TheVariants.{BlobCount, CommitmentCount, ProofCount, VersionedHash}
-use Rattle.rlp_transactions.specs.declared.blob_transaction.BlobTransaction.{BlobTransaction}
-use Rattle.rlp_transactions.specs.declared.blob_wrapper.BlobTransactionWithCellProofs.{BlobTransactionWithCellProofs}
-use Rattle.rlp_transactions.specs.declared.blob_wrapper.BlobTransactionWithProofs.{BlobTransactionWithProofs}
-use Rattle.rlp_transactions.specs.declared.blob_wrapper.PooledBlobTransaction.{PooledBlobTransaction}
-use Rattle.rlp_transactions.specs.declared.blob_wrapper.PooledBlobTransaction.TheVariants.{CellProofs, Proofs}
-use Rattle.rlp_transactions.specs.declared.signed.Signed.{Signed}
+use Rattle.rlp_transactions.specs.{declared.blob_check.BlobFault.{BlobFault}, declared.blob_check.BlobFault.TheVariants.{BlobCount, CommitmentCount, ProofCount, VersionedHash}}
+use Rattle.rlp_transactions.specs.{declared.blob_transaction.BlobTransaction.{BlobTransaction}, declared.blob_wrapper.BlobTransactionWithCellProofs.{BlobTransactionWithCellProofs}}
+use Rattle.rlp_transactions.specs.{declared.blob_wrapper.BlobTransactionWithProofs.{BlobTransactionWithProofs}, declared.blob_wrapper.PooledBlobTransaction.{PooledBlobTransaction}}
+use Rattle.rlp_transactions.specs.{declared.blob_wrapper.PooledBlobTransaction.TheVariants.{CellProofs, Proofs}, declared.signed.Signed.{Signed}}
 
 -- EIP-4844's "VERSIONED_HASH_VERSION_KZG + sha256(commitment)[1:]", where the version is 0x01
 abbrev pub versioned_hash : List ℕ → List ℕ

@@ -2,8 +2,7 @@
 use Rattle.std.specs.{Prelude.{Bool, refl}, Vec.vec_items}
 use Rattle.rlp.specs.Codec.{Codec, Fields, byte_string, end, field, list_type, number, truth_value, uint}
 use Rattle.rlp_records.specs.{Address.address, Hash.hash}
-use Rattle.rlp_transactions.specs.{AccessListTransaction.access_list, Signed.signed, declared.blob_transaction.BlobTransaction.BlobTransaction}
-use Rattle.rlp_transactions.specs.declared.signed.Signed.{Signed}
+use Rattle.rlp_transactions.specs.{AccessListTransaction.access_list, Signed.signed, declared.blob_transaction.BlobTransaction.BlobTransaction, declared.signed.Signed.{Signed}}
 
 -- EIP-4844: rlp([chain_id, nonce, max_priority_fee_per_gas, max_fee_per_gas, gas_limit, to, value, data, access_list, max_fee_per_blob_gas,
 -- blob_versioned_hashes, y_parity, r, s]). Here are the fields before the signature.

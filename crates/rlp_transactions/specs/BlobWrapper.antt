@@ -3,11 +3,9 @@ use Rattle.std.proofs.Common.{inl, inr}
 use Rattle.std.specs.{Prelude.{⊤, ◌==◌, ◌∷◌, ◌≡◌, ◌⊎◌, Bool, [], false, refl, true}, Str.bytes_eq, Vec.vec_items}
 use Rattle.rlp.specs.Codec.{Codec, Fields, byte_array, end, field, lawful, list_type, newtype, plain_fields, string_type, struct_of}
 use Rattle.rlp_transactions.specs.{Blob.blob, BlobTransaction.signed_blob_transaction, ItemCountLaws.by_count_lawful, ItemCounts.by_count}
-use Rattle.rlp_transactions.specs.{StringKindLaws.version_by, StringKinds.{version_bytes, version_of}}
-use Rattle.rlp_transactions.specs.declared.blob_transaction.BlobTransaction.{BlobTransaction}
+use Rattle.rlp_transactions.specs.{StringKindLaws.version_by, StringKinds.{version_bytes, version_of}, declared.blob_transaction.BlobTransaction.{BlobTransaction}}
 use Rattle.rlp_transactions.specs.declared.blob_wrapper.BlobTransactionWithCellProofs.{BlobTransactionWithCellProofs}
-use Rattle.rlp_transactions.specs.declared.blob_wrapper.BlobTransactionWithProofs.{BlobTransactionWithProofs}
-use Rattle.rlp_transactions.specs.declared.blob_wrapper.PooledBlobTransaction.{PooledBlobTransaction}
+use Rattle.rlp_transactions.specs.{declared.blob_wrapper.BlobTransactionWithProofs.{BlobTransactionWithProofs}, declared.blob_wrapper.PooledBlobTransaction.{PooledBlobTransaction}}
 use Rattle.rlp_transactions.specs.declared.blob_wrapper.PooledBlobTransaction.TheVariants.{CellProofs, Proofs}
 use Rattle.rlp_transactions.specs.{declared.blob_wrapper.WrapperVersion.WrapperVersion, declared.signed.Signed.Signed}
 

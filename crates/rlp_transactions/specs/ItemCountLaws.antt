@@ -1,10 +1,7 @@
 -- Values of two structs that differ in the number of items of their lists are read back, and are read only from their encodings.
-use Rattle.std.proofs.Common.{ℕ, ◌<◌, ◌==◌, ◌^◌, ◌∙◌, ◌≡◌, ◌⊎◌, Bool, List, Ok, Result, ap, eq-eqb, false, inl, inr, length, refl, sym, true}
-use Rattle.std.proofs.lemmas.Bool.{cond-false, cond-true}
-use Rattle.rlp.specs.Format.Encoding.{AreBytes, encoding}
-use Rattle.rlp.specs.Views.View.{Holds, View, item_count, strict_view_of}
-use Rattle.rlp_reading.proofs.{Lemmas.WholeLists.held_count, StructLaws.struct_lawful}
-use Rattle.rlp_reading.proofs.SumLaws.{sums_fit, sums_written}
+use Rattle.std.proofs.{Common.{ℕ, ◌<◌, ◌==◌, ◌^◌, ◌∙◌, ◌≡◌, ◌⊎◌, Bool, List, Ok, Result, ap, eq-eqb, false, inl, inr, length, refl, sym, true}, lemmas.Bool.{cond-false, cond-true}}
+use Rattle.rlp.specs.{Format.Encoding.{AreBytes, encoding}, Views.View.{Holds, View, item_count, strict_view_of}}
+use Rattle.rlp_reading.proofs.{Lemmas.WholeLists.held_count, StructLaws.struct_lawful, SumLaws.{sums_fit, sums_written}}
 use Rattle.rlp_reading.specs.{Form.{Fault, FieldsForm, map_value, struct_of}, Laws.{AreLawful, IsLawful, viewed}}
 use Rattle.rlp_records.proofs.Alone.{left_only, not_left, not_right, result_same, right_only}
 use Rattle.rlp_transactions.specs.ItemCounts.{by_count, is_count}

@@ -1,7 +1,6 @@
 -- Values of two structs that differ in the number of items of their lists.
 use Rattle.std.proofs.Common.{ℕ, ◌==◌, ◌||◌, ◌⊎◌, Bool, Err, Ok, Result, false, if◌then◌else◌, inl, inr}
-use Rattle.rlp.specs.DecoderError.{DecoderError}
-use Rattle.rlp.specs.{Values.Sums.{OnSum, sum_item}, Views.View.{View, item_count}}
+use Rattle.rlp.specs.{DecoderError.{DecoderError}, Values.Sums.{OnSum, sum_item}, Views.View.{View, item_count}}
 use Rattle.rlp_reading.specs.{Form.{Answer, Fault, FieldsForm, Form, map_answer, struct_of}, Sums.sum_map}
 
 -- whether this is the number of items

@@ -7,10 +7,8 @@ use Rattle.rlp_transactions.specs.{AccessListTransaction.signed_access_list_tran
 use Rattle.rlp_transactions.specs.{BlobWrapper.{pooled_blob_transaction, without_blobs}, FeeMarketTransaction.signed_fee_market_transaction}
 use Rattle.rlp_transactions.specs.{LegacyTransaction.signed_legacy_transaction, SetCodeTransaction.signed_set_code_transaction, Transaction.transaction}
 use Rattle.rlp_transactions.specs.declared.access_list_transaction.AccessListTransaction.{AccessListTransaction}
-use Rattle.rlp_transactions.specs.declared.blob_wrapper.PooledBlobTransaction.{PooledBlobTransaction}
-use Rattle.rlp_transactions.specs.declared.fee_market_transaction.FeeMarketTransaction.{FeeMarketTransaction}
-use Rattle.rlp_transactions.specs.declared.legacy_transaction.LegacyTransaction.{LegacyTransaction}
-use Rattle.rlp_transactions.specs.declared.pooled_transaction.PooledTransaction.{PooledTransaction}
+use Rattle.rlp_transactions.specs.{declared.blob_wrapper.PooledBlobTransaction.{PooledBlobTransaction}, declared.fee_market_transaction.FeeMarketTransaction.{FeeMarketTransaction}}
+use Rattle.rlp_transactions.specs.{declared.legacy_transaction.LegacyTransaction.{LegacyTransaction}, declared.pooled_transaction.PooledTransaction.{PooledTransaction}}
 use Rattle.rlp_transactions.specs.declared.pooled_transaction.PooledTransaction.TheVariants.{AccessList, Blob, FeeMarket, Legacy, SetCode}
 use Rattle.rlp_transactions.specs.{declared.set_code_transaction.SetCodeTransaction.SetCodeTransaction, declared.signed.Signed.Signed}
 use Rattle.rlp_transactions.specs.declared.transaction.Transaction.{Transaction}

@@ -2,8 +2,7 @@
 use Rattle.std.specs.Prelude.{ℕ, ◌∷◌, ◌≡◌, List}
 use Rattle.rlp.specs.Format.Encoding.{encoding, list_of}
 use Rattle.rlp_records.specs.Alone.{bytes_alone}
-use Rattle.rlp_transactions.specs.{SetCodeTransaction.authorization_fields, UnsignedTransaction.unsigned_transaction}
-use Rattle.rlp_transactions.specs.declared.set_code_transaction.Authorization.{Authorization}
+use Rattle.rlp_transactions.specs.{SetCodeTransaction.authorization_fields, UnsignedTransaction.unsigned_transaction, declared.set_code_transaction.Authorization.{Authorization}}
 use Rattle.rlp_transactions.specs.declared.unsigned_transaction.UnsignedTransaction.{UnsignedTransaction}
 
 -- what a key signs: a transaction of any type, or an authorization

@@ -1,7 +1,6 @@
 -- A string is a recipient or the version of a wrapper if and only if it is written for one, and a number of a signature is short.
 use Rattle.std.specs.{Prelude.{ℕ, ◌≡◌, ◌↔◌, Bool, true, false, List, [], ◌∷◌, length, Ok, Err, codes}, Str.bytes_eq}
-use Rattle.std.proofs.{Common.{refl, ap, ◌∙◌, ltb, ltb-false, arith}, lemmas.Bool.{cond-true, cond-false}, lemmas.Bool.Decides.nat_tests}
-use Rattle.std.proofs.lemmas.Slice.Eq.{bytes_eq-Decides}
+use Rattle.std.proofs.{Common.{refl, ap, ◌∙◌, ltb, ltb-false, arith}, lemmas.Bool.{cond-true, cond-false}, lemmas.Bool.Decides.nat_tests, lemmas.Slice.Eq.{bytes_eq-Decides}}
 use Rattle.rlp.specs.Values.Value.{FitsBytes}
 use Rattle.rlp_reading.specs.Form.{custom, fixed_of, is_too_big, is_too_short, map_value}
 use Rattle.rlp_reading.proofs.StringLaws.{array_strings}

@@ -3,13 +3,10 @@ use Rattle.std.specs.Prelude.{Bool, ◌⊎◌, refl}
 use Rattle.std.proofs.Common.{inl, inr}
 use Rattle.rlp.specs.{Uint.Uint, Codec.Codec}
 use Rattle.rlp_records.specs.{Eip2718.{TypedSum, typed, typed_by}, KnownOrOther.with_others, declared.known_or_other.KnownOrOther.KnownOrOther}
-use Rattle.rlp_transactions.specs.declared.access_list_transaction.AccessListTransaction.{AccessListTransaction}
-use Rattle.rlp_transactions.specs.declared.blob_transaction.BlobTransaction.{BlobTransaction}
-use Rattle.rlp_transactions.specs.declared.fee_market_transaction.FeeMarketTransaction.{FeeMarketTransaction}
-use Rattle.rlp_transactions.specs.declared.legacy_transaction.LegacyTransaction.{LegacyTransaction}
+use Rattle.rlp_transactions.specs.{declared.access_list_transaction.AccessListTransaction.{AccessListTransaction}, declared.blob_transaction.BlobTransaction.{BlobTransaction}}
+use Rattle.rlp_transactions.specs.{declared.fee_market_transaction.FeeMarketTransaction.{FeeMarketTransaction}, declared.legacy_transaction.LegacyTransaction.{LegacyTransaction}}
 use Rattle.rlp_transactions.specs.{declared.set_code_transaction.SetCodeTransaction.SetCodeTransaction, declared.signed.Signed.Signed}
-use Rattle.rlp_transactions.specs.declared.transaction.Transaction.{Transaction}
-use Rattle.rlp_transactions.specs.declared.transaction.Transaction.TheVariants.{AccessList, Blob, FeeMarket, Legacy, SetCode}
+use Rattle.rlp_transactions.specs.{declared.transaction.Transaction.{Transaction}, declared.transaction.Transaction.TheVariants.{AccessList, Blob, FeeMarket, Legacy, SetCode}}
 use Rattle.rlp_transactions.specs.{AccessListTransaction.signed_access_list_transaction, BlobTransaction.signed_blob_transaction}
 use Rattle.rlp_transactions.specs.{FeeMarketTransaction.signed_fee_market_transaction, LegacyTransaction.signed_legacy_transaction}
 use Rattle.rlp_transactions.specs.SetCodeTransaction.{signed_set_code_transaction}

@@ -4,8 +4,7 @@ use Rattle.rlp.specs.Uint.{Uint}
 use Rattle.rlp_records.specs.declared.address.Address.{Address}
 use Rattle.rlp_transactions.specs.{Eip155.{FitsChain, IsSignedFor, v_of}, declared.eip155.Eip155.Eip155, declared.recipient.Recipient.Recipient}
 use Rattle.rlp_transactions.specs.{declared.recipient.Recipient.TheVariants.{Account, Creation}, declared.scalar.NonZeroScalar.NonZeroScalar}
-use Rattle.rlp_transactions.specs.declared.transaction.Transaction.{Transaction}
-use Rattle.rlp_transactions.specs.declared.transaction.Transaction.TheVariants.{AccessList, Blob, FeeMarket, Legacy, SetCode}
+use Rattle.rlp_transactions.specs.{declared.transaction.Transaction.{Transaction}, declared.transaction.Transaction.TheVariants.{AccessList, Blob, FeeMarket, Legacy, SetCode}}
 use Rattle.rlp_transactions.specs.declared.unsigned_transaction.UnsignedTransaction.{UnsignedTransaction}
 use Rattle.rlp_transactions.specs.declared.access_list_transaction.AccessList.{AccessList as Accesses}
 use Rattle.rlp_transactions.specs.declared.unsigned_transaction.UnsignedTransaction.TheVariants as unsigned

@@ -5,13 +5,10 @@ use Rattle.rlp.specs.Codec.{Codec, struct_of}
 use Rattle.rlp_records.specs.Eip2718.{TypedSum, typed, typed_by}
 use Rattle.rlp_transactions.specs.{AccessListTransaction.access_list_transaction_fields, BlobTransaction.blob_transaction_fields}
 use Rattle.rlp_transactions.specs.{FeeMarketTransaction.fee_market_transaction_fields, LegacyTransaction.unsigned_legacy_transaction}
-use Rattle.rlp_transactions.specs.SetCodeTransaction.{set_code_transaction_fields}
-use Rattle.rlp_transactions.specs.declared.access_list_transaction.AccessListTransaction.{AccessListTransaction}
-use Rattle.rlp_transactions.specs.declared.blob_transaction.BlobTransaction.{BlobTransaction}
-use Rattle.rlp_transactions.specs.declared.fee_market_transaction.FeeMarketTransaction.{FeeMarketTransaction}
+use Rattle.rlp_transactions.specs.{SetCodeTransaction.{set_code_transaction_fields}, declared.access_list_transaction.AccessListTransaction.{AccessListTransaction}}
+use Rattle.rlp_transactions.specs.{declared.blob_transaction.BlobTransaction.{BlobTransaction}, declared.fee_market_transaction.FeeMarketTransaction.{FeeMarketTransaction}}
 use Rattle.rlp_transactions.specs.declared.legacy_transaction.UnsignedLegacyTransaction.{UnsignedLegacyTransaction}
-use Rattle.rlp_transactions.specs.declared.set_code_transaction.SetCodeTransaction.{SetCodeTransaction}
-use Rattle.rlp_transactions.specs.declared.unsigned_transaction.UnsignedTransaction.{UnsignedTransaction}
+use Rattle.rlp_transactions.specs.{declared.set_code_transaction.SetCodeTransaction.{SetCodeTransaction}, declared.unsigned_transaction.UnsignedTransaction.{UnsignedTransaction}}
 use Rattle.rlp_transactions.specs.declared.unsigned_transaction.UnsignedTransaction.TheVariants.{AccessList, Blob, FeeMarket, Legacy, SetCode}
 
 -- a transaction of one of the types

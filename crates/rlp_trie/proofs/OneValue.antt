@@ -1,8 +1,7 @@
 -- A path has one value below a reference, whichever nodes are known.
 use Rattle.std.proofs.Common.{◌≡◌, ◌∙◌, ℕ, List, Option, refl, subst, sym}
 use Rattle.rlp.specs.Format.Encoding.{Item}
-use Rattle.rlp_trie.specs.HexPrefix.{AreNibbles}
-use Rattle.rlp_trie.specs.Lookup.{Encodes, HasValue, StandsFor, Step, by_hash, ends, ends_here, goes, in_parent, leads_on, step}
+use Rattle.rlp_trie.specs.{HexPrefix.{AreNibbles}, Lookup.{Encodes, HasValue, StandsFor, Step, by_hash, ends, ends_here, goes, in_parent, leads_on, step}}
 use Rattle.rlp_trie.specs.{ProofWalk.{IsKnown, TellApart}, declared.trie_node.TrieNode.TrieNode}
 use Rattle.rlp_trie.proofs.{StepLemmas.step_rest, WalkLemmas.one_step}
 

@@ -1,7 +1,6 @@
 -- Hex-prefix encoding goes both ways.
 use Rattle.std.proofs.Common.{◌≡◌, ℕ, ◌+◌, ◌*◌, ◌/◌, ◌%◌, ◌<◌, ◌≤◌, ◌≢◌, ◌↔◌, ◌⊎◌, Bool, true, false, List, [], ◌∷◌, length, refl, sym, ap, ◌∙◌, arith, Option, Some, Result, Ok, Err, IfOk, take, drop, not, get_or, ◌++◌, ◌-◌, append_assoc}
-use Rattle.std.proofs.{lemmas.Bool.Decides.nat_tests, lemmas.Grind.common_steps}
-use Rattle.std.proofs.lemmas.List.Elements.{All-cons, All-drop, All-head, All-nil, All-tail, All-take}
+use Rattle.std.proofs.{lemmas.Bool.Decides.nat_tests, lemmas.Grind.common_steps, lemmas.List.Elements.{All-cons, All-drop, All-head, All-nil, All-tail, All-take}}
 use mathlib.Core.Bool.{beq}
 use Rattle.std.specs.{Global.Vec, declared.alloc.AllocError.AllocError}
 use Rattle.rlp.specs.Format.Encoding.{AreBytes}

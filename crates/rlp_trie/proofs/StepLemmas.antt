@@ -1,15 +1,13 @@
 -- What a node says of a path goes by its item, and leads on by a shorter path.
 use Rattle.std.proofs.Common.{◌≡◌, ◌≢◌, ◌<◌, ◌+◌, ◌++◌, ℕ, zero, suc, Bool, true, false, if◌then◌else◌, IfSome, List, [], ◌∷◌, length, get_or, drop, refl, sym, ap, ◌∙◌, subst, arith, length-append}
-use Rattle.std.proofs.{Common.{Option, Some, None}, lemmas.Bool.Decides.Decides-eqb, lemmas.List.Elements.{All-drop, All-head, All-tail}}
-use Rattle.std.proofs.lemmas.Slice.Eq.{starts_is}
+use Rattle.std.proofs.{Common.{Option, Some, None}, lemmas.Bool.Decides.Decides-eqb, lemmas.List.Elements.{All-drop, All-head, All-tail}, lemmas.Slice.Eq.{starts_is}}
 use Rattle.std.specs.{List.starts_with, Prelude.nat_eq, Vec.vec_items}
 use Rattle.rlp.specs.{Codec.{Codec, Fields, byte_string, each, end, field}, Format.Encoding.{Item, string, items_from, listed, list_of}}
 use Rattle.rlp_format.proofs.Lemmas.Encodings.{listed_from}
 use Rattle.rlp_trie.specs.{BranchChild.place_item, BranchChildLaws.branch_child, Child.{IsChild, child_item}, ChildLaws.child_some}
 use Rattle.rlp_trie.specs.{HexPrefix.{AreNibbles, path_nibbles}, Lookup.{branch_value, ends, goes, place_step, step}}
 use Rattle.rlp_trie.specs.{Trie.{branch, branch_fields, child_at, extension, leaf}, TrieNode.{IsTrieNode, node_item}, declared.branch.Branch.Branch}
-use Rattle.rlp_trie.specs.{declared.child.Child.Child, declared.leaf.Extension.Extension, declared.leaf.Leaf.Leaf}
-use Rattle.rlp_trie.specs.declared.trie_node.TrieNode.{TrieNode}
+use Rattle.rlp_trie.specs.{declared.child.Child.Child, declared.leaf.Extension.Extension, declared.leaf.Leaf.Leaf, declared.trie_node.TrieNode.{TrieNode}}
 use Rattle.rlp_trie.specs.declared.trie_node.TrieNode.TheVariants as node
 use Rattle.rlp_trie.proofs.PathLemmas.{some_nibbles}
 

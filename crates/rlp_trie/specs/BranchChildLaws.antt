@@ -2,13 +2,11 @@
 use Rattle.std.proofs.{Common.{arith, ◌<◌, ◌^◌, ◌∙◌, ap, length, refl}, lemmas.Bool.{cond-false, cond-true}}
 use Rattle.std.specs.Prelude.{ℕ, ◌≡◌, List, None, Ok, Option, Some, [], true}
 use Rattle.rlp.specs.{Codec.{Codec, lawful, newtype}, Form.{here, map_value}, Format.Encoding.{AreBytes, IsSized, encoding, string}}
-use Rattle.rlp_reading.proofs.ListLaws.{options_fit}
-use Rattle.rlp_reading.proofs.RawLaws.{ReadsItems, items_lawful}
+use Rattle.rlp_reading.proofs.{ListLaws.{options_fit}, RawLaws.{ReadsItems, items_lawful}}
 use Rattle.rlp_reading.specs.FirstItems.{item_type}
 use Rattle.rlp_trie.specs.{BranchChild.{IsPlace, is_empty_string, place_item, place_of, seen_place, written_place}, Child.{IsChild, child_item, child_of, seen_child}}
 use Rattle.rlp_trie.specs.ChildLaws.{child_back, child_fits, child_only, child_same, child_some}
-use Rattle.rlp_trie.specs.{EmptyStringLaws.{empty_found, empty_only, other_item}, declared.branch_child.BranchChild.BranchChild}
-use Rattle.rlp_trie.specs.declared.child.Child.{Child}
+use Rattle.rlp_trie.specs.{EmptyStringLaws.{empty_found, empty_only, other_item}, declared.branch_child.BranchChild.BranchChild, declared.child.Child.{Child}}
 
 place_back : (o : Option Child) → IsPlace o → IsSized (place_item o) → place_of (encoding (place_item o)) ≡ Ok (seen_place o)
 place_back None is sized = cond-true (is_empty_string (encoding (string []))) _ _ empty_found

@@ -1,6 +1,5 @@
 -- Children are read back, and are read only from their encodings.
-use Rattle.std.proofs.Common.{◌≡◌, ◌≢◌, ◌<◌, ◌^◌, inl, inr, ℕ, true, false, List, [], length, refl, sym, ap, ◌∙◌, subst, arith, Ok}
-use Rattle.std.proofs.lemmas.Bool.{cond-true, cond-false}
+use Rattle.std.proofs.{Common.{◌≡◌, ◌≢◌, ◌<◌, ◌^◌, inl, inr, ℕ, true, false, List, [], length, refl, sym, ap, ◌∙◌, subst, arith, Ok}, lemmas.Bool.{cond-true, cond-false}}
 use Rattle.std.specs.Prelude.{nat_le}
 use Rattle.rlp.specs.{Format.Encoding.{string, IsSized, encoding, AreBytes}, Format.Framing.begins_as_list, Values.RawItem.raw_item_of}
 use Rattle.rlp.specs.{Form.{here, map_value, raw_of}, Codec.{Codec, lawful}}

@@ -1,13 +1,6 @@
 -- Nodes of the trie that are kept in their parents.
-use Rattle.std.specs.Prelude.{ℕ, ◌≡◌, ◌≤◌, ◌<◌, true, false, List, length}
+use Rattle.std.specs.Prelude.{ℕ, ◌≡◌, ◌≤◌, true, false, List, length}
 use Rattle.rlp.specs.{DecoderError.DecoderError, DecoderError.TheVariants.{RlpExpectedToBeList, RlpIsTooBig}, Format.Framing.begins_as_list}
-use Rattle.rlp.specs.Values.RawItem.{IsRawItem}
-
--- the bytes are a node that is kept in its parent: a list of fewer than 32 bytes
-pub record IsInlineNode (b : List ℕ) : Type 0 where
-  pub raw : IsRawItem b
-  pub is_list : begins_as_list b ≡ true
-  pub is_short : length b < 32
 
 -- Why a raw item isn't a node that is kept in its parent: it is a string, or a list of 32 bytes or more.
 pub data IsInlineFault (b : List ℕ) : DecoderError → Type 0 where

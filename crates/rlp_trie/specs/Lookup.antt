@@ -1,6 +1,5 @@
 -- What the trie has for a path of nibbles: appendix D of the yellow paper.
-use Rattle.std.specs.{Prelude.{ℕ, ◌≡◌, ◌^◌, ◌<◌, if◌then◌else◌, nat_eq, List, [], ◌∷◌, drop, length, Option, Some, None}, List.starts_with}
-use Rattle.std.specs.{Str.bytes_eq, Vec.vec_items}
+use Rattle.std.specs.{Prelude.{ℕ, ◌≡◌, ◌^◌, ◌<◌, if◌then◌else◌, nat_eq, List, [], ◌∷◌, drop, length, Option, Some, None}, List.starts_with, Str.bytes_eq, Vec.vec_items}
 use Rattle.rlp_records.specs.Keccak.{keccak256}
 use Rattle.rlp.specs.Format.Encoding.{encoding, Item, Items, list, string}
 use Rattle.rlp_trie.specs.{Child.child_item, HexPrefix.path_nibbles, Trie.child_at, TrieNode.{IsTrieNode, node_item}, declared.child.Child.Child}

@@ -3,8 +3,7 @@ use Rattle.std.specs.{Prelude.{ℕ, ◌≡◌, ◌⊎◌, List, Option, Result, 
 use Rattle.rlp.specs.{DecoderError.DecoderError, Format.Encoding.Item}
 use Rattle.rlp.specs.DecoderError.TheVariants as decoder
 use Rattle.rlp_trie.specs.{Child.child_item, Lookup.{Step, ends, goes}, ProofWalk.{IsSameKind, Walk}, declared.proof.ProofFault.ProofFault}
-use Rattle.rlp_trie.specs.{declared.proof.ProofFault.TheVariants.{FaultyNode, OutOfMemory}, declared.walk.Next.Next}
-use Rattle.rlp_trie.specs.declared.walk.Next.TheVariants.{Below, Value}
+use Rattle.rlp_trie.specs.{declared.proof.ProofFault.TheVariants.{FaultyNode, OutOfMemory}, declared.walk.Next.Next, declared.walk.Next.TheVariants.{Below, Value}}
 
 -- the value, or the reference to the node below and the rest of the path
 abbrev pub next_step : Next → Step

@@ -1,12 +1,9 @@
 -- Proofs of what the trie has for a key: lists of the encodings of nodes of the trie, from the root down.
 use Rattle.std.specs.{Prelude.{ℕ, ◌≡◌, ◌⊎◌, ⊤, if◌then◌else◌, Contains, List, [], ◌∷◌, ◌++◌, codes, Option, Result, Ok, Err}, Str.bytes_eq}
 use Rattle.rlp_records.specs.Keccak.{keccak256}
-use Rattle.rlp.specs.{DecoderError.DecoderError, Format.Encoding.{encoding, Item, list, string}, Views.Text.error_name, Views.View.strict_view_of}
-use Rattle.rlp.specs.Form.{Faults}
-use Rattle.rlp_trie.specs.{HexPrefix.nibbles_of, Lookup.{Encodes, ends, goes, step}, TrieNodeLaws.trie_node}
-use Rattle.rlp_trie.specs.declared.proof.ProofFault.{ProofFault}
-use Rattle.rlp_trie.specs.declared.proof.ProofFault.TheVariants.{FaultyNode, MissingNode, NodesLeft, OtherHash, OutOfMemory}
-use Rattle.rlp_trie.specs.declared.trie_node.TrieNode.{TrieNode}
+use Rattle.rlp.specs.{DecoderError.DecoderError, Format.Encoding.{encoding, Item, list, string}, Views.Text.error_name, Views.View.strict_view_of, Form.{Faults}}
+use Rattle.rlp_trie.specs.{HexPrefix.nibbles_of, Lookup.{Encodes, ends, goes, step}, TrieNodeLaws.trie_node, declared.proof.ProofFault.{ProofFault}}
+use Rattle.rlp_trie.specs.{declared.proof.ProofFault.TheVariants.{FaultyNode, MissingNode, NodesLeft, OtherHash, OutOfMemory}, declared.trie_node.TrieNode.{TrieNode}}
 
 -- the printed text of a fault
 abbrev pub proof_fault_text : ProofFault → List ℕ

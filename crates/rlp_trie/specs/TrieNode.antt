@@ -1,8 +1,7 @@
 -- How nodes of the trie of every kind are written and read.
 use Rattle.std.specs.Prelude.{ℕ, ⊤, ◌⊎◌, ◌==◌, if◌then◌else◌, Bool, false, List, [], Result, Ok, Err}
 use Rattle.std.proofs.Common.{inl, inr}
-use Rattle.rlp.specs.{DecoderError.DecoderError, Format.Encoding.{Item, string}, Values.Sums.sum_item}
-use Rattle.rlp.specs.Views.View.{View, item_at, item_count, strict_view_of, view_string}
+use Rattle.rlp.specs.{DecoderError.DecoderError, Format.Encoding.{Item, string}, Values.Sums.sum_item, Views.View.{View, item_at, item_count, strict_view_of, view_string}}
 use Rattle.rlp.specs.Form.{Answer, Fault, go_on, here, incorrect_list_len, map_answer, seen_fault}
 use Rattle.rlp_trie.specs.{BranchChild.is_empty_string, HexPrefix.is_leaf_path, Trie.{branch, extension, leaf}, declared.trie_node.TrieNode.TrieNode}
 use Rattle.rlp_trie.specs.declared.trie_node.TrieNode.TheVariants.{Branch, Empty, Extension, Leaf}

@@ -4,9 +4,7 @@ use Rattle.std.proofs.lemmas.Bool.{cond-false, cond-true}
 use Rattle.std.specs.{Prelude.⊤, Vec.vec_items}
 use Rattle.rlp.specs.{Codec.{Codec, lawful}, Form.{Answer, Fault, and_then, here, incorrect_list_len, map_answer, map_value, seen_fault}}
 use Rattle.rlp.specs.{Format.Encoding.{AreBytes, IsSized, Item, encoding, list_of, string}, Views.View.{item_count, strict_view_of}}
-use Rattle.rlp_reading.proofs.Lemmas.StringsHeld.{held_only}
-use Rattle.rlp_reading.proofs.RawLaws.{ReadsItems, items_lawful}
-use Rattle.rlp_reading.proofs.{Lemmas.WholeLists.{held_at, held_count}, ListLaws.{goes_on, items_sized}}
+use Rattle.rlp_reading.proofs.{Lemmas.StringsHeld.{held_only}, RawLaws.{ReadsItems, items_lawful}, Lemmas.WholeLists.{held_at, held_count}, ListLaws.{goes_on, items_sized}}
 use Rattle.rlp_reading.specs.FirstItems.{item_type}
 use Rattle.rlp_records.proofs.Alone.{result_same}
 use Rattle.rlp_trie.specs.{BranchChild.is_empty_string, Child.child_item, EmptyStringLaws.{empty_found, empty_only, other_item}, HexPrefix.is_leaf_flag}

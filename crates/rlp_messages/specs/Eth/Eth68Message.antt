@@ -3,8 +3,7 @@ use Rattle.std.proofs.Common.{inl, inr}
 use Rattle.std.specs.Prelude.{◌⊎◌, refl}
 use Rattle.rlp_messages.specs.{Eth.EthMessage.{EthBody, eth_bodies}, Eth.Receipts.receipts, Eth.Requests.with_request_id, Eth.Status.status68}
 use Rattle.rlp_messages.specs.{Message.{Bodies, Table, and_message}, declared.eth.eth68_message.Eth68Message.Eth68Message}
-use Rattle.rlp_messages.specs.{declared.eth.receipts.Receipts.Receipts, declared.eth.requests.WithRequestId.WithRequestId}
-use Rattle.rlp_messages.specs.declared.eth.status.Status68.{Status68}
+use Rattle.rlp_messages.specs.{declared.eth.receipts.Receipts.Receipts, declared.eth.requests.WithRequestId.WithRequestId, declared.eth.status.Status68.{Status68}}
 use Rattle.rlp_messages.specs.declared.eth.eth68_message.Eth68Message.TheVariants as message
 
 -- the types of the bodies

@@ -4,8 +4,7 @@ use Rattle.std.specs.Prelude.{◌⊎◌, refl}
 use Rattle.rlp_messages.specs.{Eth.Announcements.block_range_update, Eth.EthMessage.{EthBody, eth_bodies}, Eth.Receipts.receipts69}
 use Rattle.rlp_messages.specs.{Eth.Requests.with_request_id, Eth.Status.status69, Message.{Bodies, Table, and_message}}
 use Rattle.rlp_messages.specs.{declared.eth.announcements.BlockRangeUpdate.BlockRangeUpdate, declared.eth.eth69_message.Eth69Message.Eth69Message}
-use Rattle.rlp_messages.specs.{declared.eth.receipts.Receipts69.Receipts69, declared.eth.requests.WithRequestId.WithRequestId}
-use Rattle.rlp_messages.specs.declared.eth.status.Status69.{Status69}
+use Rattle.rlp_messages.specs.{declared.eth.receipts.Receipts69.Receipts69, declared.eth.requests.WithRequestId.WithRequestId, declared.eth.status.Status69.{Status69}}
 use Rattle.rlp_messages.specs.declared.eth.eth69_message.Eth69Message.TheVariants as message
 
 -- the types of the bodies

@@ -2,8 +2,7 @@
 use Rattle.std.specs.Prelude.{ℕ, ◌≡◌, ◌⊎◌, ◌==◌, if◌then◌else◌, List, length, Result, Ok}
 use Rattle.std.proofs.Common.{inl, inr}
 use Rattle.rlp.specs.{Form.{Fault, map_value, number_of}, Format.Encoding.big_endian, Values.Value.FitsBytes}
-use Rattle.rlp_messages.specs.declared.eth.requests.HashOrNumber.{HashOrNumber}
-use Rattle.rlp_messages.specs.declared.eth.requests.HashOrNumber.TheVariants.{Hash, Number}
+use Rattle.rlp_messages.specs.{declared.eth.requests.HashOrNumber.{HashOrNumber}, declared.eth.requests.HashOrNumber.TheVariants.{Hash, Number}}
 
 -- the bytes of the hash, or the digits of the number
 abbrev pub hash_or_number_bytes : HashOrNumber → List ℕ

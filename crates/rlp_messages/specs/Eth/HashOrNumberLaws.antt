@@ -2,10 +2,8 @@
 use Rattle.std.specs.Prelude.{ℕ, ◌≡◌, ◌==◌, Bool, true, false, List, length, Ok}
 use Rattle.std.proofs.{Common.{◌^◌, ◌<◌, inl, inr, ap, arith, eq-eqb, ne_eqb, refl, subst, sym, ◌∙◌}, lemmas.Bool.{cond-true, cond-false}, lemmas.Bool.Decides.nat_tests}
 use Rattle.rlp.specs.{Codec.{Codec, string_type}, Form.{map_value, number_of}, Format.Encoding.{AreBytes, big_endian}, Values.Value.FitsBytes}
-use Rattle.rlp_reading.proofs.StringLaws.{ReadsStrings, number_strings}
-use Rattle.rlp_reading.proofs.Lemmas.StringsHeld.{few_digits}
-use Rattle.rlp_messages.specs.declared.eth.requests.HashOrNumber.{HashOrNumber}
-use Rattle.rlp_messages.specs.declared.eth.requests.HashOrNumber.TheVariants.{Hash, Number}
+use Rattle.rlp_reading.proofs.{StringLaws.{ReadsStrings, number_strings}, Lemmas.StringsHeld.{few_digits}}
+use Rattle.rlp_messages.specs.{declared.eth.requests.HashOrNumber.{HashOrNumber}, declared.eth.requests.HashOrNumber.TheVariants.{Hash, Number}}
 use Rattle.rlp_messages.specs.Eth.HashOrNumber.{IsHashOrNumber, hash_or_number_bytes, hash_or_number_of, seen_hash_or_number, written_hash_or_number}
 use Rattle.rlp_records.proofs.Alone.{not_right, right_only}
 

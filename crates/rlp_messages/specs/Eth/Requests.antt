@@ -1,7 +1,6 @@
 -- How requests and their answers are written and read, without the number of the request and with it.
 use Rattle.std.specs.Vec.{vec_items}
-use Rattle.rlp.specs.Codec.{Codec, Fields, end, field, list_type, number, struct_of, truth_value}
-use Rattle.rlp.specs.Form.{Reading, group_before, no_fields, one_field, struct_reading}
+use Rattle.rlp.specs.{Codec.{Codec, Fields, end, field, list_type, number, struct_of, truth_value}, Form.{Reading, group_before, no_fields, one_field, struct_reading}}
 use Rattle.rlp_records.specs.Hash.{hash}
 use Rattle.rlp_transactions.specs.PooledTransaction.{pooled_transaction}
 use Rattle.rlp_headers.specs.Header.{header}

@@ -3,8 +3,7 @@ use Rattle.rlp_format.proofs.Lemmas.Digits.{bytes_held}
 use Rattle.rlp_reading.proofs.Lemmas.{Frames.{split_framed, split_unframed}, Numbered.fault-err}
 use Rattle.std.proofs.Common.{◌≡◌, ℕ, ◌-◌, ◌≤◌, List, length, length-take-le, take, drop, None, Some, Ok, Err, true, sym, ap, ◌∙◌, arith, ◌<◌, false}
 use Rattle.std.proofs.Common.{not, ◌==◌, ltb, lt-ltb, le-ltb, [], ◌∷◌, ◌++◌, length-append, subst, ◌+◌, ◌^◌, if◌then◌else◌, append-nil, Result}
-use Rattle.std.proofs.{Common.{IfOk, IfErr, IsOkAnd, MatchResult}, lemmas.List.{length-drop, take_rest, drop-take}}
-use Rattle.std.proofs.{lemmas.Bool.{cond-true, cond-false}}
+use Rattle.std.proofs.{Common.{IfOk, IfErr, IsOkAnd, MatchResult}, lemmas.List.{length-drop, take_rest, drop-take}, lemmas.Bool.{cond-true, cond-false}}
 use Rattle.std.specs.Result.{IsErr, IsErrAnd}
 use Rattle.rlp_format.specs.Format.Encoding.{AreBytes, encoding, Item, join}
 use Rattle.rlp_format.proofs.Lemmas.Encodings.{front_sized}

@@ -2,8 +2,7 @@
 use Rattle.std.proofs.Common.{ℕ, zero, suc, ◌+◌, ◌-◌, ◌<◌, ◌≤◌, ◌≡◌, List, [], ◌∷◌, length, drop, map, Result, Ok, Err, refl, sym, ◌∙◌, ap, arith}
 use Rattle.std.proofs.Common.{length-drop, ◌⊎◌, ⊎_elim, true, false, ◌++◌, take, get_or, Option, Some, None, option_map, ◌↔◌, ltb}
 use Rattle.std.proofs.Common.{lt-ltb, le-ltb, length-append, ◌==◌, IfOk, MatchResult, append_assoc, append-nil, drop_at}
-use Rattle.std.proofs.{lemmas.List.{drop_all, drop-map, length-map}, lemmas.Bool.{cases_lt, cond-true, cond-false}}
-use Rattle.std.proofs.{lemmas.Option.{slice_get-map, slice_get_past, slice_get-get_or}}
+use Rattle.std.proofs.{lemmas.List.{drop_all, drop-map, length-map}, lemmas.Bool.{cases_lt, cond-true, cond-false}, lemmas.Option.{slice_get-map, slice_get_past, slice_get-get_or}}
 use Rattle.std.specs.List.{slice_get, concat}
 use Rattle.rlp_reading.specs.declared.error.DecoderError.{DecoderError}
 use Rattle.rlp_reading.specs.Format.Framing.{frame, split, split_within, frame_and_more, items, payload, fault, framing, map_ok, value, begins_as_list}
@@ -12,8 +11,7 @@ use Rattle.rlp_reading.specs.Views.View.{View, item_views, item_count, item_with
 use Rattle.rlp_reading.specs.{declared.error.DecoderError.TheVariants.RlpExpectedToBeList, declared.header.PayloadInfo.PayloadInfo, Values.FieldPlace.IsAtPlace}
 use Rattle.rlp_reading.specs.Format.Skipping.{IsAfterItems}
 use Rattle.rlp_reading.proofs.{Lemmas.Views.passed, Lemmas.Skipping.after-all}
-use Rattle.std.proofs.{Common.take_all, Math.Seq.{drop-append-add, drop-nil}, lemmas.List.{drop-drop}}
-use Rattle.std.proofs.lemmas.Grind.{common_steps}
+use Rattle.std.proofs.{Common.take_all, Math.Seq.{drop-append-add, drop-nil}, lemmas.List.{drop-drop}, lemmas.Grind.{common_steps}}
 
 frame_and_more-shorter : (turns : ℕ) (p : List ℕ) (r : Result (List ℕ) DecoderError) → ((q : List ℕ) → length (split_within turns q) ≤ turns)
     → length (frame_and_more (split_within turns) p r) ≤ suc turns

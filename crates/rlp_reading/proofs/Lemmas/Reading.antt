@@ -12,8 +12,7 @@ use Rattle.rlp_reading.specs.{declared.error.DecoderError.DecoderError, declared
 use Rattle.rlp_reading.specs.declared.error.DecoderError.TheVariants.{RlpDataLenWithZeroPrefix, RlpListLenWithZeroPrefix}
 use Rattle.rlp_reading.specs.Format.Framing.{HasHeader, lone, written, header, long_header, header_fault, announced, ReadsHeader, payload_info}
 use Rattle.rlp_format.specs.Format.Encoding.{big_endian, written_header, IsBase, AreBytes}
-use Rattle.rlp_format.proofs.Lemmas.Digits.{big_endian_value, big_endian_first, big_endian_again}
-use Rattle.rlp_format.proofs.Lemmas.Headers.{shape, Parts, written_header_short, written_header_long}
+use Rattle.rlp_format.proofs.{Lemmas.Digits.{big_endian_value, big_endian_first, big_endian_again}, Lemmas.Headers.{shape, Parts, written_header_short, written_header_long}}
 
 -- the header of a low byte
 pub header_low : (first : ℕ) (rest : List ℕ) → first < 0x80 → header (first ∷ rest) ≡ Ok (payload_info 0 1)

@@ -9,8 +9,7 @@ use Rattle.std.proofs.lemmas.Grind.{common_steps}
 use Rattle.rlp_format.specs.Format.Encoding.{string, written_header, AreBytes, encoding, string_encoding, is_low_byte}
 use Rattle.rlp_format.proofs.{Lemmas.Digits.{big_endian_first, big_endian_value}, Lemmas.Headers.{Parts, shape, written_header_short}}
 use Rattle.rlp_format.proofs.Lemmas.Encodings.{low_byte, small_payload, front_sized}
-use Rattle.rlp_reading.specs.declared.error.DecoderError.{DecoderError}
-use Rattle.rlp_reading.specs.declared.error.DecoderError.TheVariants.{RlpIsTooShort, RlpExpectedToBeData}
+use Rattle.rlp_reading.specs.{declared.error.DecoderError.{DecoderError}, declared.error.DecoderError.TheVariants.{RlpIsTooShort, RlpExpectedToBeData}}
 use Rattle.rlp_reading.specs.declared.error.DecoderError.TheVariants.{RlpDataLenWithZeroPrefix}
 use Rattle.rlp_reading.specs.declared.error.DecoderError.TheVariants.{RlpListLenWithZeroPrefix}
 use Rattle.rlp_reading.specs.Format.Framing.{IsString, ReadsString, short_string, long_value, long_string, read_string, short_string_fault}

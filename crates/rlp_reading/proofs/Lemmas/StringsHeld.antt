@@ -5,14 +5,12 @@ use Rattle.std.proofs.Common.{le-ltb, lt-ltb, Result, Ok, Err, MatchResult, IfEr
 use Rattle.std.proofs.{lemmas.Bool.{cases_lt, cond-true, cond-false}, lemmas.List.Elements.All-from_recursion, lemmas.Int.Digits.length-digits_of-le}
 use Rattle.std.specs.Int.Digits.{number_from_digits}
 use Rattle.std.proofs.lemmas.Grind.{common_steps}
-use Rattle.rlp_format.specs.Format.Encoding.{Item, string, AreBytes, written_header, encoding, is_low_byte, BeginsWith, IsSized, big_endian}
-use Rattle.rlp_format.specs.Values.Value.{FitsBytes}
+use Rattle.rlp_format.specs.{Format.Encoding.{Item, string, AreBytes, written_header, encoding, is_low_byte, BeginsWith, IsSized, big_endian}, Values.Value.{FitsBytes}}
 use Rattle.rlp_format.proofs.{Lemmas.Encodings.{front_sized, string_cases}, Lemmas.Headers.written_header_short}
 use Rattle.rlp_format.proofs.Lemmas.Digits.{bytes_held, digits_fit, digits_again, big_endian_is, pow-bytes}
 use Rattle.rlp_reading.specs.{declared.error.DecoderError.DecoderError, declared.error.DecoderError.TheVariants.RlpIsTooBig}
 use Rattle.rlp_reading.specs.Format.Framing.{HasHeader, ReadsString, read_string, is_followed, is_longer, whole_string}
-use Rattle.rlp_reading.specs.Views.View.{View, Holds, HoldsItem, HoldsNoString, HoldsString, view_string}
-use Rattle.rlp_reading.specs.Values.ValueReading.{GivesNumber}
+use Rattle.rlp_reading.specs.{Views.View.{View, Holds, HoldsItem, HoldsNoString, HoldsString, view_string}, Values.ValueReading.{GivesNumber}}
 use Rattle.rlp_reading.proofs.{Lemmas.Frames.{encoding_item, framing_is, longer}, Lemmas.Strings.{string_only, string_reads}}
 
 begins_by : (strict : Bool) (b s : List ℕ) → Holds strict b s → BeginsWith b s

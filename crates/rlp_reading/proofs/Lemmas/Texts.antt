@@ -4,19 +4,16 @@ use Rattle.std.proofs.Common.{arith, Ok, Err, Result, length-take, length-drop, 
 use Rattle.std.proofs.{Common.{fold, subst, append-nil, ◌-◌, append_assoc, IsTrue, ◌↔◌, length-append}, lemmas.Bool.false≢true}
 use Rattle.std.proofs.lemmas.List.{map-append, take-append-drop, take-append-le, drop-append-le}
 use Rattle.std.specs.{Bool.⊤, List.AllByRecursion}
-use Rattle.std.proofs.lemmas.Grind.{common_steps}
-use Rattle.std.proofs.lemmas.Bool.Decides.{nat_tests}
+use Rattle.std.proofs.{lemmas.Grind.{common_steps}, lemmas.Bool.Decides.{nat_tests}}
 use Rattle.rlp_format.specs.Format.Encoding.{Item, string, list, Items, no_items, item_and, items_from, listed, list_of, item_depth, items_depth, encoding}
 use Rattle.rlp_format.specs.Format.Encoding.{IsSized, BeginsWith, AreBytes}
 use Rattle.rlp_format.proofs.{Lemmas.Encodings.{AllSized, parts_sized, list_written, items_from-listed}}
 use Rattle.rlp_reading.specs.{declared.error.DecoderError.DecoderError, declared.header.PayloadInfo.PayloadInfo}
 use Rattle.rlp_reading.specs.Format.Framing.{header, framing, frame, value, total_len, split, split_within}
 use Rattle.rlp_reading.specs.Format.Framing.{frame_and_more, begins_as_list, payload, payload_in, items, HasHeader, IsFramedItem}
-use Rattle.rlp_reading.specs.{Views.ByItems.{by_items_within, by_items}, Views.Text.{text, text_by, separated, error_name}}
-use Rattle.rlp_reading.specs.Views.Depth.{depth, depth_by, framed_depth, greatest}
+use Rattle.rlp_reading.specs.{Views.ByItems.{by_items_within, by_items}, Views.Text.{text, text_by, separated, error_name}, Views.Depth.{depth, depth_by, framed_depth, greatest}}
 use Rattle.hex.specs.Hex.{encode_lower}
-use Rattle.rlp_reading.proofs.Lemmas.Views.{front_kind, list_shape, items_of_list}
-use Rattle.rlp_reading.proofs.Lemmas.Frames.{Frames, frame_item, framing_reads, longer, framing_is, value_is, item_some}
+use Rattle.rlp_reading.proofs.{Lemmas.Views.{front_kind, list_shape, items_of_list}, Lemmas.Frames.{Frames, frame_item, framing_reads, longer, framing_is, value_is, item_some}}
 
 -- each of the lists has at most n elements
 abbrev pub AllWithinLength : ℕ → List (List ℕ) → Type 0

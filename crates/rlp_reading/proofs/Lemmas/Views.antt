@@ -1,17 +1,14 @@
 -- The encodings of lists, and bytes that are exactly one item.
 use Rattle.std.proofs.Common.{take_all, if◌then◌else◌, Option, Some, ◌≡◌, ℕ, zero, suc, ◌+◌, ◌^◌, ◌<◌, ◌≤◌, Bool, true, false, List, [], ◌∷◌, ◌++◌, length, take, drop, map, refl, sym, ap, ◌∙◌}
 use Rattle.std.proofs.Common.{subst, arith, Ok, length-append, append_assoc, take_at, drop_at, inr, get_or, le_refl, length-drop}
-use Rattle.std.proofs.{Common.None, lemmas.List.{drop_all, length-take}}
-use Rattle.std.proofs.{lemmas.List.Elements.{All-nil, All-take, All-drop}, lemmas.Simd.map-map}
+use Rattle.std.proofs.{Common.None, lemmas.List.{drop_all, length-take}, lemmas.List.Elements.{All-nil, All-take, All-drop}, lemmas.Simd.map-map}
 use Rattle.std.specs.List.{concat}
-use Rattle.std.proofs.lemmas.Grind.{common_steps}
-use Rattle.std.proofs.lemmas.Bool.Decides.{nat_tests}
+use Rattle.std.proofs.{lemmas.Grind.{common_steps}, lemmas.Bool.Decides.{nat_tests}}
 use Rattle.rlp_format.specs.Format.Encoding.{IsBase, Item, list_of, written_header, AreBytes, encoding, join, IsSized, BeginsWith, list, listed, string, is_list}
 use Rattle.rlp_format.proofs.{Lemmas.Encodings.{encoding_list, small_payload, front_sized, items_from-listed}, Lemmas.Headers.shape}
 use Rattle.rlp_reading.specs.Format.Framing.{written, IsFramed, value, split, begins_as_list, payload, items}
 use Rattle.rlp_reading.specs.{Format.Framing.{rest, HasHeader, strict_fault}}
-use Rattle.rlp_reading.proofs.Lemmas.Reading.{header_unique}
-use Rattle.rlp_reading.proofs.Lemmas.Frames.{walk, value_is, split_join, join_is, encoding_item, framing_is}
+use Rattle.rlp_reading.proofs.{Lemmas.Reading.{header_unique}, Lemmas.Frames.{walk, value_is, split_join, join_is, encoding_item, framing_is}}
 
 -- ---- the fault of a test
 

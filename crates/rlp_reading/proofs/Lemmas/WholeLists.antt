@@ -1,13 +1,11 @@
 -- Bytes that are exactly one list, and the items of a view that holds a list.
 use Rattle.std.proofs.Common.{◌≡◌, ℕ, ◌^◌, ◌<◌, ◌≤◌, true, List, [], ◌∷◌, ◌++◌, length, map, refl, sym, ap, ◌∙◌, subst, arith}
 use Rattle.std.proofs.Common.{le_refl, append-nil, drop_at, Some, None, Result, Ok, Err, append_assoc, length-append, Bool, false, IsTrue}
-use Rattle.std.proofs.{lemmas.Bool.{cond-true}, lemmas.List.{length-map}}
-use Rattle.std.proofs.{lemmas.List.Elements.{All-from_recursion, recursion_from_All}, lemmas.Simd.map-map}
+use Rattle.std.proofs.{lemmas.Bool.{cond-true}, lemmas.List.{length-map}, lemmas.List.Elements.{All-from_recursion, recursion_from_All}, lemmas.Simd.map-map}
 use Rattle.std.specs.List.{concat, slice_get, AllByRecursion}
 use Rattle.rlp_format.specs.Format.Encoding.{Item, list_of, AreBytes, encoding, IsSized, BeginsWith}
 use Rattle.rlp_format.proofs.Lemmas.Encodings.{front_sized}
-use Rattle.rlp_reading.specs.declared.error.DecoderError.{DecoderError}
-use Rattle.rlp_reading.specs.declared.error.DecoderError.TheVariants.{RlpExpectedToBeList, RlpIsTooShort}
+use Rattle.rlp_reading.specs.{declared.error.DecoderError.{DecoderError}, declared.error.DecoderError.TheVariants.{RlpExpectedToBeList, RlpIsTooShort}}
 use Rattle.rlp_reading.specs.declared.header.PayloadInfo.{PayloadInfo}
 use Rattle.rlp_reading.specs.Format.Framing.{framing, total_len, begins_as_list, items, payload, rest, split, fault_of_some, first_fault}
 use Rattle.rlp_reading.specs.Format.Framing.{strict_fault, strict_fault_in, strict_list_fault, HasHeader, header, fault}

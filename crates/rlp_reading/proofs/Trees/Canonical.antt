@@ -1,16 +1,13 @@
 -- Bytes that are and aren't the encoding of an item within a depth, and their first fault.
-use Rattle.std.proofs.lemmas.List.{drop-set-lt}
-use Rattle.std.proofs.Common.{◌≡◌, ℕ, ◌-◌, ◌^◌, ◌<◌, ◌≤◌, ◌↔◌, Bool, true, false, List, [], ◌∷◌, ◌++◌, length, refl, sym, ap, ◌∙◌, subst}
+use Rattle.std.proofs.{lemmas.List.{drop-set-lt}, Common.{◌≡◌, ℕ, ◌-◌, ◌^◌, ◌<◌, ◌≤◌, ◌↔◌, Bool, true, false, List, [], ◌∷◌, ◌++◌, length, refl, sym, ap, ◌∙◌, subst}}
 use Rattle.std.proofs.{Common.{arith, append-nil, IsTrue, Some, None, ◌≢◌, Option}, lemmas.Bool.{cond-true, cond-false}}
 use Rattle.rlp_format.specs.Format.Encoding.{Item, Items, string, list, listed, list_of, item_depth, items_depth, encoding, join, IsSized}
 use Rattle.rlp_format.proofs.Lemmas.Encodings.{items_from-listed}
-use Rattle.rlp_reading.specs.declared.error.DecoderError.{DecoderError}
-use Rattle.rlp_reading.specs.Format.Framing.{begins_as_list, payload, split, IsCanonicalWithin, strict_fault, fault}
+use Rattle.rlp_reading.specs.{declared.error.DecoderError.{DecoderError}, Format.Framing.{begins_as_list, payload, split, IsCanonicalWithin, strict_fault, fault}}
 use Rattle.rlp_reading.specs.{declared.error.DecoderError.TheVariants.RlpInvalidIndirection, declared.flat.TreeFault.TreeFault}
 use Rattle.rlp_reading.specs.declared.flat.TreeFault.TheVariants.{Decoding, TooDeep}
 use Rattle.rlp_reading.specs.Format.TreeFaults.{first_in, is_needless, payload_fault, needless_fault, tree_fault, walk_fault}
-use Rattle.rlp_reading.proofs.{Lemmas.Views.{payload_of_list, strict_fault-encoding}}
-use Rattle.rlp_reading.proofs.Lemmas.Numbered.{split-nil, after_items-next}
+use Rattle.rlp_reading.proofs.{Lemmas.Views.{payload_of_list, strict_fault-encoding}, Lemmas.Numbered.{split-nil, after_items-next}}
 use Rattle.rlp_reading.proofs.Lemmas.{Views.front_kind, WholeLists.whole_sized}
 use Rattle.std.proofs.{Common.{ltb, lt-ltb, Ok, Err}, lemmas.List.Elements.All-from_recursion}
 use Rattle.std.specs.List.{AllByRecursion}

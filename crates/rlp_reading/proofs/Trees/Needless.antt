@@ -1,15 +1,12 @@
 -- Strings with and without a needless header.
 use Rattle.std.proofs.Common.{◌≡◌, ℕ, ◌+◌, ◌^◌, ◌<◌, ◌≤◌, List, ◌++◌, length, take, drop, refl, sym, ap, ◌∙◌, Ok, Result, append_assoc, take_at}
-use Rattle.std.proofs.Common.{drop_at, length-append, arith, true, false, None, append-nil, lt-ltb}
-use Rattle.std.proofs.{lemmas.Bool.{cases_Bool, cond-false, cond-true, lt-leb}}
-use Rattle.std.proofs.lemmas.List.{nil_from_length}
-use Rattle.std.proofs.lemmas.Grind.{common_steps}
+use Rattle.std.proofs.{Common.{drop_at, length-append, arith, true, false, None, append-nil, lt-ltb}, lemmas.Bool.{cases_Bool, cond-false, cond-true, lt-leb}}
+use Rattle.std.proofs.{lemmas.List.{nil_from_length}, lemmas.Grind.{common_steps}}
 use Rattle.rlp_format.specs.Format.Encoding.{string, encoding, written_header, AreBytes, is_low_byte}
 use Rattle.rlp_format.proofs.{Lemmas.Encodings.{IsLone, IsWritten}, Lemmas.Headers.{shape, written_header_short}}
 use Rattle.rlp_reading.specs.{declared.error.DecoderError.DecoderError, declared.header.PayloadInfo.PayloadInfo}
 use Rattle.rlp_reading.specs.Format.Framing.{lone, written, header, payload_info, IsString, HasHeader, IsFramedItem, framing, value, begins_as_list}
-use Rattle.rlp_reading.specs.{Format.Framing.{strict_fault}, Views.View.{View, HoldsString, view_string}}
-use Rattle.rlp_reading.specs.Format.TreeFaults.{is_needless}
+use Rattle.rlp_reading.specs.{Format.Framing.{strict_fault}, Views.View.{View, HoldsString, view_string}, Format.TreeFaults.{is_needless}}
 use Rattle.rlp_reading.proofs.{Lemmas.Reading.read, Lemmas.Frames.{framing_is, value_is}, Lemmas.StringsHeld.held_only}
 use Rattle.rlp_reading.proofs.Lemmas.Fronts as fronts
 use Rattle.rlp_reading.proofs.Lemmas.Views.{after_header, list_header_first}

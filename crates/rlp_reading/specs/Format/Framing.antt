@@ -1,7 +1,6 @@
 -- Where the items of bytes begin and end, and what is wrong where bytes are no item.
 use Rattle.std.specs.Prelude.{ℕ, ◌≡◌, ◌+◌, ◌-◌, ◌^◌, ◌<◌, Bool, ◌&&◌, if◌then◌else◌, ◌==◌, nat_lt, nat_le, List, [], ◌∷◌, ◌++◌, length, take, Result, Ok, Err}
-use Rattle.std.specs.{Prelude.{MatchResult, ◌≤◌, drop, zero, suc, true, false, All, slice_index, Option, Some, None}, Int.Digits.number_from_digits}
-use Rattle.std.specs.List.{concat}
+use Rattle.std.specs.{Prelude.{MatchResult, ◌≤◌, drop, zero, suc, true, false, All, slice_index, Option, Some, None}, Int.Digits.number_from_digits, List.{concat}}
 use Rattle.rlp_reading.specs.declared.error.DecoderError.{DecoderError}
 use Rattle.rlp_reading.specs.declared.error.DecoderError.TheVariants.{RlpIsTooShort, RlpDataLenWithZeroPrefix, RlpListLenWithZeroPrefix, RlpInvalidIndirection}
 use Rattle.rlp_reading.specs.declared.error.DecoderError.TheVariants.{RlpExpectedToBeData, RlpInconsistentLengthAndData, RlpInvalidLength, RlpExpectedToBeList}

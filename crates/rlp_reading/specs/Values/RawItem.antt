@@ -1,7 +1,6 @@
 -- Items that are kept as the bytes of their encodings.
 use Rattle.std.specs.Prelude.{ℕ, zero, suc, List, [], map, Result, Ok, Err}
-use Rattle.rlp_reading.specs.{declared.error.DecoderError.DecoderError, Format.Framing.{frame, items, IsCanonicalWithin, unless, read_string}}
-use Rattle.rlp_reading.specs.Views.View.{View, frame_fault}
+use Rattle.rlp_reading.specs.{declared.error.DecoderError.DecoderError, Format.Framing.{frame, items, IsCanonicalWithin, unless, read_string}, Views.View.{View, frame_fault}}
 use Rattle.rlp_format.specs.Format.Encoding.{Item, string, list_of}
 
 -- the string that was read, or no bytes for a fault

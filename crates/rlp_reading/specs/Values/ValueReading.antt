@@ -1,7 +1,6 @@
 -- The value that a view gives, and why it gives none: numbers, byte strings and text.
 use Rattle.std.specs.Prelude.{ℕ, ◌≡◌, ◌⊎◌}
-use Rattle.rlp_reading.specs.declared.error.DecoderError.{DecoderError}
-use Rattle.rlp_reading.specs.{Views.Text.error_name, Views.View.{View, HoldsItem}}
+use Rattle.rlp_reading.specs.{declared.error.DecoderError.{DecoderError}, Views.Text.error_name, Views.View.{View, HoldsItem}}
 use Rattle.rlp_format.specs.{Format.Encoding.Item, Values.Value.{number_item, FitsBytes, AreAlike}}
 
 -- The view gives the value x: x fits its type, and the view holds its item.

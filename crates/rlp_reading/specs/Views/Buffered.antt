@@ -1,6 +1,5 @@
 -- Text that is put into a buffer, and written from it, for private functions.
-use Rattle.std.specs.{Prelude.{ℕ, ◌≡◌, List, ◌++◌, Result, IsOk}, Fmt.{HasWrittenStyled, IsFlush}}
-use Rattle.std.specs.{declared.fmt.Error.Error, declared.fmt.Formatter.Formatter}
+use Rattle.std.specs.{Prelude.{ℕ, ◌≡◌, List, ◌++◌, Result, IsOk}, Fmt.{HasWrittenStyled, IsFlush}, declared.fmt.Error.Error, declared.fmt.Formatter.Formatter}
 
 -- a text was put: what was written and what waits now are what waited before and the text
 pub record HasPut {W : Type 0} (took : W → List ℕ → W → Type 0) (f : Formatter W) (waited text : List ℕ) (g : Formatter W) (waits : List ℕ) : Type 0 where

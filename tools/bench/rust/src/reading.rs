@@ -36,10 +36,10 @@ pub fn run(inputs: &Inputs, operation: &str, times: usize) -> Option<usize> {
 /// Reads a view of one of the two encodings in the bytes many times. Each turn takes the other one.
 fn summed(bytes: &[u8], times: usize, read: impl Fn(&Rlp) -> Result<usize, DecoderError>) -> Option<usize> {
     let mut sum: usize = 0;
-    let encodings = bytes.split_at(bytes.len() / 2);
-    for turn in 0..times {
-        let view = Rlp::new(if turn % 2 == 0 { encodings.0 } else { encodings.1 });
-        sum = sum.wrapping_add(read(&view).ok()?);
+    let (mut encoding, mut other) = bytes.split_at(bytes.len() / 2);
+    for _ in 0..times {
+        sum = sum.wrapping_add(read(&Rlp::new(encoding)).ok()?);
+        std::mem::swap(&mut encoding, &mut other);
     }
     Some(sum)
 }

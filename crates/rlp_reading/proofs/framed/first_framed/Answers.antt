@@ -1,7 +1,6 @@
 use Rattle.std.proofs.{Common.{rules, sym}, lemmas.Grind.common_steps}
 use Rattle.rlp_format.proofs.Lemmas.Digits.{bytes_held}
-use Rattle.rlp_reading.proofs.Lemmas.Fronts.{front_frame, front_item, front_ends, front_item_value}
-use Rattle.rlp_reading.proofs.{Lemmas.Fronts.item_whole}
+use Rattle.rlp_reading.proofs.{Lemmas.Fronts.{front_frame, front_item, front_ends, front_item_value}, Lemmas.Fronts.item_whole}
 use Rattle.rlp_reading.proofs.framed.first_framed.Goals as goal
 
 pub invariant_of-result : goal.invariant_of-result

@@ -1,6 +1,5 @@
 -- Each arm computes the number from the digits one by one.
-use Rattle.std.proofs.Common.{◌≡◌, ℕ, zero, suc, ◌+◌, ◌≤◌, ◌<◌, List, [], ◌∷◌, length, get_or, drop, sym, ap, ◌∙◌, arith, drop-cons}
-use Rattle.std.proofs.lemmas.List.{drop_all}
+use Rattle.std.proofs.{Common.{◌≡◌, ℕ, zero, suc, ◌+◌, ◌≤◌, ◌<◌, List, [], ◌∷◌, length, get_or, drop, sym, ap, ◌∙◌, arith, drop-cons}, lemmas.List.{drop_all}}
 use Rattle.std.specs.Int.Digits.{number_from_digits}
 use Rattle.rlp_reading.proofs.numbers.digits_at_once.Goals as goal
 

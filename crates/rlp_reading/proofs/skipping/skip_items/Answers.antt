@@ -1,5 +1,4 @@
-use Rattle.std.proofs.Common.{arith, ◌∙◌}
-use Rattle.std.proofs.lemmas.Result.{err_from_is_err_and}
+use Rattle.std.proofs.{Common.{arith, ◌∙◌}, lemmas.Result.{err_from_is_err_and}}
 use Rattle.rlp_reading.proofs.Lemmas.Skipping.{after-both, after-next, after-all}
 use Rattle.rlp_reading.proofs.skipping.skip_items.Goals as goal
 

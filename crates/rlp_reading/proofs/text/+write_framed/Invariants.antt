@@ -1,6 +1,5 @@
 use Rattle.std.proofs.Common.{◌≡◌, [], ◌++◌, codes, length, map, List, ℕ}
-use Rattle.std.specs.Prelude.{if◌then◌else◌}
-use Rattle.std.specs.Fmt.{IsFlush}
+use Rattle.std.specs.{Prelude.{if◌then◌else◌}, Fmt.{IsFlush}}
 use Rattle.rlp_reading.specs.{Format.Framing.{items, split}, Views.Buffered.HasPut, Views.Text.{text, separated}}
 use Rattle.rlp_reading.proofs.Lemmas.Texts.{separator_after}
 use Rattle.rlp_reading.proofs.text.+write_framed.Given as goal

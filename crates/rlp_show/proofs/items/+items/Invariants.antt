@@ -1,7 +1,6 @@
 use Rattle.std.proofs.Common.{◌≡◌, ◌+◌, ◌*◌, ◌<◌, ◌^◌, length}
 use Rattle.rlp.specs.Views.View.{View}
-use Rattle.rlp_show.specs.Value.{after, after_items, values_of}
-use Rattle.rlp_show.specs.{declared.sink.Bracket.TheVariants.CloseSquare, Items.items_shown, Items.shown_within}
+use Rattle.rlp_show.specs.{Value.{after, after_items, values_of}, declared.sink.Bracket.TheVariants.CloseSquare, Items.items_shown, Items.shown_within}
 use Rattle.rlp_show.proofs.items.+items.Given as goal
 
 -- each call goes through one list more

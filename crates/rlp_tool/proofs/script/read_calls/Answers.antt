@@ -1,7 +1,6 @@
 use Rattle.std.proofs.{Common.{◌≡◌, ◌∙◌, ◌+◌, ◌∷◌, [], List, Ok, Err, Vec, ℕ, ap, append-nil, arith, length, sym}, lemmas.List.length-map}
 use Rattle.std.specs.declared.alloc.Global.{Global}
-use Rattle.rlp_tool.specs.{declared.calls.StreamCall.StreamCall, Pieces.{piece_call, pieces_left}, Script.{calls_in, prepend}}
-use Rattle.rlp_tool.specs.StreamCalls.{call_of_bytes, calls_of_bytes}
+use Rattle.rlp_tool.specs.{declared.calls.StreamCall.StreamCall, Pieces.{piece_call, pieces_left}, Script.{calls_in, prepend}, StreamCalls.{call_of_bytes, calls_of_bytes}}
 use Rattle.rlp_tool.proofs.CutLemmas.{prepend-append, prepend-nil, read-next, read-stray}
 use Rattle.rlp_tool.proofs.script.read_calls.Goals as goal
 

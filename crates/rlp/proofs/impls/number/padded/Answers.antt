@@ -1,5 +1,4 @@
-use Rattle.std.proofs.Common.{◌≡◌, ℕ, ◌+◌, ◌≤◌, List, [], ◌++◌, take, drop, replicate, ap, ◌∙◌, arith, append-nil, length-drop}
-use Rattle.std.proofs.lemmas.List.{length-replicate, nil_from_length}
+use Rattle.std.proofs.{Common.{◌≡◌, ℕ, ◌+◌, ◌≤◌, List, [], ◌++◌, take, drop, replicate, ap, ◌∙◌, arith, append-nil, length-drop}, lemmas.List.{length-replicate, nil_from_length}}
 use Rattle.std.specs.Int.Digits.{number_from_digits}
 use borrow.Rule.Slice.PartMut.{post_of, put_mid}
 use Rattle.rlp_reading.proofs.Lemmas.StringsHeld.{zeros_in_front}

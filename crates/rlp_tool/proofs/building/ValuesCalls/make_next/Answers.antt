@@ -1,5 +1,4 @@
-use Rattle.std.proofs.Common.{◌∙◌, Bool, Ok, Err, ap, true}
-use Rattle.std.proofs.lemmas.Result.{err_from_is_err_and}
+use Rattle.std.proofs.{Common.{◌∙◌, Bool, Ok, Err, ap, true}, lemmas.Result.{err_from_is_err_and}}
 use Rattle.rlp_tool.specs.{StreamCalls.{call_of, calls_of}}
 use Rattle.rlp_tool.proofs.CallsLemmas.{fails_at, makes_finishes, makes_one, skip_none}
 use Rattle.rlp_tool.proofs.building.ValuesCalls.make_next.Goals as goal

@@ -1,5 +1,4 @@
-use Rattle.std.proofs.Common.{◌≡◌, Ok, sym, ◌∙◌, ap, arith}
-use Rattle.std.proofs.lemmas.Result.{err_from_is_err_and}
+use Rattle.std.proofs.{Common.{◌≡◌, Ok, sym, ◌∙◌, ap, arith}, lemmas.Result.{err_from_is_err_and}}
 use Rattle.rlp_reading.specs.{Format.Framing.{fault, framing, split, value}, Views.View.View}
 use Rattle.rlp_reading.proofs.Lemmas.Numbered.{not_framed_item, not_told_item, skipped-end, skipped-past}
 use Rattle.rlp.proofs.rlpin.rlp.Rlp.at_with_offset.Goals.{After-skip_items}
