@@ -1,4 +1,4 @@
-"""Runs `rt ci` in a clean clone of the tree, and writes what each of its parts took.
+"""Runs `rt ci --anew` in a clean clone of the tree, and writes what each of its parts took.
 
 usage: gate.py ROOT FILE
 
@@ -76,7 +76,7 @@ def main():
         clone = os.path.join(folder, "rlp")
         subprocess.run(["git", "clone", "--quiet", root, clone], check=True)
         with open(printed, "w", encoding="utf-8") as log:
-            run = subprocess.Popen(["rt", "ci"], cwd=clone, stdin=subprocess.DEVNULL, stdout=log, stderr=subprocess.STDOUT)
+            run = subprocess.Popen(["rt", "ci", "--anew"], cwd=clone, stdin=subprocess.DEVNULL, stdout=log, stderr=subprocess.STDOUT)
             parts, whole = watched(run)
     with open(printed, encoding="utf-8", errors="replace") as log:
         last = log.read().splitlines()[-1]

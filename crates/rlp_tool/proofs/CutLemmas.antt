@@ -13,6 +13,10 @@ use Rattle.rlp_lines.specs.Digits.{number_in, bytes_in, digits_of}
 use Rattle.rlp_tool.specs.{declared.script.Piece.Piece, Pieces.{IsRead, bytes_of, left_len, piece_call, pieces_left, spaces}}
 use Rattle.rlp_tool.specs.Script.{raw_call, raw_parts, call_in, calls_in, is_call, prepend}
 
+-- no such byte up to one place more
+pub no_more : (a : ℕ) (bytes : List ℕ) (n : ℕ) → ((k : ℕ) → k < n → get_or bytes k 0 ≢ a) → get_or bytes n 0 ≢ a → (k : ℕ) → k < n + 1 → get_or bytes k 0 ≢ a
+no_more a bytes n none other k lt = grind arith
+
 -- the first such byte that a loop finds
 pub first_near : (a : ℕ) (bytes : List ℕ) (at : ℕ) → at < length bytes → ((k : ℕ) → k < at → get_or bytes k 0 ≢ a) → get_or bytes at 0 ≡ a
     → Some at ≡ position (λ b. b == a) bytes

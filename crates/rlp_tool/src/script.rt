@@ -20,7 +20,8 @@ pub enum ScriptFault {
     OutOfMemory,
 }
 
-/// The number of bytes that are looked at one by one, which is faster than `memchr` for so few.
+/// The number of bytes that are looked at here, four in a turn, which is faster than `memchr` for so
+/// few.
 const NEAR: usize = 16;
 
 /// The place of the first such byte.
@@ -28,10 +29,21 @@ const NEAR: usize = 16;
 pub(crate) fn place_of(byte: u8, text: &[u8]) -> Option<usize>
     ensures { result ≡ position (λ b. b == byte) text.now }
 {
-    for at in 0..text.len().min(NEAR) {
+    let mut at = 0;
+    while at <= NEAR - 4 && text.len() >= NEAR {
         if text[at] == byte {
             return Some(at);
         }
+        if text[at + 1] == byte {
+            return Some(at + 1);
+        }
+        if text[at + 2] == byte {
+            return Some(at + 2);
+        }
+        if text[at + 3] == byte {
+            return Some(at + 3);
+        }
+        at += 4;
     }
     memchr(byte, text)
 }
