@@ -11,7 +11,7 @@ const LONGEST_SHORT: usize = 56;
 
 /// How many items must be left to skip for a look at four first bytes at once. For fewer items,
 /// whose kinds mostly differ, it costs more than it saves.
-const MANY: usize = 8;
+const MANY: usize = 9;
 
 /// The bytes after the first `count` items of these bytes.
 ///

@@ -1,7 +1,6 @@
 //! Byte strings, byte arrays, buffers and text: written as the string of their bytes.
 
-ghost use Rattle.std.specs.{Prelude.{◌≡◌, ◌⊎◌, Ok, Err, IfOk, IfErr}, String.string_bytes, Vec.vec_items};
-ghost use Rattle.rlp_reading.specs.{declared.error.DecoderError.TheVariants.OutOfMemory, Views.View.view_string};
+ghost use Rattle.std.specs.{String.string_bytes, Vec.vec_items};
 ghost use Rattle.rlp_reading.proofs.StringLaws.{array_scalar, bytes_scalar, text_scalar};
 ghost use Rattle.rlp.specs.Codec.{byte_array, byte_string, text};
 
@@ -15,24 +14,10 @@ use std::alloc::Global;
 impl Decodable for Vec<u8> {
     ghost reading = { (byte_string vec_items).reading };
 
-    #[inline(always)]
     fn decode(alloc: Global, rlp: &Rlp<'_>) -> Result<Vec<u8>, DecoderError> {
-        match rlp.short_string() {
-            Some(string) => Ok(Vec::from_slice(alloc, string)?),
-            None => read_bytes(alloc, rlp),
-        }
+        let string = rlp.decoder().string()?;
+        Ok(Vec::from_slice(alloc, string)?)
     }
-}
-
-/// The bytes of a string. It is out of line, since most strings are short.
-#[inline(never)]
-fn read_bytes(alloc: Global, rlp: &Rlp<'_>) -> Result<Vec<u8>, DecoderError>
-    ensures value { IfOk result (λ v. view_string rlp.now ≡ Ok v.items) }
-    ensures fault { IfErr result
-        (λ e. (view_string rlp.now ≡ Err e) ⊎ (e ≡ OutOfMemory)) }
-{
-    let bytes = rlp.decoder().string()?;
-    Ok(Vec::from_slice(alloc, bytes)?)
 }
 
 impl RoundTrip for Vec<u8> {

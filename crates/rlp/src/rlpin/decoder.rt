@@ -112,7 +112,10 @@ impl<'a> BasicDecoder<'a> {
         ensures held { MatchResult (view_string self.now) (λ d. HoldsString self.now d)
             (λ _. HoldsNoString self.now) }
     {
-        match self.rlp.short_string() {
+        if let Some(string) = self.rlp.known_string() {
+            return Ok(string);
+        }
+        match short_string(self.rlp.as_raw(), self.rlp.is_strict()) {
             Some(string) => Ok(string),
             None => self.string(),
         }

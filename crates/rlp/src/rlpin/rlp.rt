@@ -9,7 +9,7 @@ ghost use Rattle.rlp_reading.specs.Views.View.{begins_as_data, begins_as_empty, 
 ghost use Rattle.rlp_reading.specs.Form.{Faults, Gives, list_reading, reading_at};
 ghost use Rattle.rlp.specs.Left.{HasValueAfter};
 
-use crate::rlpin::decoder::{BasicDecoder, item_string, short_string};
+use crate::rlpin::decoder::{BasicDecoder, item_string};
 use crate::rlpin::fields::Fields;
 use crate::rlpin::iter::RlpIterator;
 use crate::traits::Decodable;
@@ -295,7 +295,6 @@ impl<'a> Rlp<'a> {
     }
 
     /// The value that the view begins with, read by [`Decodable::decode`] of its type.
-    #[inline(always)]
     pub fn as_val<T: Decodable>(&self, alloc: Global) -> Result<T, DecoderError>
         ensures value { IfOk result (λ x. Gives T.reading self.now x) }
         ensures fault { IfErr result (λ e. Faults T.reading self.now e
@@ -509,19 +508,6 @@ impl<'a> Rlp<'a> {
         ensures exact { IfSome result (λ d. view_string self.now ≡ Ok d.now) }
     {
         item_string(self.bytes, self.strict, self.known_content()?)
-    }
-
-    /// The string that the view begins with, if nothing is wrong with it, and it is its own encoding,
-    /// has a header of one byte, or is known to be an item. `None` says nothing about the bytes.
-    #[inline(always)]
-    pub(crate) fn short_string(&self) -> Option<&'a [u8]>
-        ensures held { IfSome result (λ d. HoldsString self.now d.now) }
-        ensures exact { IfSome result (λ d. view_string self.now ≡ Ok d.now) }
-    {
-        if let Some(string) = self.known_string() {
-            return Some(string);
-        }
-        short_string(self.bytes, self.strict)
     }
 
     /// The bytes that begin with the items of the view: the value of a framed list. For a list that
