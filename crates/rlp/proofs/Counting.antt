@@ -1,11 +1,9 @@
 -- What a struct gives, by the number of items that a view has.
-use Rattle.std.proofs.Common.{ap, refl, sym, ◌∙◌, ◌∷◌}
-use Rattle.std.proofs.{Common.{◌≡◌, ◌≢◌, ℕ, ◌-◌, true, false, List, [], length, None, Some, Ok, Err, arith}, lemmas.List.length-map}
+use Rattle.std.proofs.{Common.{ap, refl, sym, ◌∙◌, ◌∷◌, ◌≡◌, ◌≢◌, ℕ, ◌-◌, true, false, List, [], length, None, Some, Ok, Err, arith}, lemmas.List.length-map}
 use Rattle.std.specs.List.{slice_get}
-use Rattle.rlp_reading.specs.{declared.error.DecoderError.DecoderError, declared.error.DecoderError.TheVariants.RlpIncorrectListLen}
+use Rattle.rlp_reading.specs.{declared.error.DecoderError.DecoderError, declared.error.DecoderError.TheVariants.RlpIncorrectListLen, Laws.{TakePossible}}
 use Rattle.rlp_reading.specs.{Format.Framing.items, Views.View.{View, item_count, item_views}}
 use Rattle.rlp_reading.specs.Form.{Fault, Faults, FieldsReading, Gives, all_taken, fault_of, incorrect_list_len, items_of, struct_reading, and_then, take_all}
-use Rattle.rlp_reading.specs.Laws.{TakePossible}
 use Rattle.rlp_reading.proofs.{Lemmas.Numbered.{item_count-told, counted_told}, ListLaws.items_told, StructLaws.{other_number, struct_given, this_number}}
 use Rattle.rlp.specs.Left.{AreFaulty}
 

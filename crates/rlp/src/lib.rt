@@ -14,8 +14,7 @@
 
 ghost use Rattle.std.specs.{Prelude.{◌≡◌, IfOk, IfErr, IsOkAnd, IsTrue, ◌⊎◌, List, map, All}, Vec.vec_items};
 ghost use Rattle.rlp_format.specs.{Format.Encoding.{list_of, encoding}, Values.Value.AreAlike};
-ghost use Rattle.rlp_reading.specs.{declared.error.DecoderError.TheVariants.OutOfMemory, Views.View.{strict_view_of, view_of}};
-ghost use Rattle.rlp_reading.specs.Form.{Faults, Gives, list_reading};
+ghost use Rattle.rlp_reading.specs.{declared.error.DecoderError.TheVariants.OutOfMemory, Views.View.{strict_view_of, view_of}, Form.{Faults, Gives, list_reading}};
 
 mod impls;
 pub mod laws;

@@ -1,9 +1,8 @@
 //! Structs that are read as the list of their fields.
 
 ghost use Rattle.std.specs.{Prelude.{◌≡◌, ◌+◌, ◌⊎◌, ◌^◌, Ok, Err, Some, IfOk, IfErr, IsTrue, slice_get}, Vec.vec_items};
-ghost use Rattle.rlp_reading.specs.{declared.error.DecoderError.TheVariants.OutOfMemory, Values.FaultText.field_fault_text, Views.View.item_views};
+ghost use Rattle.rlp_reading.specs.{declared.error.DecoderError.TheVariants.OutOfMemory, Values.FaultText.field_fault_text, Views.View.item_views, Laws.{TakePossible}};
 ghost use Rattle.rlp_reading.specs.Form.{Faults, FieldsReading, Gives, fault_of, group_before, items_of, list_reading, no_fields, one_field, part_fields, struct_reading};
-ghost use Rattle.rlp_reading.specs.Laws.{TakePossible};
 ghost use Rattle.rlp_reading.proofs.FieldLaws.{end_possible, group_possible, one_wide, part_possible};
 ghost use Rattle.rlp.specs.Left.{AreFaulty};
 

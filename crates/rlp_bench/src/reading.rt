@@ -105,10 +105,12 @@ fn number_in(alloc: Global, bytes: &[u8]) -> Option<usize> {
     Some(decode::<u64>(alloc, bytes).ok()? as usize)
 }
 
+#[inline(always)]
 fn bytes_in(alloc: Global, bytes: &[u8]) -> Option<usize> {
     Some(decode::<Vec<u8>>(alloc, bytes).ok()?.len())
 }
 
+#[inline(always)]
 fn text_in(alloc: Global, bytes: &[u8]) -> Option<usize> {
     Some(decode::<String>(alloc, bytes).ok()?.len())
 }
@@ -126,6 +128,7 @@ pub(crate) fn by_iter(bytes: &[u8]) -> Option<usize> {
     Some(sum)
 }
 
+#[inline(never)]
 fn numbers_by_iter(alloc: Global, bytes: &[u8]) -> Option<usize> {
     let mut sum: usize = 0;
     for item in Rlp::new(bytes).iter() {

@@ -1,13 +1,13 @@
 -- Numbers and bytes as digits.
-use Rattle.std.proofs.Common.{◌≡◌, ◌≢◌, ℕ, ◌+◌, ◌*◌, ◌%◌, ◌^◌, ◌<◌, ◌≤◌, ◌&&◌, Bool, true, false, cond, nat_eq, nat_lt, IsTrue}
+use Rattle.std.proofs.{Common.{◌≡◌, ◌≢◌, ℕ, ◌+◌, ◌*◌, ◌%◌, ◌^◌, ◌<◌, ◌≤◌, ◌&&◌, Bool, true, false, cond, nat_eq, nat_lt, IsTrue}, lemmas.List.Folds.{list_all_at}}
 use Rattle.std.proofs.Common.{List, [], ◌∷◌, ◌++◌, length, take, drop, Option, Some, None, Result, Ok, Err, refl, subst, sym, ap, ◌∙◌, append_assoc}
-use Rattle.std.proofs.{Common.{arith, take-add, take-append-drop}, lemmas.Bool.Decides.nat_tests}
-use Rattle.std.proofs.{lemmas.List.Sums.{AllPass-from_list_all, list_all-from_AllPass}, lemmas.List.{append-nil, drop_all}}
-use Rattle.std.specs.{List.list_all, Char.{digit_value, is_ascii_digit}, Str.Parse.digits_value_after, Option.IsSomeAnd, Result.result_ok}
+use Rattle.std.proofs.{Common.{arith, take-add, take-append-drop, zero, suc, get_or, slice_index, slice_index_or, ◌/◌}, lemmas.Bool.Decides.nat_tests}
+use Rattle.std.specs.{Simd.{first_chunks}, List.list_all, Char.{digit_value, is_ascii_digit}, Str.Parse.digits_value_after, Option.IsSomeAnd, Result.result_ok}
+use Rattle.std.proofs.{lemmas.List.Sums.{AllPass-from_list_all, list_all-from_AllPass}, lemmas.List.{append-nil, drop-drop, drop_all}}
 use Rattle.rlp_format.proofs.HexDigits.{digits_append}
 use Rattle.hex.specs.Hex.{encode_with, encode_lower, decode_of, decode_pairs, digit_or_error, hex_digit_value, is_hex_digit, pair_value}
 use Rattle.hex.specs.declared.error.FromHexError.{FromHexError}
-use Rattle.hex.proofs.{Pairs.prepend, HexLemmas.{decode_of-ok, decode_of-digits, decode_of-odd}}
+use Rattle.hex.proofs.{Pairs.{drop-pair, prepend}, HexLemmas.{decode_of-ok, decode_of-digits, decode_of-odd}}
 use Rattle.rlp_lines.specs.Digits.{with_digit}
 
 -- the number that digits write when they follow those of n
@@ -54,6 +54,23 @@ small_digit n c m e = small (is_ascii_digit c) (nat_lt (n * 10 + digit_value c) 
 -- the byte of two digits
 pub pair_read : (high low x y i : ℕ) → hex_digit_value high ≡ Some x → hex_digit_value low ≡ Some y → pair_value high low i ≡ Ok (x * 16 + y)
 pair_read high low x y i h l = rw (ap (digit_or_error high i) h, ap (digit_or_error low (i + 1)) l) refl
+
+-- the digits in a place, as a pair
+pair_of : (k i : ℕ) (xs : List ℕ) → i < k → get_or (first_chunks 2 k xs) i [] ≡ take 2 (drop (2 * i) xs)
+pair_of zero i xs lt = absurd (omega (arith, lt))
+pair_of (suc k) zero xs lt = refl
+pair_of (suc k) (suc i) xs lt =
+    let next : 2 + 2 * i ≡ 2 * suc i = omega arith in
+    pair_of k i (drop 2 xs) (omega (arith, lt)) ∙ ap (take 2) (drop-drop (2 * i) 2 xs ∙ ap (λ (n : ℕ). drop n xs) next)
+
+pub pair_at : (digits : List ℕ) (pairs : List (List ℕ)) (i : ℕ) → pairs ≡ first_chunks 2 (length digits / 2) digits → i < length digits / 2
+    → slice_index_or pairs i [] ≡ slice_index digits (2 * i) ∷ slice_index digits (2 * i + 1) ∷ []
+pair_at digits pairs i is lt = ap (λ p. get_or p i []) is ∙ pair_of (length digits / 2) i digits lt ∙ ap (take 2) (drop-pair digits i (omega arith))
+
+-- both digits in a place are digits
+pub both_digits : (digits : List ℕ) (i : ℕ) → i < length digits / 2 → IsTrue (list_all is_hex_digit digits)
+    → IsTrue (list_all is_hex_digit (slice_index digits (2 * i) ∷ slice_index digits (2 * i + 1) ∷ []))
+both_digits digits i lt all = grind (arith, list_all_at)
 
 -- all pairs of digits are decoded
 pub decoded : (digits out : List ℕ) (i n : ℕ) → length digits ≤ 2 * i → i ≡ n

@@ -9,9 +9,8 @@ use Rattle.rlp_lines.specs.{Run.{AppendsBefore, AppendsPart, AreRepliesBefore, R
 use Rattle.rlp_lines.specs.{declared.line.Line.Line, declared.serving.RunFault.RunFault, declared.serving.RunFault.TheVariants.Write}
 use Rattle.rlp_lines.specs.Lines.{lines, ended_lines, last_piece, line_of_last, unended_line}
 use Rattle.rlp_lines.specs.{Replies.{has_fault, is_fault, reply, replies_to, replies}, Progress.{IsOnePiece, IsLine, IsAfter, IsServed, IsStop}}
-use Rattle.rlp_lines.proofs.LinesLemmas.{ended_lines-run, last_piece-run, ended_lines-line, last_piece-line, one_piece-take, one_piece-whole}
+use Rattle.rlp_lines.proofs.{LinesLemmas.{ended_lines-run, last_piece-run, ended_lines-line, last_piece-line, one_piece-take, one_piece-whole, last_piece-nil}}
 use Rattle.rlp_lines.proofs.LinesLemmas.{is_newline, take-lines, length-ended_lines-append, length-lines-more, length-lines-begun, ended_lines-nil}
-use Rattle.rlp_lines.proofs.LinesLemmas.{last_piece-nil}
 
 -- all of some bytes but a rest was written
 pub record IsWriting (start now : Option (List ℕ)) (bytes rest : List ℕ) : Type 0 where
@@ -104,6 +103,18 @@ module _ (longest : ℕ) (answer : List ℕ → List ℕ) where
       → IsAfter longest answer (text ++ run ++ 10 ∷ []) written waiting' line'
   IsAfter-line {text} {written} {waiting} {line' = line'} run before one said kept told =
       grind (arith, append_assoc, replies_to-one, replies_to-append, ended_lines-line, last_piece-line, or-false, list_any-append)
+
+  -- the same, where nothing came of the line before, and its bytes aren't kept
+  pub IsAfter-whole : {E : Type 0} (result : Result (Unit {0}) E) (waiting' : List ℕ) (line' : Line) {text written waiting : List ℕ} {line : Line} (run : List ℕ)
+      → IsAfter longest answer text written waiting line → IsOnePiece run → last_piece text ≡ [] → OnOk result (waiting' ≡ waiting ++ reply answer run)
+      → OnOk result (line'.faulty ≡ (line.faulty || is_fault answer run)) → (line'.bytes ≡ line.bytes) × (line'.over ≡ line.over)
+      → OnOk result (IsAfter longest answer (text ++ run ++ 10 ∷ []) written waiting' line')
+  IsAfter-whole (Err error) waiting' line' run before one none said told kept = tt
+  IsAfter-whole (Ok unit) waiting' line' {text} {waiting = waiting} {line = line} run before one none said told kept =
+      let same : run ≡ last_piece text ++ run = ap (λ b. b ++ run) (sym none) in
+      let begun : IsLine longest line [] = subst (IsLine longest line) none before.begun in
+      IsAfter-line run before one (subst (λ l. waiting' ≡ waiting ++ reply answer l) same said) (grind arith)
+      (subst (λ l. line'.faulty ≡ (line.faulty || is_fault answer l)) same told)
 
   -- all of some bytes but a rest came after any text
   pub record IsFeeding (waiting : List ℕ) (line : Line) (waiting' : List ℕ) (line' : Line) (bytes rest : List ℕ) : Type 0 where

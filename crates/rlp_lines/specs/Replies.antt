@@ -1,6 +1,5 @@
 -- What is written for the lines of a text, by the answer to each line.
-use Rattle.std.specs.Prelude.{ℕ, Bool, nat_eq, nat_lt, ◌||◌, if◌then◌else◌, List, [], ◌∷◌, ◌++◌, length, codes}
-use Rattle.std.specs.List.{flat_map, list_any, starts_with}
+use Rattle.std.specs.{Prelude.{ℕ, Bool, nat_eq, nat_lt, ◌||◌, if◌then◌else◌, List, [], ◌∷◌, ◌++◌, length, codes}, List.{flat_map, list_any, starts_with}}
 use Rattle.rlp_lines.specs.Lines.{lines}
 
 -- the answer to any line, by the greatest length of a line without its newline, the answer to a longer line, and the answer to any other line

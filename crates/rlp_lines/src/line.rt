@@ -1,5 +1,5 @@
 //! The current line of the input.
-ghost use Rattle.std.specs.Prelude.{◌≡◌, ◌++◌, ◌≢◌, ◌==◌, ℕ, List, [], ◌∷◌, length, position, string_bytes, OnOk, OnErr, IsTrue, ◌↔◌, ◌||◌, false};
+ghost use Rattle.std.specs.Prelude.{◌≡◌, ◌≤◌, ◌++◌, ◌≢◌, ◌==◌, ℕ, List, [], ◌∷◌, length, position, string_bytes, OnOk, OnErr, IsTrue, ◌↔◌, ◌||◌, false};
 ghost use Rattle.std.specs.Str.Lines.{strip_carriage_return};
 ghost use Rattle.rlp_lines.specs.{Replies.{answer_by, has_fault, is_fault, reply, replies_to, says_fault}, Lines.{last_piece, unended_line}};
 ghost use Rattle.rlp_lines.specs.{Progress.{IsOnePiece, IsLine, IsAfter}, Run.AreRepliesBefore};
@@ -79,9 +79,43 @@ impl Line {
         ensures refused { OnErr result (string_bytes out.new ≡ string_bytes out.old) }
     {
         self.put_answer(alloc, answers)?;
+        self.put_reply(out)
+    }
+
+    /// Appends what is in the buffer for replies and a newline, or nothing. Notes a fault.
+    fn put_reply(&mut self, out: &mut String) -> Result<(), AllocError>
+        ensures ok { OnOk result
+            (string_bytes out.new ≡ string_bytes out.old ++ (string_bytes self.old.reply ++ 10 ∷ [])) }
+        ensures noted { OnOk result
+            (self.new.faulty ≡ (self.old.faulty || says_fault (string_bytes self.old.reply))) }
+        ensures kept { (self.new.bytes ≡ self.old.bytes) × (self.new.over ≡ self.old.over) }
+        ensures refused { OnErr result (string_bytes out.new ≡ string_bytes out.old) }
+    {
         self.faulty |= says_fault(self.reply.as_str());
         self.reply.push('\n')?;
         out.push_str(self.reply.as_str())
+    }
+
+    /// Appends the reply to a whole line, which isn't kept before. No line may have begun.
+    #[tactic(auto, unfolding(crate::specs::Replies::answer_by))]
+    fn reply_to<A: LineAnswers>(
+        &mut self,
+        alloc: Global,
+        answers: &A,
+        line: &[u8],
+        out: &mut String,
+    ) -> Result<(), AllocError>
+        requires { length line.now ≤ A.longest }
+        ensures ok { OnOk result (string_bytes out.new ≡ string_bytes out.old
+            ++ reply (answer_by A.longest (A.long_line answers.now) (A.answer_within answers.now)) line.now) }
+        ensures noted { OnOk result (self.new.faulty ≡ (self.old.faulty
+            || is_fault (answer_by A.longest (A.long_line answers.now) (A.answer_within answers.now)) line.now)) }
+        ensures kept { (self.new.bytes ≡ self.old.bytes) × (self.new.over ≡ self.old.over) }
+        ensures refused { OnErr result (string_bytes out.new ≡ string_bytes out.old) }
+    {
+        self.reply.clear();
+        answers.put_answer(alloc, line, &mut self.reply)?;
+        self.put_reply(out)
     }
 
     /// Whether a line before the current one was at fault.
@@ -106,7 +140,8 @@ impl Line {
         self.over = false;
     }
 
-    /// Adds the last bytes of the line, and appends the reply.
+    /// Adds the last bytes of the line, and appends the reply. A line that begins with these bytes isn't
+    /// copied.
     fn end<A: LineAnswers>(
         &mut self,
         alloc: Global,
@@ -123,6 +158,9 @@ impl Line {
             self.new) }
         ensures refused { OnErr result (string_bytes out.new ≡ string_bytes out.old) }
     {
+        if self.is_empty() && run.len() <= A::longest() {
+            return self.reply_to(alloc, answers, run, out);
+        }
         self.extend::<A>(run)?;
         self.reply(alloc, answers, out)?;
         self.clear();

@@ -1,8 +1,6 @@
 //! The loop over the input.
-ghost use Rattle.std.specs.Prelude.{◌≡◌, ◌-◌, ◌^◌, ◌++◌, ◌<◌, ◌⊎◌, ℕ, List, OnOk, OnErr, IfErr, IfOk, Option, string_bytes, true, false};
-ghost use Rattle.std.specs.Io.KnownBytes.{Appends};
-ghost use Rattle.rlp_lines.specs.{Lines.lines, Replies.{answer_by, has_fault, replies}, Progress.{IsServed, IsStop}};
-ghost use Rattle.rlp_lines.specs.Run.{AppendsPart, RunLeaves, TellsFault, TextLeaves};
+ghost use Rattle.std.specs.{Prelude.{◌≡◌, ◌-◌, ◌^◌, ◌++◌, ◌<◌, ◌⊎◌, ℕ, List, OnOk, OnErr, IfErr, IfOk, Option, string_bytes, true, false}, Io.KnownBytes.{Appends}};
+ghost use Rattle.rlp_lines.specs.{Lines.lines, Replies.{answer_by, has_fault, replies}, Progress.{IsServed, IsStop}, Run.{AppendsPart, RunLeaves, TellsFault, TextLeaves}};
 
 use crate::answering::LineAnswers;
 use crate::line::Line;

@@ -3,9 +3,8 @@ use Rattle.std.proofs.Common.{ℕ, ⊎_elim, ◌++◌, ◌+◌, ◌-◌, ◌<◌
 use Rattle.std.proofs.{lemmas.Bool.{cond-false, cond-true}, lemmas.List.Elements.{All-from_recursion, recursion_from_All}}
 use Rattle.rlp_format.proofs.{Lemmas.Digits.{big_endian_same}, Lemmas.Encodings.{front_sized}, Lemmas.Lists.{same_front}}
 use Rattle.rlp_reading.proofs.Lemmas.Items.{prefix_free}
-use Rattle.rlp.specs.{DecoderError.DecoderError, DecoderError.TheVariants.OutOfMemory, Form.{Gives, and_then, custom, fault_of, number}}
+use Rattle.rlp.specs.{DecoderError.DecoderError, DecoderError.TheVariants.OutOfMemory, Form.{Gives, and_then, custom, fault_of, number}, Views.View.{View, view_of}}
 use Rattle.rlp.specs.{Format.Encoding.{AreBytes, BeginsWith, IsSized, big_endian, encoding}, Values.RawItem.view_frame, Values.Value.{FitsBytes, number_item}}
-use Rattle.rlp.specs.Views.View.{View, view_of}
 use Rattle.rlp_reading.proofs.{FieldLaws.{ok_same}, Lemmas.Reading.{Bytes, back_bytes}, ListLaws.{goes_on}, RawLaws.{view_frame-held}, StringLaws.{number_lawful, number_scalar}}
 use Rattle.rlp_messages.specs.Message.{Fits, Table, after_id, bytes_of, item_of, message_of, number_of, numbered_of, read_of, seen_of, unknown_message}
 

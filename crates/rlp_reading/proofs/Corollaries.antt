@@ -1,8 +1,7 @@
 -- What follows from the laws, in the words of `Gives` and `Faults`.
-use Rattle.std.proofs.Common.{Bool, ◌≡◌, ◌↔◌, ◌⊎◌, ℕ, ◌^◌, ◌<◌, true, false, List, [], ◌∷◌, ◌++◌, length, map, sym, ap, ◌∙◌, subst}
+use Rattle.std.proofs.{Common.{Bool, ◌≡◌, ◌↔◌, ◌⊎◌, ℕ, ◌^◌, ◌<◌, true, false, List, [], ◌∷◌, ◌++◌, length, map, sym, ap, ◌∙◌, subst, arith}}
 use Rattle.std.proofs.{Common.{Result, Ok, Err, IfOk, IfErr, IsOkAnd, append-nil}, lemmas.List.{length-map, map-append}}
 use Rattle.std.specs.{List.All}
-use Rattle.std.proofs.Common.{arith}
 use Rattle.rlp_reading.specs.{declared.error.DecoderError.DecoderError, declared.error.DecoderError.TheVariants.OutOfMemory}
 use Rattle.rlp_reading.specs.{Values.RoundTrip.{AlwaysReadsBack, AlwaysReadsStrictly}, Values.ValueReading.GivesValue, Views.View.{Holds, View, item_at, strict_view_of, view_of}}
 use Rattle.rlp_reading.specs.Form.{Form, Faults, Gives, Reading, and_then, fault_of, list_reading, reading_at, seen_fault}

@@ -1,13 +1,11 @@
 -- FieldsForm are read back, and strictly from nothing else.
-use Rattle.std.proofs.Common.{Bool, IfOk, IfSome, List, None, Ok, Option, Result, Some, [], ap, append_assoc, arith, false, leb}
+use Rattle.std.proofs.{Common.{Bool, IfOk, IfSome, List, None, Ok, Option, Result, Some, [], ap, append_assoc, arith, false, leb}, Common.get_or, lemmas.List.map-append}
 use Rattle.std.proofs.Common.{length, length-append, option_map, refl, subst, suc, sym, true, zero, ℕ, ◌&&◌, ◌+◌, ◌++◌, ◌-◌, ◌==◌, ◌||◌, ◌∙◌, ◌∷◌, ◌≡◌, map}
-use Rattle.std.proofs.{Common.get_or, lemmas.List.map-append}
 use Rattle.std.specs.List.{AllByRecursion}
 use Rattle.rlp_format.specs.{Format.Encoding.{IsSized, encoding, Item}, Values.Value.items_if}
 use Rattle.rlp_reading.specs.{Views.View.{View}, Form.{Answer, Form, Fault, FieldsForm, FieldsReading, Reading, Taken, and_then, each, end, field, group, group_before}}
-use Rattle.rlp_reading.specs.Form.{map_value, no_fields, one, one_field, optional, optional_fields, optional_group, part_fields, take_both}
+use Rattle.rlp_reading.specs.{Form.{map_value, no_fields, one, one_field, optional, optional_fields, optional_group, part_fields, take_both}, Laws.{viewed, views_of}}
 use Rattle.rlp_reading.specs.{Form.{take_if, take_item}, Laws.{AreLawful, AreSeen, IsLawful, IsSeen, IsStrictPart, ReadsBack, TakePossible, TakeWidth, TakesBack, TakesOnly}}
-use Rattle.rlp_reading.specs.Laws.{viewed, views_of}
 use Rattle.rlp_reading.proofs.ListLaws.{is_mapped, item_back, item_only}
 use Rattle.std.proofs.{Math.Seq.{get_or-append_seam}, lemmas.Grind.{common_steps}, lemmas.Bool.Decides.{nat_tests}}
 

@@ -1,9 +1,8 @@
 -- Groups of fields at the end of a struct.
 use Rattle.std.proofs.Common.{◌≡◌, ℕ, ◌+◌, ◌*◌, ◌%◌, ◌<◌, List, [], ◌∷◌, ◌++◌, length, sym, ap, ◌∙◌, arith, length-append, Bool, Err, IfOk, Ok, Result}
-use Rattle.std.proofs.Common.{append-nil, append_assoc, eq-eqb, false, map, refl, subst, suc, true, zero, ◌==◌, ◌^◌, ◌≤◌}
+use Rattle.std.proofs.{Common.{append-nil, append_assoc, eq-eqb, false, map, refl, subst, suc, true, zero, ◌==◌, ◌^◌, ◌≤◌}, lemmas.Grind.{common_steps}}
 use Rattle.std.proofs.{Math.Nat.{mod-eq_of_lt, suc-mul}, lemmas.List.{length-map, map-append}, lemmas.List.Elements.{All-from_recursion, recursion_from_All}}
 use Rattle.std.specs.List.{AllByRecursion}
-use Rattle.std.proofs.lemmas.Grind.{common_steps}
 use Rattle.rlp_format.specs.{Format.Encoding.{Item, IsSized, encoding}, Values.Value.all_items}
 use Rattle.rlp_reading.specs.{Views.View.{View}, Form.{Answer, Fault, FieldsForm, FieldsReading, Path, Taken, go_on, group_fields, groups, map_taken, map_value}}
 use Rattle.rlp_reading.specs.{Form.{most_groups, take_each}, Laws.{AreLawful, AreSeen, IsStrictPart, TakePossible, TakeWidth, TakesBack, TakesOnly, viewed, views_of}}

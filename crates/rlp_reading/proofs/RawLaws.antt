@@ -3,17 +3,14 @@ use Rattle.std.proofs.Common.{if◌then◌else◌, ◌≡◌, ◌≤◌, ◌<◌
 use Rattle.std.proofs.Common.{append-nil, Result, Ok, Err, ◌↔◌, ltb, take, drop, codes, length-append, take_all, take-append-drop, le-ltb}
 use Rattle.std.proofs.{Common.{lt-ltb, Option, Some, None}, lemmas.Bool.{cond-true, cond-false}, lemmas.Slice.Eq.bytes_eq-Decides}
 use Rattle.std.proofs.lemmas.List.Elements.{All-from_recursion, recursion_from_All}
-use Rattle.rlp_format.specs.Format.Encoding.{Item, is_list, string, list, items_from, item_depth, items_depth}
-use Rattle.rlp_format.specs.Format.Encoding.{BeginsWith, encoding, IsSized, AreBytes}
+use Rattle.rlp_format.specs.{Format.Encoding.{Item, is_list, string, list, items_from, item_depth, items_depth, BeginsWith, encoding, IsSized, AreBytes}}
 use Rattle.rlp_format.proofs.Lemmas.Encodings.{front_sized}
 use Rattle.rlp_reading.specs.{declared.error.DecoderError.DecoderError, Format.Framing.{frame, begins_as_list, items, IsCanonicalWithin, unless, read_string, strict_fault}}
-use Rattle.rlp_reading.specs.Views.View.{View, Holds, HoldsItem, strict_view_of, view_string}
+use Rattle.rlp_reading.specs.{Views.View.{View, Holds, HoldsItem, strict_view_of, view_string}, Laws.{GivesOnly, IsLawful, ReadsBack, viewed}, FirstItems.item_type, Form.here}
 use Rattle.rlp_reading.specs.Values.RawItem.{IsRawItem, deepest_raw_item, item_by, item_within, raw_item_of, view_frame}
 use Rattle.rlp_reading.specs.{Views.Depth.depth, Form.{and_then, custom, raw_item, raw_of, seen_fault, Answer, Fault}}
-use Rattle.rlp_reading.specs.{Laws.{GivesOnly, IsLawful, ReadsBack, viewed}, FirstItems.item_type}
 use Rattle.rlp_reading.proofs.{Lemmas.Frames.encoding_framed, Lemmas.Items.item_within-encoding, Lemmas.Views.{strict_fault-encoding}, Lemmas.Texts.{depth_of_item}}
 use Rattle.rlp_reading.proofs.{Lemmas.StringsHeld.{held_begins, held_read}, Lemmas.Reading.front_bytes, ListLaws.held_sized, Lemmas.Views.front_kind}
-use Rattle.rlp_reading.specs.{Form.here}
 
 shallow_all : (inside : List ℕ → Item) (most : ℕ) → ((f : List ℕ) → item_depth (inside f) ≤ most) → (fs : List (List ℕ))
     → items_depth (items_from (map inside fs)) ≤ most

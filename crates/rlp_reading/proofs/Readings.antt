@@ -1,12 +1,11 @@
 -- Each view gives one value or has one fault.
 use Rattle.std.proofs.Common.{◌≡◌, ℕ, zero, suc, ◌^◌, ◌<◌, ◌⊎◌, inl, inr, List, [], ◌∷◌, Bool, length, map, refl, sym, ap, ◌∙◌, Option, Some, None, option_map, Result, Ok, Err}
 use Rattle.rlp_format.specs.{Format.Encoding.{Item, AreBytes}, Values.Value.option_item}
-use Rattle.rlp_reading.specs.declared.error.DecoderError.{DecoderError}
+use Rattle.rlp_reading.specs.{declared.error.DecoderError.{DecoderError}, Values.ValueReading.{HasOneReading, IsSameFault}, Views.View.{View, item_at, item_count, item_views}}
 use Rattle.rlp_reading.specs.declared.error.DecoderError.TheVariants.{RlpIsTooBig, RlpIsTooShort, RlpExpectedToBeList, RlpExpectedToBeData}
 use Rattle.rlp_reading.specs.declared.error.DecoderError.TheVariants.{RlpIncorrectListLen, RlpDataLenWithZeroPrefix, RlpListLenWithZeroPrefix}
 use Rattle.rlp_reading.specs.declared.error.DecoderError.TheVariants.{RlpInvalidIndirection, RlpInconsistentLengthAndData, RlpInvalidLength, Custom}
 use Rattle.rlp_reading.specs.{declared.error.DecoderError.TheVariants.OutOfMemory, Format.Framing.items, Values.StructReading.HoldsOrHasOneFault}
-use Rattle.rlp_reading.specs.{Values.ValueReading.{HasOneReading, IsSameFault}, Views.View.{View, item_at, item_count, item_views}}
 use Rattle.rlp_reading.specs.Form.{Fault, Faults, Form, Gives, Reading, and_then, custom, data_len_with_zero, expected_data, expected_list, fault_of}
 use Rattle.rlp_reading.specs.Form.{inconsistent_len, incorrect_list_len, invalid_indirection, invalid_len, is_too_big, is_too_short, items_of, list_len_with_zero}
 use Rattle.rlp_reading.specs.Form.{map_value, option_reading, out_of_memory, read_option, reading_at, seen_fault}

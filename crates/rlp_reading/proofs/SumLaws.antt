@@ -7,9 +7,8 @@ use Rattle.rlp_reading.specs.Sums.{CasesForm, Unless, and_case, envelope, envelo
 use Rattle.rlp_reading.specs.Laws.{CasesAreLawful, ReadsBack, GivesOnly, IsLawful, IsStrictPart, viewed, views_of}
 use Rattle.rlp_format.specs.{Format.Encoding.{Item, is_list, AreBytes, encoding}, Values.Value.{FitsBytes, number_item}}
 use Rattle.rlp_reading.proofs.ListLaws.{goes_on, held_itself, item_back, item_only, items_held, items_only, items_sized, same_written}
-use Rattle.rlp_reading.proofs.StringLaws.{ReadsStrings, number_lawful, string_lawful}
+use Rattle.rlp_reading.proofs.{StringLaws.{ReadsStrings, number_lawful, string_lawful}, Lemmas.Views.front_kind, Lemmas.StringsHeld.held_begins, ListLaws.held_sized}
 use Rattle.std.specs.List.{AllByRecursion}
-use Rattle.rlp_reading.proofs.{Lemmas.Views.front_kind, Lemmas.StringsHeld.held_begins, ListLaws.held_sized}
 
 -- ---- lists and strings
 

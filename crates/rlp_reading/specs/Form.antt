@@ -3,11 +3,10 @@ use Rattle.std.specs.Prelude.{◌≡◌, ⊤, ℕ, zero, suc, ◌+◌, ◌-◌, 
 use Rattle.std.specs.{Prelude.{List, [], ◌∷◌, ◌++◌, length, map, codes, Option, Some, None, option_map, Result, Ok, Err}, Str.{bytes_eq, is_utf8}, Int.Digits.{number_from_digits}}
 use Rattle.rlp_format.specs.{declared.uint.Uint.Uint, Format.Encoding.{Item, string, list_of, big_endian, encoding}}
 use Rattle.rlp_format.specs.Values.Value.{FitsBytes, all_items, bit, items_if, option_item}
-use Rattle.rlp_reading.specs.declared.error.DecoderError.{DecoderError}
+use Rattle.rlp_reading.specs.{declared.error.DecoderError.{DecoderError}, declared.error.DecoderError.TheVariants.OutOfMemory, Views.Depth.depth}
 use Rattle.rlp_reading.specs.declared.error.DecoderError.TheVariants.{RlpIsTooBig, RlpIsTooShort, RlpExpectedToBeList, RlpExpectedToBeData}
 use Rattle.rlp_reading.specs.declared.error.DecoderError.TheVariants.{RlpIncorrectListLen, RlpDataLenWithZeroPrefix, RlpListLenWithZeroPrefix}
 use Rattle.rlp_reading.specs.declared.error.DecoderError.TheVariants.{RlpInvalidIndirection, RlpInconsistentLengthAndData, RlpInvalidLength, Custom}
-use Rattle.rlp_reading.specs.{declared.error.DecoderError.TheVariants.OutOfMemory, Views.Depth.depth}
 use Rattle.rlp_reading.specs.{Views.View.{View, item_at, item_count, item_views, view_string}, Values.RawItem.{deepest_raw_item, raw_item_of, view_frame}}
 
 -- ---- faults and answers

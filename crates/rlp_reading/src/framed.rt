@@ -1,6 +1,6 @@
 //! The first item of bytes. Its header is read once.
 
-ghost use Rattle.std.specs.Prelude.{◌≡◌, ◌↔◌, ◌+◌, ◌∷◌, ◌++◌, ◌<◌, ◌≤◌, [], drop, length, Ok, Err, None, Some, IsTrue, IfOk, IfSome, MatchResult};
+ghost use Rattle.std.specs.Prelude.{◌≡◌, ◌↔◌, ◌+◌, ◌∷◌, ◌++◌, ◌<◌, ◌≤◌, [], drop, length, false, Ok, Err, None, Some, IsTrue, IfOk, IfSome, MatchResult};
 ghost use Rattle.rlp_reading.specs.Format.Framing.{HasHeader, IsFramedItem, fault, frame, framing, total_len, value, begins_as_list, split, is_followed, strict_fault};
 
 use crate::error::DecoderError;
@@ -81,6 +81,7 @@ pub fn first_framed<'a>(bytes: &'a [u8]) -> Result<(Framed<'a>, &'a [u8]), Decod
 #[inline(always)]
 #[tactic(auto, using(rlp_format::proofs::Lemmas::Digits::bytes_held, crate::proofs::Lemmas::Frames::split_short))]
 pub(crate) fn short_framed<'a>(bytes: &'a [u8]) -> Option<(&'a [u8], &'a [u8])>
+    ensures string { IfSome result (λ r. begins_as_list r.0.now ≡ false) }
     ensures parts { IfSome result (λ r. split bytes.now ≡ r.0.now ∷ split r.1.now) }
     ensures whole { IfSome result (λ r. bytes.now ≡ r.0.now ++ r.1.now) }
     ensures shorter { IfSome result (λ r. length r.1.now < length bytes.now) }

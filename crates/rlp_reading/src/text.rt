@@ -2,8 +2,7 @@
 
 ghost use Rattle.std.specs.{Prelude.{◌∷◌, ◌++◌, [], codes, if◌then◌else◌}, Fmt.WritesStyledOnOk};
 ghost use Rattle.hex.specs.Hex.{encode_lower};
-ghost use Rattle.rlp_reading.specs.Views.Buffered.{PutsOnOk};
-ghost use Rattle.rlp_reading.specs.Views.Text.{text};
+ghost use Rattle.rlp_reading.specs.{Views.Buffered.{PutsOnOk}, Views.Text.{text}};
 
 mod buffer;
 

@@ -2,8 +2,7 @@
 
 ghost use Rattle.std.specs.Prelude.{◌≡◌, ◌↔◌, ◌≤◌, ◌<◌, ◌+◌, ◌^◌, [], ◌∷◌, length, false, Ok, None, Some, IsTrue, IfOk, IfErr, MatchResult};
 ghost use Rattle.rlp_reading.specs.{Format.Flat.IsFlat, Format.Framing.{IsFramedItem, framing, begins_as_list, IsCanonicalWithin}};
-ghost use Rattle.rlp_reading.specs.Format.TreeFaults.{IsFlatFault, is_needless, needless_fault, tree_fault, walk_fault};
-ghost use Rattle.rlp_reading.specs.Format.Walk.{Extends, IsNeverCanonical, IsWalked};
+ghost use Rattle.rlp_reading.specs.{Format.TreeFaults.{IsFlatFault, is_needless, needless_fault, tree_fault, walk_fault}, Format.Walk.{Extends, IsNeverCanonical, IsWalked}};
 
 use crate::error::DecoderError;
 use crate::flat::{FlatItem, FlatRow, TreeFault};

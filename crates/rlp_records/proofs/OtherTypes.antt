@@ -1,6 +1,5 @@
 -- Values of every type by themselves, also of the types that aren't known: the bytes of a value are read back, and no other bytes are read.
-use Rattle.std.proofs.Common.{◌≡◌, ℕ, ◌^◌, ◌<◌, ◌⊎◌, inl, inr, Bool, true, false, IsTrue, List, [], ◌∷◌, length, refl, subst}
-use Rattle.std.proofs.{Common.{Result, Ok, arith}, lemmas.Bool.Decides.nat_tests}
+use Rattle.std.proofs.{Common.{◌≡◌, ℕ, ◌^◌, ◌<◌, ◌⊎◌, inl, inr, Bool, true, false, IsTrue, List, [], ◌∷◌, length, refl, subst, Result, Ok, arith}, lemmas.Bool.Decides.nat_tests}
 use Rattle.rlp.specs.{Format.Encoding.{AreBytes, Item, is_list, string}, Format.Framing.begins_as_list, Values.Sums.{OnSum, sum_item}}
 use Rattle.rlp_reading.specs.{Form.{Answer, Fault}, Sums.{CasesForm, envelope, sum_map}}
 use Rattle.rlp_reading.proofs.{StringLaws.ReadsStrings, SumLaws.sums_fit}

@@ -1,7 +1,6 @@
 -- The scan of the encoding of an item for envelopes, header by header.
-use Rattle.std.proofs.Common.{◌≡◌, ℕ, ◌+◌, ◌-◌, ◌^◌, ◌<◌, ◌≤◌, ⊎_elim, true, false, List, [], ◌∷◌, ◌++◌, length, take, drop, get_or}
+use Rattle.std.proofs.{Common.{◌≡◌, ℕ, ◌+◌, ◌-◌, ◌^◌, ◌<◌, ◌≤◌, ⊎_elim, true, false, List, [], ◌∷◌, ◌++◌, length, take, drop, get_or}, lemmas.Bool.{cond-false}}
 use Rattle.std.proofs.Common.{refl, sym, ap, ◌∙◌, subst, arith, length-append, append_assoc, append-nil, take_at, drop_at, zero-add, Some, None, Ok, Err}
-use Rattle.std.proofs.lemmas.Bool.{cond-false}
 use Rattle.rlp.specs.{DecoderError.DecoderError, FlatItem.FlatItem, PayloadInfo.PayloadInfo}
 use Rattle.rlp.specs.Format.Encoding.{Item, Items, item_and, list, listed, no_items, string, IsSized, encoding, join, join_items, written_header}
 use Rattle.rlp.specs.Format.Framing.{IsFramedItem, frame, framing, total_len, value, HasHeader, lone, payload_info, written, begins_as_list}

@@ -2,9 +2,8 @@
 use Rattle.std.proofs.Common.{◌≡◌, ℕ, zero, suc, ◌+◌, ◌-◌, ◌*◌, ◌/◌, ◌%◌, ◌<◌, ◌≤◌, List, [], ◌∷◌, ◌++◌, length, drop, take, replicate, set, slice_index, get_or, refl, ap, sym, ◌∙◌, arith, add-one, length-append, length-drop, bit_xor}
 use Rattle.std.proofs.lemmas.List.{append_assoc, get_or_append_left, get_or-append_right, get_or-replicate, length-replicate, replicate_more, set_at, take_all, take-append-le, drop-append-le}
 use Rattle.std.specs.Int.Bits.{xor_zero_r}
-use Rattle.rlp_records.specs.Complements.{complement, masked}
+use Rattle.rlp_records.specs.{Complements.{complement, masked}, Keccak.{absorb, absorbed, bytes_of_lanes, keccak256, lane_of_bytes, padding, xor_bytes}}
 use Rattle.rlp_records.proofs.Complements.{xor_l}
-use Rattle.rlp_records.specs.Keccak.{absorb, absorbed, bytes_of_lanes, keccak256, lane_of_bytes, padding, xor_bytes}
 
 -- a lane of the block
 pub lane_in_block : (b z : List ℕ) (i : ℕ) → 8 * i + 8 ≤ length b → lane_of_bytes (b ++ z) i ≡ lane_of_bytes b i

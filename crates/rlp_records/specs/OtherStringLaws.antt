@@ -1,9 +1,8 @@
 -- Values of a type, or strings that aren't items of the type, are read back, and are read only from their encodings.
 use Rattle.std.proofs.Common.{◌≡◌, ℕ, ◌^◌, ◌<◌, ◌⊎◌, inl, inr, Bool, true, false, IsTrue, List, [], ◌∷◌, length, refl, sym, ap, ◌∙◌, subst}
 use Rattle.std.proofs.{Common.{arith, leb-true, Result, Ok, Err}, lemmas.Bool.Decides.nat_tests}
-use Rattle.rlp.specs.{Codec.Codec, DecoderError.DecoderError, DecoderError.TheVariants.RlpExpectedToBeData}
+use Rattle.rlp.specs.{Codec.Codec, DecoderError.DecoderError, DecoderError.TheVariants.RlpExpectedToBeData, Views.View.{View, Holds, HoldsItem, strict_view_of, view_string}}
 use Rattle.rlp.specs.{Format.Encoding.{Item, is_list, list, string, encoding, AreBytes}, Format.Framing.begins_as_list, Values.Sums.{sum_item}}
-use Rattle.rlp.specs.Views.View.{View, Holds, HoldsItem, strict_view_of, view_string}
 use Rattle.rlp_reading.specs.{Format.Framing.read_string, Form.{Fault, Form, map_value, seen_fault, string_of}, Laws.{GivesOnly, IsLawful, viewed}, Sums.{CasesForm, envelope}}
 use Rattle.rlp_reading.proofs.{Lemmas.Strings.string_list, Lemmas.StringsHeld.{ReadsHeld, held_begins, held_fault, held_only, held_reads}}
 use Rattle.rlp_reading.proofs.{Lemmas.Views.list_first, SumLaws.{sums_fit, sums_written}}

@@ -3,8 +3,7 @@
 ghost use Rattle.std.specs.Prelude.{◌≡◌, ◌⊎◌, Err, IfErr, IfOk, IsTrue, Ok, OnOk, map};
 ghost use Rattle.rlp.specs.{DecoderError.TheVariants.OutOfMemory, Format.Encoding.encoding, Views.View.strict_view_of};
 ghost use Rattle.rlp_reading.specs.Form.{Faults, fault_of};
-ghost use Rattle.rlp_records.specs.{Alone.bytes_alone, Hash.hash};
-ghost use Rattle.rlp_records.specs.Hashing.{IsHashOf, hash_of, hashes_of};
+ghost use Rattle.rlp_records.specs.{Alone.bytes_alone, Hash.hash, Hashing.{IsHashOf, hash_of, hashes_of}};
 
 use crate::keccak256;
 use rlp::{DecoderError, Encodable, Fields, Record, Rlp, RlpStream, StrictRead};

@@ -1,8 +1,7 @@
 //! Keccak-256, the hash function of Ethereum: the sponge of FIPS 202 over Keccak-f[1600].
 
 ghost use Rattle.std.specs.Prelude.{◌≡◌, ◌+◌, ◌-◌, ◌*◌, ◌<◌, ◌≤◌, ◌++◌, length};
-ghost use Rattle.rlp_records.specs.Complements.{masked};
-ghost use Rattle.rlp_records.specs.Keccak.{absorb, bytes_of_lanes, keccak256, lane_of_bytes, padding};
+ghost use Rattle.rlp_records.specs.{Complements.{masked}, Keccak.{absorb, bytes_of_lanes, keccak256, lane_of_bytes, padding}};
 
 mod permutation;
 

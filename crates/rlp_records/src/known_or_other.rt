@@ -3,8 +3,7 @@
 ghost use Rattle.std.specs.Prelude.{◌≡◌, ◌⊎◌, Err, IfErr, IfOk, IsTrue, Ok, OnOk};
 ghost use Rattle.rlp.specs.DecoderError.TheVariants.{OutOfMemory};
 ghost use Rattle.rlp_reading.specs.Form.{IsPlaced, fault_of};
-ghost use Rattle.rlp_records.specs.{Alone.bytes_alone, Hashing.IsHashOf, KnownOrOther.{any_alone, any_type, with_others}};
-ghost use Rattle.rlp_records.specs.declared.known_or_other.KnownOrOther.{KnownOrOther};
+ghost use Rattle.rlp_records.specs.{Alone.bytes_alone, Hashing.IsHashOf, KnownOrOther.{any_alone, any_type, with_others}, declared.known_or_other.KnownOrOther.{KnownOrOther}};
 
 use crate::{Eip2718, Hash, OtherEnvelope, keccak256};
 use bytes::BytesMut;

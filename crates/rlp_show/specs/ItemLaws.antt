@@ -2,9 +2,8 @@
 use Rattle.std.specs.Prelude.{ℕ, zero, suc, ◌==◌, if◌then◌else◌, not, Bool, true, false, List, [], ◌∷◌, get_or, length, map, take, Option, Some, None, Result, Ok, Err}
 use Rattle.std.proofs.{Common.{◌≡◌, ◌∙◌, refl, sym, ap, arith, inl, inr}, lemmas.Bool.Decides.nat_tests, lemmas.List.length-map}
 use Rattle.rlp_records.specs.Keccak.{keccak256}
-use Rattle.rlp.specs.Format.Encoding.{Item, string, list, no_items, item_and, items_from}
+use Rattle.rlp.specs.{Format.Encoding.{Item, string, list, no_items, item_and, items_from}, Format.Framing.items, Views.View.View, Views.View.view_of}
 use Rattle.rlp.specs.{Values.RawItem.{item_by, item_within, raw_item_of, string_or_none}, DecoderError.DecoderError, Format.Framing.read_string}
-use Rattle.rlp.specs.{Format.Framing.items, Views.View.View, Views.View.view_of}
 use Rattle.rlp_trie.specs.{HexPrefix.ends_in_leaf, TrieNodeLaws.trie_node}
 use Rattle.rlp_show.specs.Items.{branch_shown, few_shown, item_shown, joined, node_shown, node_told, pair_shown, shown_item, shown_items, shown_within, string_at, whole_node}
 use Rattle.rlp_show.specs.{DisplayLaws.content_same, NodeRecords.{key_told_by, key_value, key_value_by}, Records.written, Value.Value, Value.values_of}

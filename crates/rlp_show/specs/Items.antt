@@ -2,9 +2,8 @@
 use Rattle.std.specs.Prelude.{ℕ, zero, suc, ◌==◌, if◌then◌else◌, not, Bool, true, false, List, [], ◌∷◌, codes, get_or, length, map, take, Option, Some, None, Result, Ok, Err}
 use Rattle.std.proofs.Common.{inl, inr}
 use Rattle.rlp_records.specs.Keccak.{keccak256}
-use Rattle.rlp.specs.Format.Encoding.{Item, Items, string, list, no_items, item_and, items_from}
+use Rattle.rlp.specs.{Format.Encoding.{Item, Items, string, list, no_items, item_and, items_from}, Format.Framing.items, Views.View.View, Views.View.item_views, Views.View.view_of}
 use Rattle.rlp.specs.{Values.RawItem.{raw_item_of, string_or_none}, DecoderError.DecoderError, Format.Framing.read_string}
-use Rattle.rlp.specs.{Format.Framing.items, Views.View.View, Views.View.item_views, Views.View.view_of}
 use Rattle.rlp_trie.specs.{HexPrefix.ends_in_leaf, TrieNodeLaws.trie_node}
 use Rattle.rlp_show.specs.Display.{a_string, bytes_as, content_bytes, derived, one_if, same, through}
 use Rattle.rlp_show.specs.Value.{Fields, Value, Entries, Values, content, object, array, bytes, text, nothing, both, entry, by_form, no_values, value_and, values_of}

@@ -16,11 +16,9 @@ use Rattle.rlp_messages.specs.{Eth.Status.{status68, status69}, P2p.Disconnect.d
 use Rattle.rlp_show.specs.{Blocks.{block_display, body_fields_display, header_display}, Display.{a_list, a_string, an_object, end}}
 use Rattle.rlp_show.specs.{ItemDisplays.{node_display, node_fields_display}, Value.Display}
 use Rattle.rlp_show.specs.Messages.{disconnect_display, get_block_headers_display, hello_display, new_block_display, new_block_hash_display, new_pooled_transaction_hashes_display, range_display, receipt69_display, status68_display, status69_display, with_request_id_display}
-use Rattle.rlp_show.specs.{Records.{account_display, any_receipt_display, withdrawal_display}}
+use Rattle.rlp_show.specs.{Records.{account_display, any_receipt_display, withdrawal_display}, Value.Value, declared.kind.Kind.Kind, declared.kind.MessageKind.{MessageKind}}
 use Rattle.rlp_show.specs.Transactions.{access_list_display, any_transaction_display, pooled_transaction_display, signed_authorization_display, unsigned_display}
-use Rattle.rlp_show.specs.{Value.Value, declared.kind.Kind.Kind}
 use Rattle.rlp_show.specs.declared.kind.Kind.TheVariants.{AccessList, Account, Authorization, Block, Body, Header, Message, Node, NodeRecord, Receipt, Transaction, Withdrawal}
-use Rattle.rlp_show.specs.declared.kind.MessageKind.{MessageKind}
 use Rattle.rlp_show.specs.declared.kind.MessageKind.TheVariants as message
 
 -- what bytes give

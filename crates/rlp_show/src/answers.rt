@@ -2,8 +2,7 @@
 
 ghost use Rattle.std.specs.Prelude.{◌≡◌, ◌++◌, Some, string_bytes, OnOk};
 ghost use Rattle.rlp.specs.Views.View.{strict_view_of};
-ghost use Rattle.rlp_show.specs.Answers.{answer_of, bytes_text, guessed_text, long_line, longest_line, own_name, text_answer};
-ghost use Rattle.rlp_show.specs.{Guess.guess, Input.record_bytes};
+ghost use Rattle.rlp_show.specs.{Answers.{answer_of, bytes_text, guessed_text, long_line, longest_line, own_name, text_answer}, Guess.guess, Input.record_bytes};
 
 use crate::faults::{put_error, put_fault};
 use crate::given::Given;

@@ -4,8 +4,7 @@ ghost use Rattle.std.specs.Prelude.{◌≡◌, IfOk, not, OnOk, true, false, opt
 ghost use Rattle.rlp.specs.{Codec.raw_item, Views.View.item_views};
 ghost use Rattle.rlp_trie.specs.TrieNodeLaws.{trie_node};
 ghost use Rattle.rlp_show.specs.Items.{branch_entries, items_shown, key_of, kind_of, node_shown, pair_entries, shown_within, string_at};
-ghost use Rattle.rlp_show.specs.ItemDisplays.{node_display, raw_item_display};
-ghost use Rattle.rlp_show.specs.{Display.seen_as, Value.after, Value.object, Value.values_of};
+ghost use Rattle.rlp_show.specs.{ItemDisplays.{node_display, raw_item_display}, Display.seen_as, Value.after, Value.object, Value.values_of};
 
 use crate::records::written;
 use crate::show::{ByForm, Show, ShowFields, fields, give_fields, inside, place_in, show_fields};

@@ -1,8 +1,7 @@
 //! Laws about values that are shown and about the answers to lines, as public functions. The
 //! contract of each function is the law, and the functions do nothing but call another law.
 
-ghost use Rattle.std.specs.Prelude.{◌≡◌, ◌<◌, ◌^◌, ◌⊎◌, ℕ, List, [], Some, Ok, Err, length};
-ghost use Rattle.std.specs.Str.Lines.{strip_carriage_return};
+ghost use Rattle.std.specs.{Prelude.{◌≡◌, ◌<◌, ◌^◌, ◌⊎◌, ℕ, List, [], Some, Ok, Err, length}, Str.Lines.{strip_carriage_return}};
 ghost use Rattle.rlp.specs.Format.Encoding.{IsSized, encoding};
 ghost use Rattle.rlp_reading.specs.Form.{Fault};
 ghost use Rattle.rlp_lines.specs.Digits.{bytes_in};
@@ -11,8 +10,7 @@ ghost use Rattle.rlp_records.specs.{Alone.bytes_alone, Eip2718.typed_alone, decl
 ghost use Rattle.rlp_transactions.specs.{Transaction.any_transaction, UnsignedTransaction.unsigned_transaction, UnsignedTransaction.unsigned_types};
 ghost use Rattle.rlp_transactions.specs.{declared.transaction.Transaction.Transaction, declared.unsigned_transaction.UnsignedTransaction.UnsignedTransaction};
 ghost use Rattle.rlp_trie.specs.{TrieNode.IsTrieNode, TrieNode.node_item, TrieNode.seen_node, TrieNodeLaws.trie_node, declared.trie_node.TrieNode.TrieNode};
-ghost use Rattle.rlp_show.specs.Answers.{IsAnswered, IsRead, answer_of};
-ghost use Rattle.rlp_show.specs.{Display.shown_of, Display.told_of, ItemDisplays.node_display, Json.json_of, Records.any_receipt_display};
+ghost use Rattle.rlp_show.specs.{Answers.{IsAnswered, IsRead, answer_of}, Display.shown_of, Display.told_of, ItemDisplays.node_display, Json.json_of, Records.any_receipt_display};
 ghost use Rattle.rlp_show.specs.{Transactions.any_transaction_display, Transactions.unsigned_display, Value.Value, Value.entry, Value.object, Kinds.kind_name};
 ghost use Rattle.rlp_show.specs.{Request.answers, Shown.ShowsAs, Shown.kind_shown, declared.answers.Form.TheVariants.Json, declared.kind.Kind.Kind};
 ghost use Rattle.rlp_show.specs.declared.kind.Kind.TheVariants as kind;

@@ -2,8 +2,7 @@
 
 ghost use Rattle.std.specs.Prelude.{◌≡◌};
 ghost use Rattle.rlp_node_record.specs.NodeFields.{node_fields, pair_fields};
-ghost use Rattle.rlp_show.specs.ItemDisplays.{node_fields_display, node_pair_display};
-ghost use Rattle.rlp_show.specs.{Display.seen_as, Value.content_of};
+ghost use Rattle.rlp_show.specs.{ItemDisplays.{node_fields_display, node_pair_display}, Display.seen_as, Value.content_of};
 ghost use Rattle.rlp_show.specs.NodeRecords.{is_ip, is_port_key, port_content, string_content};
 
 use crate::show::{Items, Show, show_fields};

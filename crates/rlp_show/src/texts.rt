@@ -1,7 +1,6 @@
 //! Numbers, bytes, paths of the trie and words as text.
 
-ghost use Rattle.std.specs.Prelude.{◌≡◌, ◌==◌, ◌++◌, string_bytes, OnOk, Some, ◌<◌, [], ◌∷◌, false};
-ghost use Rattle.std.specs.{Fmt.digit_glyph, Int.Digits.number_from_digits, List.list_all};
+ghost use Rattle.std.specs.{Prelude.{◌≡◌, ◌==◌, ◌++◌, string_bytes, OnOk, Some, ◌<◌, [], ◌∷◌, false}, Fmt.digit_glyph, Int.Digits.number_from_digits, List.list_all};
 ghost use Rattle.rlp_show.specs.Lines.{bytes_text, digits_text, hex_text, ip_text, is_word, is_word_byte, meaning_text, nibbles_text, path_text, sparse_text, v_text, word_text};
 
 use rlp::Uint;

@@ -3,14 +3,11 @@ use Rattle.std.proofs.Common.{◌≡◌, ℕ, suc, ◌+◌, ◌^◌, ◌<◌, Al
 use Rattle.std.proofs.Common.{OnOk, IsTrue, refl, sym, ap, ◌∙◌, arith, ◌-◌, ◌≤◌, Bool, true, cond, length-take, drop, get_or, Option, Some, None}
 use Rattle.std.proofs.{Common.filter_map, lemmas.Bool.{cond-true, cond-false, false_from_ne_true}, lemmas.Bool.Decides.nat_tests}
 use Rattle.std.proofs.{lemmas.List.length-drop, lemmas.List.Splits.{slice_split-cons_yes, slice_split-cons_no}}
-use Rattle.rlp.specs.Format.Encoding.{Item, join, BeginsWith, IsSized}
+use Rattle.rlp.specs.{Format.Encoding.{Item, join, BeginsWith, IsSized}, Streams.Stream.{append, append_raw, begin_list, begin_unbounded_list, finalize_unbounded_list, clear}}
 use Rattle.rlp.specs.Streams.Stream.{OpenList, Stack, State, IsFinished, initial_state, closed_size, raw_text, Call, effect, is_admitted, after}
-use Rattle.rlp.specs.Streams.Stream.{append, append_raw, begin_list, begin_unbounded_list, finalize_unbounded_list, clear}
-use Rattle.rlp.specs.Streams.Described.{Step, DescribesWhere, IsDescribedWhere, FinishAs, brings, opens, finishes, clears, by_append}
-use Rattle.rlp.specs.Streams.Described.{by_unbounded_list, by_finalize, by_clear}
-use Rattle.rlp_tool.specs.declared.making.LineFault.{LineFault}
+use Rattle.rlp.specs.{Streams.Described.{Step, DescribesWhere, IsDescribedWhere, FinishAs, brings, opens, finishes, clears, by_append, by_unbounded_list, by_finalize, by_clear}}
+use Rattle.rlp_tool.specs.{declared.making.LineFault.{LineFault}, Building.IsSomeStep, Making.{AppendsFault, AreMade, IsLineFault, MakesScript}, RawItems.IsShallow}
 use Rattle.rlp_tool.specs.Building.{AreRefused, AreTaken, BringsItems, BringsNoItems, BringsTooMany, HasNothingToFinish, StayOpen, is_raw, is_finish}
-use Rattle.rlp_tool.specs.{Building.IsSomeStep, Making.{AppendsFault, AreMade, IsLineFault, MakesScript}, RawItems.IsShallow}
 use Rattle.rlp_tool.specs.Script.{script, call_in, is_call, raw_call, raw_parts}
 use Rattle.rlp_tool.specs.{Answer.{SaysCalls, answer, brings_items, finished_answer, open_answer, state_answer, refusal_name, outcome_answer}, Answer.calls_answer, Pieces.spaces}
 use Rattle.rlp_lines.specs.{Replies.answer_by, Digits.{bytes_in, digits_of}}

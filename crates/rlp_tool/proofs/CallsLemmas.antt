@@ -4,12 +4,10 @@ use Rattle.std.proofs.Common.{Ok, Err, IfErr, OnOk, IsTrue, All, Vec, refl, sym,
 use Rattle.std.proofs.{Common.{append-nil, length-append}, lemmas.Bool.cond-true, lemmas.List.{replicate-append-replicate, length-replicate}}
 use Rattle.std.specs.declared.alloc.Global.{Global}
 use Rattle.rlp.proofs.Streams.Descriptions.{steps_anyhow}
-use Rattle.rlp.specs.Format.Encoding.{Item, list_of, join, IsSized}
+use Rattle.rlp.specs.{Format.Encoding.{Item, list_of, join, IsSized}, Streams.Stream.{begin_list, effect, is_admitted, after, unbounded_count, finalize_unbounded_list, finalized}}
 use Rattle.rlp.specs.Streams.Stream.{OpenList, empty_stack, has_room, awaited, State, initial_state, IsFinished, after_from, Call, append_raw}
-use Rattle.rlp.specs.Streams.Stream.{begin_list, effect, is_admitted, after, unbounded_count, finalize_unbounded_list, finalized}
-use Rattle.rlp.specs.Streams.Described.{Step, brings, opens, finishes, clears, DescribesWhere, by_append, by_raw, by_empty_list, by_list}
+use Rattle.rlp.specs.{Streams.Described.{Step, brings, opens, finishes, clears, DescribesWhere, by_append, by_raw, by_empty_list, by_list, joined_list, joined_stack}}
 use Rattle.rlp.specs.Streams.Described.{by_unbounded_list, by_finalize, by_clear, AreDescribedWhere, AreDescribed, IsDescribedWhere, items_after_all}
-use Rattle.rlp.specs.Streams.Described.{joined_list, joined_stack}
 use Rattle.rlp_tool.specs.{declared.building.Built.Built, declared.building.Built.TheVariants.{Finished, Open}, declared.building.BuildFault.{BuildFault}}
 use Rattle.rlp_tool.specs.{declared.building.BuildFault.TheVariants.{TooManyItems, NothingToFinish, RawNotItems, OutOfMemory}, declared.calls.StreamCall.{StreamCall}}
 use Rattle.rlp_tool.specs.{declared.calls.StreamCall.TheVariants.{Value, Values, Raw, Begin, BeginUnbounded, Finish, Clear}, RawItems.{AreRawItems, IsShallow}, StreamCalls.call_of}

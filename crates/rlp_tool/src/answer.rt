@@ -2,8 +2,7 @@
 
 ghost use Rattle.std.specs.Prelude.{◌≡◌, ◌++◌, [], decimal, string_bytes, OnOk};
 ghost use Rattle.rlp_lines.specs.Digits.{bytes_in};
-ghost use Rattle.rlp_tool.specs.Answer.{answer_within, calls_answer, digits_answer, finished_answer, open_answer, state_answer, view_answer};
-ghost use Rattle.rlp_tool.specs.{Making.AppendsFault, Script.script};
+ghost use Rattle.rlp_tool.specs.{Answer.{answer_within, calls_answer, digits_answer, finished_answer, open_answer, state_answer, view_answer}, Making.AppendsFault, Script.script};
 
 use crate::building::BuildFault;
 use crate::making::{LineFault, make_script};

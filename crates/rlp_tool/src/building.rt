@@ -1,11 +1,9 @@
 //! Makes calls of a stream over a front.
 ghost use Rattle.std.specs.Prelude.{◌≡◌, ◌++◌, ◌+◌, ◌^◌, ◌<◌, ◌↔◌, List, length, replicate, MatchOption, OnOk, IfOk, IfErr, IsTrue, Ok};
-ghost use Rattle.rlp.specs.{Format.Encoding.{Item, join}, Format.Framing.{IsFramed, frame}};
-ghost use Rattle.rlp.specs.Streams.Stream.{has_room, append_raw, effect, finalize_unbounded_list, is_admitted};
+ghost use Rattle.rlp.specs.{Format.Encoding.{Item, join}, Format.Framing.{IsFramed, frame}, Streams.Stream.{has_room, append_raw, effect, finalize_unbounded_list, is_admitted}};
 ghost use Rattle.rlp.specs.Streams.Described.{IsDescribed, IsDescribedWhere};
-ghost use Rattle.rlp_tool.specs.Building.{AreTaken, IsBuilt, IsRefusal, IsJoined, IsFinishedAs, IsSomeStep};
+ghost use Rattle.rlp_tool.specs.{Building.{AreTaken, IsBuilt, IsRefusal, IsJoined, IsFinishedAs, IsSomeStep}, StreamCalls.{call_of, calls_of}};
 ghost use Rattle.rlp_tool.specs.{Making.{Fails, Goes, IsHeld, IsTaken}, RawItems.{AreRawItems, IsShallow}, declared.building.BuildFault.BuildFault};
-ghost use Rattle.rlp_tool.specs.StreamCalls.{call_of, calls_of};
 
 use crate::calls::{Calls, StreamCall, make_calls};
 use bytes::BytesMut;

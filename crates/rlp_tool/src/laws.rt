@@ -3,9 +3,8 @@
 
 ghost use Rattle.std.specs.Prelude.{◌≡◌, ◌++◌, ◌↔◌, ℕ, List, [], IsTrue, codes, decimal};
 ghost use Rattle.rlp.specs.{Format.Encoding.{Item, join, BeginsWith}, Streams.Stream.Call, Streams.Described.{FinishAs, IsDescribedWhere}};
-ghost use Rattle.rlp_tool.specs.Answer.{SaysCalls, answer, finished_answer, open_answer};
+ghost use Rattle.rlp_tool.specs.{Answer.{SaysCalls, answer, finished_answer, open_answer}, RawItems.{AreRawItems, IsShallow, are_raw_items}};
 ghost use Rattle.rlp_tool.specs.Building.{AreJoined, AreRefused, AreTaken, BringsNoItems, BringsTooMany, HasNothingToFinish, StayOpen};
-ghost use Rattle.rlp_tool.specs.RawItems.{AreRawItems, IsShallow, are_raw_items};
 
 use rlp::laws::{parts_of_sized_are_sized, stream_joins_what_is_described};
 

@@ -1,8 +1,7 @@
 //! Makes the calls of a script on a stream, each as its piece is read.
 ghost use Rattle.std.specs.Prelude.{◌≡◌, ◌+◌, [], IfOk, IfErr, OnOk};
 ghost use Rattle.rlp.specs.Streams.Stream.{initial_state};
-ghost use Rattle.rlp_tool.specs.{Making.{Fails, IsLineFault, IsTaken, MakesScript}, Script.{calls_in, script}};
-ghost use Rattle.rlp_tool.specs.Pieces.{HasPairs, left_len, piece_call, pieces_left};
+ghost use Rattle.rlp_tool.specs.{Making.{Fails, IsLineFault, IsTaken, MakesScript}, Script.{calls_in, script}, Pieces.{HasPairs, left_len, piece_call, pieces_left}};
 
 use crate::building::{BuildFault, take_call, take_finishes, take_raw};
 use crate::calls::{Calls, StreamCall, make_calls};

@@ -9,11 +9,10 @@ use Rattle.rlp_reading.specs.Form.{custom}
 use Rattle.rlp_records.proofs.{AfterByte.after_strings, Alone.list_alone_begins, Bytes.bytes_tell, TypedSums.typed_strings}
 use Rattle.rlp_records.specs.{Alone.{bytes_alone, unknown_type}, Eip2718.typed_alone}
 use Rattle.rlp_transactions.specs.{LegacyTransaction.{chain_fields, legacy_transaction_fields, signed_legacy_transaction}, NonZeroScalar.scalar_value}
-use Rattle.rlp_transactions.specs.{Secp256k1.is_scalar, SetCodeTransaction.authorization_fields}
+use Rattle.rlp_transactions.specs.{Secp256k1.is_scalar, SetCodeTransaction.authorization_fields, declared.signed.Signed.Signed, declared.transaction.Transaction.Transaction}
 use Rattle.rlp_transactions.specs.{Signing.{FitsSigning, HaveOneMeaning, Signable, a_transaction, an_authorization, signed_bytes}, Transaction.transaction}
 use Rattle.rlp_transactions.specs.{UnsignedTransaction.{unsigned_transaction, unsigned_types}, declared.legacy_transaction.LegacyTransaction.LegacyTransaction}
 use Rattle.rlp_transactions.specs.{declared.scalar.NonZeroScalar.NonZeroScalar, declared.set_code_transaction.Authorization.Authorization}
-use Rattle.rlp_transactions.specs.{declared.signed.Signed.Signed, declared.transaction.Transaction.Transaction}
 use Rattle.rlp_transactions.specs.declared.transaction.Transaction.TheVariants.{AccessList, Blob, FeeMarket, Legacy, SetCode}
 use Rattle.rlp_transactions.specs.declared.unsigned_transaction.UnsignedTransaction.{UnsignedTransaction}
 use Rattle.rlp_transactions.specs.declared.unsigned_transaction.UnsignedTransaction.TheVariants as unsigned

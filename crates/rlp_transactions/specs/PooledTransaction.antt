@@ -3,7 +3,7 @@ use Rattle.std.proofs.Common.{inl, inr}
 use Rattle.std.specs.Prelude.{◌⊎◌, Bool, refl}
 use Rattle.rlp.specs.{Codec.Codec, Uint.Uint}
 use Rattle.rlp_records.specs.Eip2718.{TypedSum, typed, typed_by}
-use Rattle.rlp_transactions.specs.{AccessListTransaction.signed_access_list_transaction, BlobTransaction.signed_blob_transaction}
+use Rattle.rlp_transactions.specs.{AccessListTransaction.signed_access_list_transaction, BlobTransaction.signed_blob_transaction, declared.transaction.Transaction.{Transaction}}
 use Rattle.rlp_transactions.specs.{BlobWrapper.{pooled_blob_transaction, without_blobs}, FeeMarketTransaction.signed_fee_market_transaction}
 use Rattle.rlp_transactions.specs.{LegacyTransaction.signed_legacy_transaction, SetCodeTransaction.signed_set_code_transaction, Transaction.transaction}
 use Rattle.rlp_transactions.specs.declared.access_list_transaction.AccessListTransaction.{AccessListTransaction}
@@ -11,7 +11,6 @@ use Rattle.rlp_transactions.specs.{declared.blob_wrapper.PooledBlobTransaction.{
 use Rattle.rlp_transactions.specs.{declared.legacy_transaction.LegacyTransaction.{LegacyTransaction}, declared.pooled_transaction.PooledTransaction.{PooledTransaction}}
 use Rattle.rlp_transactions.specs.declared.pooled_transaction.PooledTransaction.TheVariants.{AccessList, Blob, FeeMarket, Legacy, SetCode}
 use Rattle.rlp_transactions.specs.{declared.set_code_transaction.SetCodeTransaction.SetCodeTransaction, declared.signed.Signed.Signed}
-use Rattle.rlp_transactions.specs.declared.transaction.Transaction.{Transaction}
 use Rattle.rlp_transactions.specs.declared.transaction.Transaction.TheVariants as block
 
 -- a transaction of one of the types

@@ -7,9 +7,8 @@ use Rattle.rlp_transactions.specs.{declared.access_list_transaction.AccessListTr
 use Rattle.rlp_transactions.specs.{declared.fee_market_transaction.FeeMarketTransaction.{FeeMarketTransaction}, declared.legacy_transaction.LegacyTransaction.{LegacyTransaction}}
 use Rattle.rlp_transactions.specs.{declared.set_code_transaction.SetCodeTransaction.SetCodeTransaction, declared.signed.Signed.Signed}
 use Rattle.rlp_transactions.specs.{declared.transaction.Transaction.{Transaction}, declared.transaction.Transaction.TheVariants.{AccessList, Blob, FeeMarket, Legacy, SetCode}}
-use Rattle.rlp_transactions.specs.{AccessListTransaction.signed_access_list_transaction, BlobTransaction.signed_blob_transaction}
+use Rattle.rlp_transactions.specs.{AccessListTransaction.signed_access_list_transaction, BlobTransaction.signed_blob_transaction, SetCodeTransaction.{signed_set_code_transaction}}
 use Rattle.rlp_transactions.specs.{FeeMarketTransaction.signed_fee_market_transaction, LegacyTransaction.signed_legacy_transaction}
-use Rattle.rlp_transactions.specs.SetCodeTransaction.{signed_set_code_transaction}
 
 -- a transaction of one of the types
 abbrev pub as_sum : Transaction → Signed LegacyTransaction (Uint 32)

@@ -3,8 +3,7 @@
 
 ghost use Rattle.std.specs.Prelude.{◌≡◌, ◌≢◌, ◌<◌, ◌^◌, IfOk, length};
 ghost use Rattle.rlp_records.specs.{Alone.bytes_alone, Eip2718.type_of};
-ghost use Rattle.rlp_transactions.specs.Signing.{FitsSigning, HaveOneMeaning, Signable, signed_bytes};
-ghost use Rattle.rlp_transactions.specs.PooledTransaction.{consensus_form, pooled_transaction};
+ghost use Rattle.rlp_transactions.specs.{Signing.{FitsSigning, HaveOneMeaning, Signable, signed_bytes}, PooledTransaction.{consensus_form, pooled_transaction}};
 ghost use Rattle.rlp_transactions.specs.{Transaction.{any_transaction, transaction, transaction_types}, declared.transaction.Transaction.Transaction};
 
 use crate::{AnyTransaction, PooledTransaction};

@@ -4,8 +4,7 @@ ghost use Rattle.std.specs.Prelude.{◌≡◌, ◌∷◌, ◌⊎◌, Err, IfErr,
 ghost use Rattle.rlp.specs.{DecoderError.TheVariants.OutOfMemory, Format.Encoding.{encoding, list_of}};
 ghost use Rattle.rlp_reading.specs.Form.{fault_of};
 ghost use Rattle.rlp_records.specs.{Alone.bytes_alone, Eip2718.typed_alone, Hashing.IsHashOf};
-ghost use Rattle.rlp_transactions.specs.{Transaction.{transaction, transaction_types}, UnsignedTransaction.unsigned_transaction};
-ghost use Rattle.rlp_transactions.specs.declared.transaction.Transaction.{Transaction};
+ghost use Rattle.rlp_transactions.specs.{Transaction.{transaction, transaction_types}, UnsignedTransaction.unsigned_transaction, declared.transaction.Transaction.{Transaction}};
 
 use crate::{
     AccessListTransaction, BlobTransaction, FeeMarketTransaction, SetCodeTransaction, Signed,

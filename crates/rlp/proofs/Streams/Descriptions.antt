@@ -5,10 +5,9 @@ use Rattle.std.proofs.{lemmas.List.append_cancel_left, lemmas.List.Concat.flat_m
 use Rattle.rlp_format.specs.Format.Encoding.{big_endian, written_header, Item, string, list_of, encoding, join, IsSized}
 use Rattle.rlp_write.specs.Streams.Stream.{OpenList, Stack, empty_stack, stack_put, stack_shut, shut_around, stack_count, count_around, State}
 use Rattle.rlp_write.specs.Streams.Stream.{initial_state, list_encoding, Call, effect, is_within_size, after, after_from}
-use Rattle.rlp.specs.Streams.Described.{Step, one_list, items_after, items_after_all, Describes, by_append, by_empty_data, by_raw, by_checked_raw}
+use Rattle.rlp.specs.{Streams.Described.{Step, one_list, items_after, items_after_all, Describes, by_append, by_empty_data, by_raw, by_checked_raw, FinishAs}}
 use Rattle.rlp.specs.Streams.Described.{by_refused_raw, by_empty_list, by_list, by_unbounded_list, by_finalize, by_internal_list, by_clear}
 use Rattle.rlp.specs.Streams.Described.{AreDescribed, IsDescribed, DescribesWhere, AreDescribedWhere, IsDescribedWhere, joined_stack, joined_list}
-use Rattle.rlp.specs.Streams.Described.{FinishAs}
 use Rattle.rlp_format.proofs.Lemmas.Encodings.{encoding_list}
 use Rattle.rlp_reading.proofs.{Lemmas.Items.join_same, Lemmas.Views.sized_items}
 

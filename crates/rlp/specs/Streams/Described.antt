@@ -1,8 +1,7 @@
 -- The items that calls of a stream describe, without bytes.
 use Rattle.std.specs.Prelude.{ℕ, suc, ◌≡◌, List, [], ◌∷◌, ◌++◌, Ok, length, map, All, Option, None, Some, IsTrue, not}
 use Rattle.rlp_format.specs.Format.Encoding.{Item, string, list_of, join, IsSized}
-use Rattle.rlp_write.specs.Streams.Stream.{OpenList, Stack, empty_stack, stack_put, stack_with_list, stack_shut, stack_count}
-use Rattle.rlp_write.specs.Streams.Stream.{State, initial_state, IsFinished}
+use Rattle.rlp_write.specs.{Streams.Stream.{OpenList, Stack, empty_stack, stack_put, stack_with_list, stack_shut, stack_count, State, initial_state, IsFinished}}
 use Rattle.rlp_write.specs.Streams.Stream.{Call, append, append_empty_data, append_raw, append_raw_checked, begin_list, begin_unbounded_list}
 use Rattle.rlp_write.specs.Streams.Stream.{finalize_unbounded_list, append_internal, clear, effect, is_admitted, is_within_size, after}
 

@@ -1,7 +1,6 @@
 //! Items of any kind, kept as the bytes of their encodings.
 
-ghost use Rattle.std.specs.{Prelude.{◌≡◌, ◌⊎◌, Ok, Err, IfOk, IfErr, false, nat_eq}, Cmp.partial_equiv_from_equiv};
-ghost use Rattle.std.specs.Cmp.Lexicographic.{nat_list_eq_equiv, pointwise};
+ghost use Rattle.std.specs.{Prelude.{◌≡◌, ◌⊎◌, Ok, Err, IfOk, IfErr, false, nat_eq}, Cmp.partial_equiv_from_equiv, Cmp.Lexicographic.{nat_list_eq_equiv, pointwise}};
 ghost use Rattle.rlp_reading.specs.{declared.error.DecoderError.TheVariants.OutOfMemory, Views.View.strict_view_of, Format.Framing.IsCanonicalWithin};
 ghost use Rattle.rlp_reading.specs.{Values.RawItem.{IsRawItem, deepest_raw_item, raw_item_of}, Form.{fault_of, raw_of}};
 ghost use Rattle.rlp_format.specs.Format.Encoding.{encoding};

@@ -2,10 +2,9 @@
 
 ghost use Rattle.std.specs.Prelude.{◌≡◌, ◌<◌, ◌≤◌, ◌^◌, ℕ, List, Ok, length};
 ghost use Rattle.rlp_format.specs.{Format.Encoding.{encoding, Item, item_depth, string, AreBytes}, Values.Value.{bit, number_item, option_item}};
-ghost use Rattle.rlp_reading.specs.{Format.Framing.{IsString, ReadsString, read_string}, Values.RawItem.{deepest_raw_item, raw_item_of}};
+ghost use Rattle.rlp_reading.specs.{Format.Framing.{IsString, ReadsString, read_string}, Values.RawItem.{deepest_raw_item, raw_item_of}, Laws.{HasOneAnswer}};
 ghost use Rattle.rlp_reading.specs.{Values.StructReading.HoldsOrHasOneFault, Values.ValueReading.HasOneReading, Views.View.{View, strict_view_of, view_of}};
 ghost use Rattle.rlp_reading.specs.Form.{Faults, Gives, byte_array, byte_string, number, option, option_reading, raw_item, reading_at, struct_reading, text, truth_value};
-ghost use Rattle.rlp_reading.specs.Laws.{HasOneAnswer};
 
 use crate::rlpin::Rlp;
 use crate::structs::DecodeFields;

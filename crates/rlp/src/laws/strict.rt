@@ -6,8 +6,7 @@ ghost use Rattle.rlp_reading.specs.Format.Framing.{HasHeader, IsFramed, fault, f
 ghost use Rattle.rlp_reading.specs.{Values.RoundTrip.ReadsStrictly, Values.ValueReading.HasOneReading};
 ghost use Rattle.rlp_reading.specs.Form.{Faults, Gives, byte_array, byte_string, number, option_reading, text, truth_value};
 ghost use Rattle.rlp_reading.specs.Views.View.{HoldsItem, View, item_by, item_count, item_with_place, list_fault, strict_view_of, view_header, view_of, view_string, view_value};
-ghost use Rattle.rlp_format.specs.Format.Encoding.{BeginsWith, encoding, AreBytes, Item, list_of, string};
-ghost use Rattle.rlp_format.specs.Values.Value.{AreAlike, bit, number_item, option_item};
+ghost use Rattle.rlp_format.specs.{Format.Encoding.{BeginsWith, encoding, AreBytes, Item, list_of, string}, Values.Value.{AreAlike, bit, number_item, option_item}};
 
 use crate::traits::{Decodable, StrictRead};
 use rlp_reading::error::DecoderError;

@@ -1,7 +1,6 @@
 //! The items of a view of a list, and of the encodings of values in a list.
 
-ghost use Rattle.std.specs.Prelude.{◌≡◌, ◌≤◌, ◌+◌, ◌↔◌, ◌++◌, ◌∷◌, [], ℕ, List, None, Ok, Err, Some, IfOk, IsOkAnd, IsTrue, false, length, map, slice_get};
-ghost use Rattle.std.specs.Iterator.{Yields};
+ghost use Rattle.std.specs.{Prelude.{◌≡◌, ◌≤◌, ◌+◌, ◌↔◌, ◌++◌, ◌∷◌, [], ℕ, List, None, Ok, Err, Some, IfOk, IsOkAnd, IsTrue, false, length, map, slice_get}, Iterator.{Yields}};
 ghost use Rattle.rlp_format.specs.Format.Encoding.{Item, list_of, encoding, join};
 ghost use Rattle.rlp_reading.specs.{declared.error.DecoderError.DecoderError, declared.error.DecoderError.TheVariants.RlpIsTooShort};
 ghost use Rattle.rlp_reading.specs.Views.View.{HoldsItem, IsStep, Remaining, View, item_at, item_count, item_views, list_fault};

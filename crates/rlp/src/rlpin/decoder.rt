@@ -83,7 +83,7 @@ impl<'a> BasicDecoder<'a> {
     /// let decoder = rlp::BasicDecoder::new(&[0x83, b'c', b'a', b't']);
     /// assert_eq!(rt; decoder.string()?, b"cat".as_slice());
     /// ```
-    #[tactic(auto, using(rlp_reading::proofs::Lemmas::StringsHeld::held_too_big, rlp_reading::proofs::Lemmas::StringsHeld::held_whole, rlp_reading::proofs::Lemmas::StringsHeld::held_front, rlp_reading::proofs::Lemmas::StringsHeld::held_fault, rlp_reading::proofs::Lemmas::StringsHeld::held_from))]
+    #[inline(always)]
     pub fn string(&self) -> Result<&'a [u8], DecoderError>
         ensures exact { MatchResult result (λ d. view_string self.now ≡ Ok d.now)
             (λ e. view_string self.now ≡ Err e) }
@@ -93,6 +93,22 @@ impl<'a> BasicDecoder<'a> {
         if let Some(string) = self.rlp.known_string() {
             return Ok(string);
         }
+        let (bytes, is_strict) = (self.rlp.as_raw(), self.rlp.is_strict());
+        match short_string(bytes, is_strict) {
+            Some(string) => Ok(string),
+            None => any_string(bytes, is_strict),
+        }
+    }
+
+    /// The same as [`BasicDecoder::string`], by the bytes alone.
+    #[inline(always)]
+    #[tactic(auto, using(rlp_reading::proofs::Lemmas::StringsHeld::held_too_big, rlp_reading::proofs::Lemmas::StringsHeld::held_whole, rlp_reading::proofs::Lemmas::StringsHeld::held_front, rlp_reading::proofs::Lemmas::StringsHeld::held_fault, rlp_reading::proofs::Lemmas::StringsHeld::held_from))]
+    fn read_string(&self) -> Result<&'a [u8], DecoderError>
+        ensures exact { MatchResult result (λ d. view_string self.now ≡ Ok d.now)
+            (λ e. view_string self.now ≡ Err e) }
+        ensures held { MatchResult (view_string self.now) (λ d. HoldsString self.now d)
+            (λ _. HoldsNoString self.now) }
+    {
         let bytes = self.rlp.as_raw();
         let string = match string_in(bytes) {
             Ok(string) => string,
@@ -103,23 +119,20 @@ impl<'a> BasicDecoder<'a> {
         }
         Ok(string)
     }
+}
 
-    /// The same as [`BasicDecoder::string`]. A string with a header of one byte is read in line.
-    #[inline(always)]
-    pub(crate) fn string_in_line(&self) -> Result<&'a [u8], DecoderError>
-        ensures exact { MatchResult result (λ d. view_string self.now ≡ Ok d.now)
-            (λ e. view_string self.now ≡ Err e) }
-        ensures held { MatchResult (view_string self.now) (λ d. HoldsString self.now d)
-            (λ _. HoldsNoString self.now) }
-    {
-        if let Some(string) = self.rlp.known_string() {
-            return Ok(string);
-        }
-        match short_string(self.rlp.as_raw(), self.rlp.is_strict()) {
-            Some(string) => Ok(string),
-            None => self.string(),
-        }
-    }
+/// The string that a view begins with, or its fault. The arguments are the parts of the view, so
+/// that they stay in registers.
+#[inline(never)]
+fn any_string(bytes: &[u8], strict: bool) -> Result<&[u8], DecoderError>
+    ensures exact { MatchResult result
+        (λ d. view_string (record { bytes = bytes.now; is_strict = strict }) ≡ Ok d.now)
+        (λ e. view_string (record { bytes = bytes.now; is_strict = strict }) ≡ Err e) }
+    ensures held { MatchResult (view_string (record { bytes = bytes.now; is_strict = strict }))
+        (λ d. HoldsString (record { bytes = bytes.now; is_strict = strict }) d)
+        (λ _. HoldsNoString (record { bytes = bytes.now; is_strict = strict })) }
+{
+    Rlp::of_kind(bytes, strict).decoder().read_string()
 }
 
 /// The string whose encoding the bytes are. The caller knows that the bytes are exactly one item,

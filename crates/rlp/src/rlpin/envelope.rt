@@ -1,8 +1,7 @@
 //! Strings that hold a tag and the encoding of a payload.
 
 ghost use Rattle.std.specs.Prelude.{◌≡◌, ◌∷◌, ◌⊎◌, [], Err, IfErr, IfOk, IsTrue, Ok};
-ghost use Rattle.rlp_reading.specs.{declared.error.DecoderError.TheVariants.{OutOfMemory, RlpIsTooShort}, Views.View.strict_view_of};
-ghost use Rattle.rlp_reading.specs.Form.{Faults, fault_of, string_of};
+ghost use Rattle.rlp_reading.specs.{declared.error.DecoderError.TheVariants.{OutOfMemory, RlpIsTooShort}, Views.View.strict_view_of, Form.{Faults, fault_of, string_of}};
 ghost use Rattle.rlp_format.specs.Format.Encoding.{encoding};
 
 use crate::decode_whole;

@@ -2,8 +2,7 @@
 
 ghost use Rattle.std.specs.Prelude.{◌≡◌, ◌≢◌, ◌≤◌, ◌<◌, ◌^◌, ◌∷◌, ◌⊎◌, ◌↔◌, [], ℕ, length, map, None, Ok, Err, Some, IfOk, IfErr, IsOkAnd, IsTrue, MatchOption, MatchResult, OnOk};
 ghost use Rattle.rlp_reading.specs.{declared.error.DecoderError.TheVariants.{OutOfMemory, RlpIncorrectListLen}, Format.Framing.{fault, split, after_items}};
-ghost use Rattle.rlp_reading.specs.Views.View.{View, item_at, item_count, item_views, items_fault};
-ghost use Rattle.rlp_reading.specs.Form.{and_then, fault_of, items_of, list_of_views, list_reading, seen_fault};
+ghost use Rattle.rlp_reading.specs.{Views.View.{View, item_at, item_count, item_views, items_fault}, Form.{and_then, fault_of, items_of, list_of_views, list_reading, seen_fault}};
 ghost use Rattle.rlp.specs.Left.{ItemsLeft, after_next, next_item};
 
 use crate::rlpin::rlp::Rlp;

@@ -295,6 +295,7 @@ impl<'a> Rlp<'a> {
     }
 
     /// The value that the view begins with, read by [`Decodable::decode`] of its type.
+    #[inline(always)]
     pub fn as_val<T: Decodable>(&self, alloc: Global) -> Result<T, DecoderError>
         ensures value { IfOk result (λ x. Gives T.reading self.now x) }
         ensures fault { IfErr result (λ e. Faults T.reading self.now e

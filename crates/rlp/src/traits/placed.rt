@@ -1,8 +1,7 @@
 //! Where in its bytes a value can't be read.
 
 ghost use Rattle.std.specs.Prelude.{◌≡◌, ◌⊎◌, IfOk, IfErr, IsSome, IsTrue, OnOk, ◌↔◌, List};
-ghost use Rattle.rlp_reading.specs.declared.error.DecoderError.TheVariants.{OutOfMemory};
-ghost use Rattle.rlp_reading.specs.Form.{Faults, Gives, IsFound, IsPlaced, fault_path, list_reading, within};
+ghost use Rattle.rlp_reading.specs.{declared.error.DecoderError.TheVariants.{OutOfMemory}, Form.{Faults, Gives, IsFound, IsPlaced, fault_path, list_reading, within}};
 
 use crate::rlpin::{Fields, Rlp};
 use crate::traits::Decodable;

@@ -1,8 +1,7 @@
 //! Types that are read as a codec says.
 
 ghost use Rattle.std.specs.Prelude.{◌≡◌, ◌⊎◌, IfOk, IfErr, IsTrue, OnOk};
-ghost use Rattle.rlp_reading.specs.declared.error.DecoderError.TheVariants.{OutOfMemory};
-ghost use Rattle.rlp_reading.specs.{Form.{Faults, Gives, IsPlaced, Reading}, Laws.{IsLawful, form_of}};
+ghost use Rattle.rlp_reading.specs.{declared.error.DecoderError.TheVariants.{OutOfMemory}, Form.{Faults, Gives, IsPlaced, Reading}, Laws.{IsLawful, form_of}};
 ghost use Rattle.rlp_reading.proofs.ListLaws.{read_back};
 
 use crate::rlpin::Rlp;

@@ -2,9 +2,8 @@
 use Rattle.std.specs.Vec.{vec_items}
 use Rattle.rlp.specs.Codec.{Codec, byte_string, end, field, list_type, number, struct_of, uint}
 use Rattle.rlp_messages.specs.{declared.eth.announcements.NewBlockHash.NewBlockHash, declared.eth.announcements.NewBlockHashes.NewBlockHashes}
-use Rattle.rlp_messages.specs.declared.eth.announcements.NewPooledTransactionHashes.{NewPooledTransactionHashes}
+use Rattle.rlp_messages.specs.{declared.eth.announcements.NewPooledTransactionHashes.{NewPooledTransactionHashes}, declared.eth.announcements.Transactions.{Transactions}}
 use Rattle.rlp_messages.specs.{declared.eth.announcements.BlockRangeUpdate.BlockRangeUpdate, declared.eth.announcements.NewBlock.NewBlock}
-use Rattle.rlp_messages.specs.declared.eth.announcements.Transactions.{Transactions}
 use Rattle.rlp_blocks.specs.Block.{block}
 use Rattle.rlp_records.specs.Hash.{hash}
 use Rattle.rlp_transactions.specs.Transaction.{any_transaction}

@@ -2,13 +2,12 @@
 use Rattle.std.specs.Prelude.{◌⊎◌, refl}
 use Rattle.rlp_messages.specs.Eth.Announcements.{new_block, new_block_hashes, new_pooled_transaction_hashes, transactions}
 use Rattle.rlp_messages.specs.Eth.Requests.{block_bodies, block_headers, get_block_bodies, get_block_headers, get_pooled_transactions, get_receipts, pooled_transactions, with_request_id}
-use Rattle.rlp_messages.specs.{Message.{Bodies, and_message, last_message}, declared.eth.announcements.NewBlock.NewBlock}
+use Rattle.rlp_messages.specs.{Message.{Bodies, and_message, last_message}, declared.eth.announcements.NewBlock.NewBlock, declared.eth.requests.WithRequestId.{WithRequestId}}
 use Rattle.rlp_messages.specs.{declared.eth.announcements.NewBlockHashes.{NewBlockHashes}, declared.eth.announcements.NewPooledTransactionHashes.{NewPooledTransactionHashes}}
 use Rattle.rlp_messages.specs.{declared.eth.announcements.Transactions.Transactions, declared.eth.requests.BlockBodies.BlockBodies}
 use Rattle.rlp_messages.specs.{declared.eth.requests.BlockHeaders.BlockHeaders, declared.eth.requests.GetBlockBodies.GetBlockBodies}
 use Rattle.rlp_messages.specs.{declared.eth.requests.GetBlockHeaders.GetBlockHeaders, declared.eth.requests.GetPooledTransactions.GetPooledTransactions}
 use Rattle.rlp_messages.specs.{declared.eth.requests.GetReceipts.GetReceipts, declared.eth.requests.PooledTransactions.PooledTransactions}
-use Rattle.rlp_messages.specs.declared.eth.requests.WithRequestId.{WithRequestId}
 
 -- the types of their bodies
 abbrev pub EthBody : Type 0

@@ -5,11 +5,10 @@ use Rattle.rlp_records.specs.Hash.{hash}
 use Rattle.rlp_transactions.specs.PooledTransaction.{pooled_transaction}
 use Rattle.rlp_headers.specs.Header.{header}
 use Rattle.rlp_blocks.specs.Block.{body}
-use Rattle.rlp_messages.specs.{Eth.HashOrNumberLaws.hash_or_number, declared.eth.requests.BlockBodies.BlockBodies}
+use Rattle.rlp_messages.specs.{Eth.HashOrNumberLaws.hash_or_number, declared.eth.requests.BlockBodies.BlockBodies, declared.eth.requests.WithRequestId.{WithRequestId}}
 use Rattle.rlp_messages.specs.{declared.eth.requests.BlockHeaders.BlockHeaders, declared.eth.requests.GetBlockBodies.GetBlockBodies}
 use Rattle.rlp_messages.specs.{declared.eth.requests.GetBlockHeaders.GetBlockHeaders, declared.eth.requests.GetPooledTransactions.GetPooledTransactions}
 use Rattle.rlp_messages.specs.{declared.eth.requests.GetReceipts.GetReceipts, declared.eth.requests.PooledTransactions.PooledTransactions}
-use Rattle.rlp_messages.specs.declared.eth.requests.WithRequestId.{WithRequestId}
 
 -- [startblock: {P, B_32}, limit: P, skip: P, reverse: {0, 1}] of GetBlockHeaders
 abbrev pub get_block_headers : Codec GetBlockHeaders

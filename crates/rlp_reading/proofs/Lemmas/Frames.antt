@@ -2,14 +2,12 @@
 use Rattle.std.proofs.Common.{◌≡◌, ℕ, zero, suc, ◌+◌, ◌-◌, ◌^◌, ◌<◌, ◌≤◌, ◌⊎◌, inl, inr, ⊎_elim, List, [], ◌∷◌, ◌++◌, length, take, drop, map, All, refl}
 use Rattle.std.proofs.Common.{sym, ap, ◌∙◌, subst, arith, Ok, Err, Result, leb, le-leb, leb-true, length-append, length-take-le, append_assoc, get_or}
 use Rattle.std.proofs.{Common.{append-nil, take_at, drop_at, take-append-drop, MatchResult, IsTrue, is_ok, ◌↔◌}, lemmas.Bool.{leb-false, cases_lt, cond_both, cond-true}}
-use Rattle.std.proofs.lemmas.List.Elements.{All-drop, All-same, recursion_from_All, All-from_recursion}
+use Rattle.std.proofs.{lemmas.List.Elements.{All-drop, All-same, recursion_from_All, All-from_recursion}, lemmas.Grind.{common_steps}}
 use Rattle.std.proofs.{lemmas.List.{append_cancel_left, nil_from_length}, Math.Seq.take-append-add}
 use Rattle.std.specs.List.{concat, AllByRecursion}
-use Rattle.std.proofs.lemmas.Grind.{common_steps}
 use Rattle.rlp_reading.specs.{declared.error.DecoderError.DecoderError, declared.header.PayloadInfo.PayloadInfo, declared.error.DecoderError.TheVariants.{RlpIsTooShort}}
-use Rattle.rlp_reading.specs.Format.Framing.{HasHeader, lone, written, header, ReadsHeader, payload_info}
+use Rattle.rlp_reading.specs.{Format.Framing.{HasHeader, lone, written, header, ReadsHeader, payload_info, map_ok, total_len, IsCut, IsSplit, split, split_within, frame_and_more}}
 use Rattle.rlp_reading.specs.Format.Framing.{IsFramed, IsFramedItem, IsFault, no_header, cut_short, fault, fault_in, framing, framing_in, frame, value}
-use Rattle.rlp_reading.specs.Format.Framing.{map_ok, total_len, IsCut, IsSplit, split, split_within, frame_and_more}
 use Rattle.rlp_format.specs.Format.Encoding.{Item, written_header, AreBytes, encoding, join, IsSized, BeginsWith}
 use Rattle.rlp_reading.proofs.Lemmas.Reading.{read, header_unique, header_reads, short_has}
 use Rattle.rlp_format.proofs.{Lemmas.Encodings.{IsForm, form, first_of_header}, Lemmas.Lists.same_front}

@@ -1,21 +1,17 @@
 -- The first item of bytes, by the header that was read.
-use Rattle.rlp_format.proofs.Lemmas.Digits.{bytes_held}
-use Rattle.rlp_reading.proofs.Lemmas.{Frames.{split_framed, split_unframed}, Numbered.fault-err}
+use Rattle.rlp_format.proofs.{Lemmas.Digits.{bytes_held}, Lemmas.Encodings.{front_sized}}
+use Rattle.rlp_reading.proofs.{Lemmas.{Frames.{split_framed, split_unframed}, Numbered.fault-err}, Lemmas.Views.{strict_fault-encoding}}
 use Rattle.std.proofs.Common.{◌≡◌, ℕ, ◌-◌, ◌≤◌, List, length, length-take-le, take, drop, None, Some, Ok, Err, true, sym, ap, ◌∙◌, arith, ◌<◌, false}
-use Rattle.std.proofs.Common.{not, ◌==◌, ltb, lt-ltb, le-ltb, [], ◌∷◌, ◌++◌, length-append, subst, ◌+◌, ◌^◌, if◌then◌else◌, append-nil, Result}
+use Rattle.std.proofs.{Common.{not, ◌==◌, ltb, lt-ltb, le-ltb, [], ◌∷◌, ◌++◌, length-append, subst, ◌+◌, ◌^◌, if◌then◌else◌, append-nil, Result}, lemmas.List.{append_cancel_left}}
 use Rattle.std.proofs.{Common.{IfOk, IfErr, IsOkAnd, MatchResult}, lemmas.List.{length-drop, take_rest, drop-take}, lemmas.Bool.{cond-true, cond-false}}
 use Rattle.std.specs.Result.{IsErr, IsErrAnd}
 use Rattle.rlp_format.specs.Format.Encoding.{AreBytes, encoding, Item, join}
-use Rattle.rlp_format.proofs.Lemmas.Encodings.{front_sized}
-use Rattle.rlp_reading.specs.{declared.error.DecoderError.DecoderError, declared.header.PayloadInfo.PayloadInfo}
+use Rattle.rlp_reading.specs.{declared.error.DecoderError.DecoderError, declared.header.PayloadInfo.PayloadInfo, Views.View.{item_with_place, view_of}}
 use Rattle.rlp_reading.specs.Format.Framing.{framing, map_ok, total_len, value, HasHeader, IsFramedItem, frame, is_followed, is_longer, strict_fault}
 use Rattle.rlp_reading.specs.Format.Framing.{strict_fault_in, IsFramed, fault, fault_in, begins_as_list, items, IsCanonical}
 use Rattle.rlp_reading.specs.Views.View.{View, begins_as_data, data_size, value_length, view_header, view_value, item_by, item_count}
-use Rattle.rlp_reading.specs.Views.View.{item_with_place, view_of}
 use Rattle.rlp_reading.specs.{declared.error.DecoderError.TheVariants.{RlpIsTooBig, RlpExpectedToBeList, RlpIsTooShort}, Values.RawItem.view_frame}
 use Rattle.rlp_reading.proofs.{Lemmas.Frames.{frame_item, Frames, framing_is, framing_reads, encoding_framed, frame_nil}, Lemmas.Texts.value-front}
-use Rattle.rlp_reading.proofs.Lemmas.Views.{strict_fault-encoding}
-use Rattle.std.proofs.lemmas.List.{append_cancel_left}
 
 -- bytes that aren't framed have none
 pub front_value_fault : (b : List ℕ) (e : DecoderError) → framing b ≡ Err e → value b ≡ Err e

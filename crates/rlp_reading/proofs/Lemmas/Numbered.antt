@@ -4,12 +4,11 @@ use Rattle.std.proofs.Common.{length-drop, ◌⊎◌, ⊎_elim, true, false, ◌
 use Rattle.std.proofs.Common.{lt-ltb, le-ltb, length-append, ◌==◌, IfOk, MatchResult, append_assoc, append-nil, drop_at}
 use Rattle.std.proofs.{lemmas.List.{drop_all, drop-map, length-map}, lemmas.Bool.{cases_lt, cond-true, cond-false}, lemmas.Option.{slice_get-map, slice_get_past, slice_get-get_or}}
 use Rattle.std.specs.List.{slice_get, concat}
-use Rattle.rlp_reading.specs.declared.error.DecoderError.{DecoderError}
+use Rattle.rlp_reading.specs.{declared.error.DecoderError.{DecoderError}, Format.Skipping.{IsAfterItems}}
 use Rattle.rlp_reading.specs.Format.Framing.{frame, split, split_within, frame_and_more, items, payload, fault, framing, map_ok, value, begins_as_list}
 use Rattle.rlp_reading.specs.Format.Framing.{payload_in, rest, fault_of_some, strict_fault, strict_list_fault, unless, after_items, fault_in}
 use Rattle.rlp_reading.specs.Views.View.{View, item_views, item_count, item_with_place, item_by, item_at, list_fault, items_fault, strict_view_of}
 use Rattle.rlp_reading.specs.{declared.error.DecoderError.TheVariants.RlpExpectedToBeList, declared.header.PayloadInfo.PayloadInfo, Values.FieldPlace.IsAtPlace}
-use Rattle.rlp_reading.specs.Format.Skipping.{IsAfterItems}
 use Rattle.rlp_reading.proofs.{Lemmas.Views.passed, Lemmas.Skipping.after-all}
 use Rattle.std.proofs.{Common.take_all, Math.Seq.{drop-append-add, drop-nil}, lemmas.List.{drop-drop}, lemmas.Grind.{common_steps}}
 

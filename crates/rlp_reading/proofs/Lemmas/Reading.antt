@@ -1,11 +1,9 @@
 -- `header` gives the one header that stands at the front, and the fault where none does.
-use Rattle.std.proofs.Common.{◌≡◌, ℕ, suc, ◌+◌, ◌-◌, ◌^◌, ◌<◌, ◌≤◌, inl, inr, ⊎_elim, List, [], ◌∷◌, ◌++◌, length, take, get_or, refl, sym, ap}
-use Rattle.std.proofs.Common.{◌∙◌, subst, arith, Ok, Result, ◌==◌, leb, ltb}
-use Rattle.std.proofs.Common.{MatchResult, ◌≢◌, length-take-le, take-append-drop, drop, ltb-true, ltb-false, eqb-true, leb-false}
+use Rattle.std.proofs.{Common.{◌≡◌, ℕ, suc, ◌+◌, ◌-◌, ◌^◌, ◌<◌, ◌≤◌, inl, inr, ⊎_elim, List, [], ◌∷◌, ◌++◌, length, take, get_or, refl, sym, ap}, lemmas.Grind.{common_steps}}
+use Rattle.std.proofs.{Common.{◌∙◌, subst, arith, Ok, Result, ◌==◌, leb, ltb, MatchResult, ◌≢◌, length-take-le, take-append-drop, drop, ltb-true, ltb-false, eqb-true, leb-false}}
 use Rattle.std.proofs.{lemmas.Bool.Decides.nat_tests, lemmas.Bool.{cases_lt, cond_both, eqb-false}, Math.Nat.pow-le-pow_right}
 use Rattle.std.proofs.{lemmas.List.Elements.recursion_from_All, lemmas.Int.Digits.number_lt}
 use Rattle.std.specs.{List.AllByRecursion, Int.Digits.number_from_digits}
-use Rattle.std.proofs.lemmas.Grind.{common_steps}
 -- what a slice of `u8` holds, passed on
 pub use Rattle.rlp_format.proofs.Lemmas.Digits.{bytes_held}
 use Rattle.rlp_reading.specs.{declared.error.DecoderError.DecoderError, declared.header.PayloadInfo.PayloadInfo}

@@ -1,16 +1,13 @@
 -- The one string that bytes begin with.
-use Rattle.std.proofs.Common.{◌≡◌, ℕ, suc, ◌+◌, ◌-◌, ◌^◌, ◌<◌, ◌≤◌, ⊎_elim, Bool, false, if◌then◌else◌, ltb, leb, List}
-use Rattle.std.proofs.Common.{[], ◌∷◌, ◌++◌, length, take, drop, get_or, refl, sym, ap, ◌∙◌, subst, arith, Ok, Err, Result, MatchResult}
+use Rattle.std.proofs.{Common.{◌≡◌, ℕ, suc, ◌+◌, ◌-◌, ◌^◌, ◌<◌, ◌≤◌, ⊎_elim, Bool, false, if◌then◌else◌, ltb, leb, List}, lemmas.List.Elements.{recursion_from_All}}
+use Rattle.std.proofs.{Common.{[], ◌∷◌, ◌++◌, length, take, drop, get_or, refl, sym, ap, ◌∙◌, subst, arith, Ok, Err, Result, MatchResult}, lemmas.Grind.{common_steps}}
 use Rattle.std.proofs.Common.{lt-ltb, ltb-false, leb-false, length-append, length-take-le, append_assoc, take-append-drop}
 use Rattle.std.proofs.{Common.take_all, lemmas.Bool.{cases_Bool, cases_lt, cond_both, cond-true, cond-false}, lemmas.Bool.Decides.nat_tests}
-use Rattle.std.proofs.lemmas.List.Elements.{recursion_from_All}
 use Rattle.std.specs.{Bool.⊤, Int.Digits.number_from_digits}
-use Rattle.std.proofs.lemmas.Grind.{common_steps}
 use Rattle.rlp_format.specs.Format.Encoding.{string, written_header, AreBytes, encoding, string_encoding, is_low_byte}
 use Rattle.rlp_format.proofs.{Lemmas.Digits.{big_endian_first, big_endian_value}, Lemmas.Headers.{Parts, shape, written_header_short}}
 use Rattle.rlp_format.proofs.Lemmas.Encodings.{low_byte, small_payload, front_sized}
-use Rattle.rlp_reading.specs.{declared.error.DecoderError.{DecoderError}, declared.error.DecoderError.TheVariants.{RlpIsTooShort, RlpExpectedToBeData}}
-use Rattle.rlp_reading.specs.declared.error.DecoderError.TheVariants.{RlpDataLenWithZeroPrefix}
+use Rattle.rlp_reading.specs.{declared.error.DecoderError.{DecoderError}, declared.error.DecoderError.TheVariants.{RlpIsTooShort, RlpExpectedToBeData, RlpDataLenWithZeroPrefix}}
 use Rattle.rlp_reading.specs.declared.error.DecoderError.TheVariants.{RlpListLenWithZeroPrefix}
 use Rattle.rlp_reading.specs.Format.Framing.{IsString, ReadsString, short_string, long_value, long_string, read_string, short_string_fault}
 use Rattle.rlp_reading.specs.Format.Framing.{long_string_fault, string_fault, header, long_header, payload_info}

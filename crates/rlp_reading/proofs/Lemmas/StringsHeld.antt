@@ -1,10 +1,9 @@
 -- What a lenient or a strict view holds, and the string or the number that is read from it.
 use Rattle.std.proofs.Common.{◌≡◌, ℕ, zero, suc, ◌^◌, ◌<◌, ◌≤◌, ◌+◌, ◌-◌, ⊎_elim, Bool, true, false, IsTrue, if◌then◌else◌, ltb, List, [], ◌∷◌, ◌++◌, length}
 use Rattle.std.proofs.Common.{take, drop, get_or, refl, sym, ap, ◌∙◌, subst, arith, append-nil, length-append, length-take-le, take_all, take-append-drop}
-use Rattle.std.proofs.Common.{le-ltb, lt-ltb, Result, Ok, Err, MatchResult, IfErr, ◌≢◌, pos_of_ne-zero, replicate, Fits, w8}
+use Rattle.std.proofs.{Common.{le-ltb, lt-ltb, Result, Ok, Err, MatchResult, IfErr, ◌≢◌, pos_of_ne-zero, replicate, Fits, w8}, lemmas.Grind.{common_steps}}
 use Rattle.std.proofs.{lemmas.Bool.{cases_lt, cond-true, cond-false}, lemmas.List.Elements.All-from_recursion, lemmas.Int.Digits.length-digits_of-le}
 use Rattle.std.specs.Int.Digits.{number_from_digits}
-use Rattle.std.proofs.lemmas.Grind.{common_steps}
 use Rattle.rlp_format.specs.{Format.Encoding.{Item, string, AreBytes, written_header, encoding, is_low_byte, BeginsWith, IsSized, big_endian}, Values.Value.{FitsBytes}}
 use Rattle.rlp_format.proofs.{Lemmas.Encodings.{front_sized, string_cases}, Lemmas.Headers.written_header_short}
 use Rattle.rlp_format.proofs.Lemmas.Digits.{bytes_held, digits_fit, digits_again, big_endian_is, pow-bytes}

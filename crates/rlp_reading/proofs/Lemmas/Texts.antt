@@ -1,8 +1,7 @@
 -- The text and the depth of bytes, by those of their items.
 use Rattle.std.proofs.Common.{◌≡◌, ℕ, zero, suc, ◌+◌, ◌<◌, ◌≤◌, true, false, List, [], ◌∷◌, ◌++◌, length, take, drop, map, codes, refl, sym, ap, ◌∙◌}
-use Rattle.std.proofs.Common.{arith, Ok, Err, Result, length-take, length-drop, MatchResult, max}
+use Rattle.std.proofs.{Common.{arith, Ok, Err, Result, length-take, length-drop, MatchResult, max}, lemmas.List.{map-append, take-append-drop, take-append-le, drop-append-le}}
 use Rattle.std.proofs.{Common.{fold, subst, append-nil, ◌-◌, append_assoc, IsTrue, ◌↔◌, length-append}, lemmas.Bool.false≢true}
-use Rattle.std.proofs.lemmas.List.{map-append, take-append-drop, take-append-le, drop-append-le}
 use Rattle.std.specs.{Bool.⊤, List.AllByRecursion}
 use Rattle.std.proofs.{lemmas.Grind.{common_steps}, lemmas.Bool.Decides.{nat_tests}}
 use Rattle.rlp_format.specs.Format.Encoding.{Item, string, list, Items, no_items, item_and, items_from, listed, list_of, item_depth, items_depth, encoding}

@@ -6,8 +6,7 @@ use Rattle.std.specs.List.{concat}
 use Rattle.std.proofs.{lemmas.Grind.{common_steps}, lemmas.Bool.Decides.{nat_tests}}
 use Rattle.rlp_format.specs.Format.Encoding.{IsBase, Item, list_of, written_header, AreBytes, encoding, join, IsSized, BeginsWith, list, listed, string, is_list}
 use Rattle.rlp_format.proofs.{Lemmas.Encodings.{encoding_list, small_payload, front_sized, items_from-listed}, Lemmas.Headers.shape}
-use Rattle.rlp_reading.specs.Format.Framing.{written, IsFramed, value, split, begins_as_list, payload, items}
-use Rattle.rlp_reading.specs.{Format.Framing.{rest, HasHeader, strict_fault}}
+use Rattle.rlp_reading.specs.{Format.Framing.{written, IsFramed, value, split, begins_as_list, payload, items, rest, HasHeader, strict_fault}}
 use Rattle.rlp_reading.proofs.{Lemmas.Reading.{header_unique}, Lemmas.Frames.{walk, value_is, split_join, join_is, encoding_item, framing_is}}
 
 -- ---- the fault of a test

@@ -6,9 +6,8 @@ use Rattle.std.specs.List.{concat, slice_get, AllByRecursion}
 use Rattle.rlp_format.specs.Format.Encoding.{Item, list_of, AreBytes, encoding, IsSized, BeginsWith}
 use Rattle.rlp_format.proofs.Lemmas.Encodings.{front_sized}
 use Rattle.rlp_reading.specs.{declared.error.DecoderError.{DecoderError}, declared.error.DecoderError.TheVariants.{RlpExpectedToBeList, RlpIsTooShort}}
-use Rattle.rlp_reading.specs.declared.header.PayloadInfo.{PayloadInfo}
+use Rattle.rlp_reading.specs.{declared.header.PayloadInfo.{PayloadInfo}, Format.Framing.{strict_fault, strict_fault_in, strict_list_fault, HasHeader, header, fault}}
 use Rattle.rlp_reading.specs.Format.Framing.{framing, total_len, begins_as_list, items, payload, rest, split, fault_of_some, first_fault}
-use Rattle.rlp_reading.specs.Format.Framing.{strict_fault, strict_fault_in, strict_list_fault, HasHeader, header, fault}
 use Rattle.rlp_reading.specs.Views.View.{item_at, item_count, items_fault, strict_view_of, Holds, HoldsItem, View, item_views, list_fault}
 use Rattle.rlp_reading.proofs.Lemmas.Frames.{Frames, framing_reads, join_is, walk, encoding_item, framing_is, longer}
 use Rattle.rlp_reading.proofs.Lemmas.Views.{items_of_list, list_shape, payload_bytes, strict_fault-encoding, whole_by, payload_short}

@@ -1,20 +1,16 @@
 -- Bytes that are and aren't the encoding of an item within a depth, and their first fault.
 use Rattle.std.proofs.{lemmas.List.{drop-set-lt}, Common.{◌≡◌, ℕ, ◌-◌, ◌^◌, ◌<◌, ◌≤◌, ◌↔◌, Bool, true, false, List, [], ◌∷◌, ◌++◌, length, refl, sym, ap, ◌∙◌, subst}}
 use Rattle.std.proofs.{Common.{arith, append-nil, IsTrue, Some, None, ◌≢◌, Option}, lemmas.Bool.{cond-true, cond-false}}
-use Rattle.rlp_format.specs.Format.Encoding.{Item, Items, string, list, listed, list_of, item_depth, items_depth, encoding, join, IsSized}
-use Rattle.rlp_format.proofs.Lemmas.Encodings.{items_from-listed}
-use Rattle.rlp_reading.specs.{declared.error.DecoderError.{DecoderError}, Format.Framing.{begins_as_list, payload, split, IsCanonicalWithin, strict_fault, fault}}
+use Rattle.rlp_format.specs.{Format.Encoding.{Item, Items, string, list, listed, list_of, item_depth, items_depth, encoding, join, IsSized, item_and, no_items}}
+use Rattle.rlp_format.proofs.{Lemmas.Encodings.{items_from-listed, AllSized, list_written, parts_sized}}
+use Rattle.rlp_reading.specs.{declared.error.DecoderError.{DecoderError}, Format.Framing.{begins_as_list, payload, split, IsCanonicalWithin, strict_fault, fault, read_string}}
 use Rattle.rlp_reading.specs.{declared.error.DecoderError.TheVariants.RlpInvalidIndirection, declared.flat.TreeFault.TreeFault}
 use Rattle.rlp_reading.specs.declared.flat.TreeFault.TheVariants.{Decoding, TooDeep}
 use Rattle.rlp_reading.specs.Format.TreeFaults.{first_in, is_needless, payload_fault, needless_fault, tree_fault, walk_fault}
 use Rattle.rlp_reading.proofs.{Lemmas.Views.{payload_of_list, strict_fault-encoding}, Lemmas.Numbered.{split-nil, after_items-next}}
-use Rattle.rlp_reading.proofs.Lemmas.{Views.front_kind, WholeLists.whole_sized}
+use Rattle.rlp_reading.proofs.{Lemmas.{Views.front_kind, WholeLists.whole_sized, Frames.split_join, Strings.string_only}}
 use Rattle.std.proofs.{Common.{ltb, lt-ltb, Ok, Err}, lemmas.List.Elements.All-from_recursion}
 use Rattle.std.specs.List.{AllByRecursion}
-use Rattle.rlp_format.specs.Format.Encoding.{item_and, no_items}
-use Rattle.rlp_format.proofs.Lemmas.Encodings.{AllSized, list_written, parts_sized}
-use Rattle.rlp_reading.specs.Format.Framing.{read_string}
-use Rattle.rlp_reading.proofs.Lemmas.{Frames.split_join, Strings.string_only}
 
 pub not_whole : (b : List ℕ) (most : ℕ) (e : DecoderError) → length b < 2 ^ 64 → strict_fault b ≡ Some e → ¬ IsCanonicalWithin most b
 not_whole b most e fits some canonical = grind (arith, strict_fault-encoding)

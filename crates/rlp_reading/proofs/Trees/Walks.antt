@@ -1,21 +1,18 @@
 -- The walk over the items of a list, and the rows that it writes.
-use Rattle.rlp_reading.specs.Format.TreeFaults.{faulty, refused}
-use Rattle.rlp_reading.proofs.{Lemmas.Frames.item_some, Lemmas.Texts.framing-followed, Trees.Needless.{list_header, whole_item}}
+use Rattle.rlp_reading.specs.{Format.TreeFaults.{faulty, refused, is_needless}, Format.Flat.{IsFlat, flat_item, flat_rows, flat_rows_inside}}
+use Rattle.rlp_reading.proofs.{Lemmas.Frames.item_some, Lemmas.Texts.framing-followed, Trees.Needless.{list_header, whole_item}, Lemmas.Items.{encoding_same}}
 use Rattle.rlp_reading.proofs.Trees.Canonical.{walk_fault-deep, tree_fault-frame, needless_fault-none, needless_fault-some}
 use Rattle.std.proofs.Common.{◌≡◌, ℕ, ◌+◌, ◌≤◌, List, ◌++◌, length, take, drop, take-append-drop, sym, ap, ◌∙◌, subst, arith, append_assoc, length-append}
 use Rattle.std.proofs.Common.{◌^◌, ◌<◌, [], take_all, take_at, Result, Ok, Err, Some, None, IfErr, MatchResult, ◌≢◌, ◌-◌, true, false, ◌∷◌}
 use Rattle.std.proofs.{Common.{append-nil, length-take-le, length-drop}, lemmas.List.drop-drop, lemmas.Grind.{common_steps}}
 use Rattle.rlp_format.proofs.Lemmas.Encodings.{join_items_is}
-use Rattle.rlp_reading.proofs.Lemmas.Items.{encoding_same}
 use Rattle.rlp_format.specs.Format.Encoding.{Item, items_from, list_of, item_depth, items_depth, encoding, join}
 use Rattle.rlp_reading.specs.{Format.Walk.{Extends, IsWalked, IsNeverCanonical}, declared.flat.FlatItem.FlatItem, declared.flat.TreeFault.TreeFault}
-use Rattle.rlp_reading.specs.Format.Flat.{IsFlat, flat_item, flat_rows, flat_rows_inside}
 use Rattle.rlp_reading.specs.Format.Framing.{strict_fault, fault, value, begins_as_list, payload, split, IsCanonicalWithin}
 use Rattle.rlp_reading.specs.{Format.TreeFaults.{tree_fault, walk_fault, payload_fault, needless_fault}, declared.error.DecoderError.DecoderError}
 use Rattle.rlp_reading.specs.{declared.header.PayloadInfo.PayloadInfo, declared.flat.TreeFault.TheVariants.Decoding}
 use Rattle.rlp_reading.proofs.Trees.Canonical.{tree_fault-inside, payload_fault-item, payload_fault-next, payload_fault-none, payload_fault-stray}
 use Rattle.rlp_reading.proofs.{Trees.Canonical.{walk_fault-list, walk_fault-string}, Lemmas.Numbered.value-payload, Lemmas.Views.whole_by, Trees.Needless.{IsWhole, string_whole}}
-use Rattle.rlp_reading.specs.Format.TreeFaults.{is_needless}
 
 pub extends_both : {R : Type 0} (old mid new : List R) (n m : ℕ) (rows more : List R) → Extends old n rows mid → m ≡ n + length rows → Extends mid m more new
     → Extends old n (rows ++ more) new

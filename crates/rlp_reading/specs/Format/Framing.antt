@@ -1,10 +1,9 @@
 -- Where the items of bytes begin and end, and what is wrong where bytes are no item.
 use Rattle.std.specs.Prelude.{ℕ, ◌≡◌, ◌+◌, ◌-◌, ◌^◌, ◌<◌, Bool, ◌&&◌, if◌then◌else◌, ◌==◌, nat_lt, nat_le, List, [], ◌∷◌, ◌++◌, length, take, Result, Ok, Err}
 use Rattle.std.specs.{Prelude.{MatchResult, ◌≤◌, drop, zero, suc, true, false, All, slice_index, Option, Some, None}, Int.Digits.number_from_digits, List.{concat}}
-use Rattle.rlp_reading.specs.declared.error.DecoderError.{DecoderError}
+use Rattle.rlp_reading.specs.{declared.error.DecoderError.{DecoderError}, declared.error.DecoderError.TheVariants.RlpIsTooBig, declared.header.PayloadInfo.PayloadInfo}
 use Rattle.rlp_reading.specs.declared.error.DecoderError.TheVariants.{RlpIsTooShort, RlpDataLenWithZeroPrefix, RlpListLenWithZeroPrefix, RlpInvalidIndirection}
 use Rattle.rlp_reading.specs.declared.error.DecoderError.TheVariants.{RlpExpectedToBeData, RlpInconsistentLengthAndData, RlpInvalidLength, RlpExpectedToBeList}
-use Rattle.rlp_reading.specs.{declared.error.DecoderError.TheVariants.RlpIsTooBig, declared.header.PayloadInfo.PayloadInfo}
 use Rattle.rlp_format.specs.Format.Encoding.{written_header, IsBase, BeginsWith, encoding, is_low_byte, string, Item, item_depth}
 
 -- ---- the header that bytes begin with

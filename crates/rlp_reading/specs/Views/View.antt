@@ -3,8 +3,7 @@ use Rattle.std.specs.Prelude.{ℕ, ◌≡◌, ◌≤◌, ◌↔◌, ◌+◌, ◌
 use Rattle.std.specs.{Prelude.{nat_le, List, [], ◌∷◌, length, take, map, slice_index_or, Result, Ok, Err}, List.concat, Iterator.YieldsFirst}
 use Rattle.rlp_reading.specs.{declared.error.DecoderError.DecoderError, declared.error.DecoderError.TheVariants.RlpExpectedToBeList}
 use Rattle.rlp_reading.specs.{declared.header.PayloadInfo.PayloadInfo, declared.prototype.Prototype.Prototype}
-use Rattle.rlp_reading.specs.Format.Framing.{fault, framing, map_ok, value, begins_as_list, items, rest, read_string}
-use Rattle.rlp_reading.specs.Format.Framing.{strict_fault, strict_list_fault, unless, whole_string}
+use Rattle.rlp_reading.specs.{Format.Framing.{fault, framing, map_ok, value, begins_as_list, items, rest, read_string, strict_fault, strict_list_fault, unless, whole_string}}
 use Rattle.rlp_reading.specs.declared.prototype.Prototype.TheVariants as prototype
 use Rattle.rlp_format.specs.Format.Encoding.{Item, string, BeginsWith, encoding}
 

@@ -1,8 +1,7 @@
 // Keccak-f[1600] (FIPS 202, section 3), on 25 lanes of 64 bits.
 
 ghost use Rattle.std.specs.Prelude.{◌≡◌, ◌+◌, ◌*◌, ◌<◌};
-ghost use Rattle.rlp_records.specs.Complements.{masked, masked_by_pi};
-ghost use Rattle.rlp_records.specs.Keccak.{chi, iota, keccak_f, pi, rho, round, rounds, theta};
+ghost use Rattle.rlp_records.specs.{Complements.{masked, masked_by_pi}, Keccak.{chi, iota, keccak_f, pi, rho, round, rounds, theta}};
 
 // RC of each round.
 const ROUND_CONSTANTS: [u64; 24] = [

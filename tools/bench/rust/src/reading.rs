@@ -48,6 +48,7 @@ fn by_iter(rlp: &Rlp) -> Result<usize, DecoderError> {
     Ok(rlp.iter().map(|item| item.as_raw().len()).sum())
 }
 
+#[inline(never)]
 fn numbers_by_iter(rlp: &Rlp) -> Result<usize, DecoderError> {
     let mut sum: usize = 0;
     for item in rlp.iter() {

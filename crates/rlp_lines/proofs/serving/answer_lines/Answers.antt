@@ -1,5 +1,4 @@
-use Rattle.std.proofs.{Common.{◌++◌, [], Bool, take, subst, sym, append-nil, length-take, arith, rules, refl, ◌∙◌}, KnownBytes.Consumes-trans}
-use Rattle.std.proofs.lemmas.Result.{err_from_is_err_and}
+use Rattle.std.proofs.{Common.{◌++◌, [], Bool, take, subst, sym, append-nil, length-take, arith, rules, refl, ◌∙◌}, KnownBytes.Consumes-trans, lemmas.Result.{err_from_is_err_and}}
 use Rattle.std.specs.Io.KnownBytes.{Consumes}
 use Rattle.rlp_lines.proofs.ProgressLemmas.{Consumes-none, IsRunning-begin, IsRunning-more, RunLeaves-end, RunLeaves-stop}
 use Rattle.rlp_lines.proofs.serving.answer_lines.Goals as goal

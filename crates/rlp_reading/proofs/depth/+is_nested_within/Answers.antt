@@ -1,18 +1,25 @@
 use Rattle.std.proofs.Common.{◌++◌, ◌∷◌, [], ◌-◌, sym, arith, rules}
 use Rattle.rlp_reading.specs.{Views.Depth.depth}
-use Rattle.rlp_reading.proofs.Lemmas.Texts.{shallow-list, greatest-more, done-more}
-use Rattle.rlp_reading.proofs.Lemmas.Texts.{done-all}
+use Rattle.rlp_reading.proofs.Lemmas.Texts.{depth-string, done-all, done-more, greatest-more, shallow-list}
 use Rattle.rlp_reading.proofs.depth.+is_nested_within.Goals as goal
 
-pub loop-item-preserved : goal.loop-item-preserved
-unfolding depth
-loop-item-preserved t c = record {
-  done = c.loop-item.invariant.done ++ c.in-Ok.item.item.now ∷ [];
-  all = done-more c.loop-item.invariant.done _ c.loop-item.items.rest _ _ c.loop-item.invariant.all c.in-Ok.ensures.parts;
-  shallow = greatest-more c.loop-item.invariant.done c.in-Ok.item.item.now (c.args.limit - 1) c.loop-item.invariant.shallow (search rules);
+pub loop-others-preserved-in-Some : goal.loop-others-preserved-in-Some
+loop-others-preserved-in-Some t c = record {
+  done = c.loop-others.invariant.done ++ c.in-Some.field-0-0.now ∷ [];
+  all = done-more c.loop-others.invariant.done _ c.loop-others.rest.now _ _ c.loop-others.invariant.all c.in-Some.ensures.parts;
+  shallow = greatest-more c.loop-others.invariant.done c.in-Some.field-0-0.now (c.args.limit - 1) c.loop-others.invariant.shallow
+      (omega (arith, depth-string c.in-Some.field-0-0.now c.in-Some.ensures.string));
 }
 
-pub returns : goal.returns
-returns t c =
-    shallow-list c.args.framed.now.item.now _ c.args.limit c.loop-item.invariant.done (sym c.if-not-is_list.ensures) c.args.framed.now.reads (omega arith)
-    (done-all _ _ c.loop-item.items.rest c.loop-item.invariant.all c.in_default.ensures.parts) c.loop-item.invariant.shallow
+pub loop-others-preserved : goal.loop-others-preserved
+unfolding depth
+loop-others-preserved t c = record {
+  done = c.loop-others.invariant.done ++ c.in-Ok.item.item.now ∷ [];
+  all = done-more c.loop-others.invariant.done _ c.loop-others.rest.now _ _ c.loop-others.invariant.all c.in-Ok.ensures.parts;
+  shallow = greatest-more c.loop-others.invariant.done c.in-Ok.item.item.now (c.args.limit - 1) c.loop-others.invariant.shallow (search rules);
+}
+
+pub returns-in_default-first_framed : goal.returns-in_default-first_framed
+returns-in_default-first_framed t c =
+    shallow-list c.args.framed.now.item.now _ c.args.limit c.loop-others.invariant.done (sym c.if-not-is_list.ensures) c.args.framed.now.reads (omega arith)
+    (done-all _ _ c.loop-others.rest.now c.loop-others.invariant.all c.in_default-first_framed.ensures.parts) c.loop-others.invariant.shallow

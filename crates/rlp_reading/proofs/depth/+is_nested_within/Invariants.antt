@@ -6,12 +6,12 @@ abbrev pub decreases-is_nested_within : goal.decreases-is_nested_within
 decreases-is_nested_within l = l.limit
 
 -- the first items are within the limit, and the others are those of the rest
-abbrev pub invariant-loop-item : goal.invariant-loop-item
-invariant-loop-item l = record {
+abbrev pub invariant-loop-others : goal.invariant-loop-others
+invariant-loop-others l = record {
   done : List (List ℕ);
-  all : done ++ split l.items.rest ≡ items l.framed.item.now;
+  all : done ++ split l.rest ≡ items l.framed.item.now;
   shallow : greatest (map depth done) ≤ l.limit - 1;
 }
 
-abbrev pub decreases-loop-item : goal.decreases-loop-item
-decreases-loop-item l = length l.items.rest
+abbrev pub decreases-loop-others : goal.decreases-loop-others
+decreases-loop-others l = length l.rest

@@ -1,5 +1,4 @@
-use Rattle.std.proofs.Common.{rules, ◌≡◌, ◌↔◌, ◌⊎◌, inl, inr, refl, true, false, ⊎_elim, ℕ, List, Option, Some, None, IsNone, IsSome, subst, sym}
-use Rattle.std.proofs.Common.{Result, Ok, Err, IfErr}
+use Rattle.std.proofs.{Common.{rules, ◌≡◌, ◌↔◌, ◌⊎◌, inl, inr, refl, true, false, ⊎_elim, ℕ, List, Option, Some, None, IsNone, IsSome, subst, sym, Result, Ok, Err, IfErr}}
 use Rattle.rlp.specs.{Streams.Stream.Call, Streams.Described.FinishAs}
 use Rattle.rlp_tool.specs.{declared.building.BuildFault.BuildFault, Building.{AreJoined, DescribeItems, IsRefusal}, StreamCalls.calls_of}
 use Rattle.rlp_tool.proofs.alike.finish_alike.Goals as goal

@@ -1,8 +1,7 @@
 use Rattle.std.proofs.{Common.{rules, subst}, lemmas.Result.{IfOk-weaker, err_from_is_err_and}}
 use Rattle.rlp.specs.Streams.Stream.{initial_state}
 use Rattle.rlp_tool.specs.{Making.{AreMade}, StreamCalls.calls_of}
-use Rattle.rlp_tool.proofs.CallsLemmas.{all_taken, built, described_built, described_refused, joined_built, memory_refused, OnOk-all}
-use Rattle.rlp_tool.proofs.CallsLemmas.{all_made, one_fails}
+use Rattle.rlp_tool.proofs.{CallsLemmas.{all_taken, built, described_built, described_refused, joined_built, memory_refused, OnOk-all, all_made, one_fails}}
 use Rattle.rlp_tool.proofs.building.build.Goals as goal
 
 pub returns : goal.returns

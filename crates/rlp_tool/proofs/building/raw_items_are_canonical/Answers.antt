@@ -1,7 +1,6 @@
 use Rattle.std.proofs.Common.{arith, pos_of_ne-zero, rules}
-use Rattle.rlp_tool.proofs.RawLemmas.{first_item, not_empty, not_true, refuted}
+use Rattle.rlp_tool.proofs.{RawLemmas.{first_item, not_empty, not_true, refuted}, building.raw_items_are_canonical.Goals.{then-awaited-eq0-via-then-awaited-eq0}}
 use Rattle.rlp_tool.proofs.building.raw_items_are_canonical.Goals.{then-awaited-eq0-via-else-awaited-eq0+then-not-is_canonical}
-use Rattle.rlp_tool.proofs.building.raw_items_are_canonical.Goals.{then-awaited-eq0-via-then-awaited-eq0}
 use Rattle.rlp_tool.proofs.building.raw_items_are_canonical.Goals as goal
 
 pub returns-then-awaited-eq0 : goal.returns-then-awaited-eq0
