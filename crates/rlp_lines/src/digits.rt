@@ -6,7 +6,7 @@ ghost use Rattle.rlp_lines.specs.Digits.{digits_of, bytes_in, number_in, with_di
 use crate::decoding::{are_pairs, put_bytes};
 use rlp_format::hex_digits::put_digits;
 use std::alloc::{AllocError, Global};
-use std::str::from_utf8;
+use std::str::from_utf8_unchecked;
 
 /// The number of bytes that are printed at once as digits.
 const AT_ONCE: usize = 64;
@@ -72,7 +72,7 @@ pub fn read_number(text: &[u8]) -> Option<usize>
     Some(value)
 }
 
-/// Appends a few bytes in one piece, each as two digits.
+/// Appends a few bytes in one piece, each as two digits. Digits are ASCII, so they aren't tested.
 fn push_few(bytes: &[u8], out: &mut String) -> Result<(), AllocError>
     requires { length bytes.now ≤ 64 }
     ensures ok { OnOk result
@@ -82,10 +82,7 @@ fn push_few(bytes: &[u8], out: &mut String) -> Result<(), AllocError>
     let mut room = [0u8; 2 * AT_ONCE];
     let digits = &mut room[..2 * bytes.len()];
     put_digits(bytes, digits);
-    match from_utf8(digits) {
-        Ok(digits) => out.push_str(digits),
-        Err(_) => Err(AllocError),
-    }
+    out.push_str(unsafe { from_utf8_unchecked(digits) })
 }
 
 /// Appends each byte as two lower-case hexadecimal digits. Fails with `AllocError` if memory is
