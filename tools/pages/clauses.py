@@ -6,7 +6,7 @@ from functions import IMPL, block_of, functions_of
 from sources import closing_of
 from words import defines, text_of
 
-IMPORT = re.compile(r"ghost use Rattle\.(\w+)\.specs\.([\w.]+)\.\{([^}]*)\}")
+IMPORT = re.compile(r"ghost use Rattle\.(\w+)\.specs\.([^;{]*\{[^;]+\});")
 CLAUSE = re.compile(r"\b(?:requires|ensures\*?)\s*\w*\s*\{")
 PUBLIC = re.compile(r" *pub (?:const )?(?:extern \S+ )?fn ")
 MEMBER = re.compile(r"^ *ghost (?!use)\w+[^{]*\{", re.MULTILINE)
@@ -20,12 +20,35 @@ def block_at(text, begin):
     return text[begin : closing_of(text, begin)]
 
 
+def parts_of(group):
+    """The parts of a list with braces in it, cut at the commas outside the braces."""
+    depth, part = 0, ""
+    for character in group + ",":
+        depth += (character == "{") - (character == "}")
+        if character == "," and depth == 0:
+            yield part.strip()
+            part = ""
+        else:
+            part += character
+
+
+def words_in(path, rest):
+    """The words of an import, each with its module: `A.b`, `A.{b, c as d}` or `{A.{b, c}, B.d}`."""
+    module, brace, group = rest.partition("{")
+    if brace:
+        for part in parts_of(group[: group.rindex("}")]):
+            yield from words_in(path + module, part)
+    else:
+        module, _, word = (path + rest).rpartition(".")
+        yield module, word
+
+
 def imports_of(text, own):
     """The words that a source file imports from a crate's own definitions, each with its module."""
-    for crate, module, words in IMPORT.findall(text):
-        if crate in own and not any(part in DECLARED for part in module.split(".")):
-            for word in words.split(","):
-                name, _, alias = word.strip().partition(" as ")
+    for crate, rest in IMPORT.findall(text):
+        for module, word in words_in("", " ".join(rest.split())):
+            if crate in own and not any(part in DECLARED for part in module.split(".")):
+                name, _, alias = word.partition(" as ")
                 yield alias or name, name, crate, module
 
 
