@@ -47,6 +47,7 @@ pub use traits::{
 /// ```rust
 /// assert_eq!(rt; rlp::decode::<u64>(alloc, &[0x82, 0x01, 0x00])?, 256);
 /// ```
+#[inline(always)]
 pub fn decode<T: Decodable>(alloc: Global, bytes: &[u8]) -> Result<T, DecoderError>
     ensures value { IfOk result (λ x. Gives T.reading (view_of bytes.now) x) }
     ensures fault { IfErr result (λ e. Faults T.reading (view_of bytes.now) e

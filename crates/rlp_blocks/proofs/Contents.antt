@@ -3,9 +3,8 @@ use Rattle.std.proofs.Common.{ℕ, ⊎_elim, ◌&&◌, ◌*◌, ◌++◌, ◌+�
 use Rattle.std.proofs.{lemmas.Bool.Decides.nat_tests, lemmas.Slice.Eq.bytes_eq-Decides}
 use Rattle.std.specs.{Cmp.Lexicographic.slice_cmp, Ordering.{is_lt, nat_cmp}, Str.bytes_eq, Vec.vec_items}
 use Rattle.rlp_format.proofs.Lemmas.Encodings.{first_of_header, list_written, listed_from}
-use Rattle.rlp_reading.proofs.Lemmas.Items.{encoding_same}
+use Rattle.rlp_reading.proofs.{Lemmas.Items.{encoding_same}, GroupLaws.{groups_counted}}
 use Rattle.rlp.specs.{Format.Encoding.{IsSized, Item, Items, encoding, items_from, list, list_of, listed, string}, Values.Value.{all_items, items_if, number_item}}
-use Rattle.rlp_reading.proofs.GroupLaws.{groups_counted}
 use Rattle.rlp_records.specs.{Keccak.keccak256, OtherEnvelope.{IsOther, authorization_magic, is_other_type, other_type}}
 use Rattle.rlp_transactions.proofs.Signing.{one_meaning}
 use Rattle.rlp_transactions.specs.{LegacyTransaction.{chain_fields, legacy_transaction_fields}, Signing.{FitsSigning, Signable, a_transaction, an_authorization, signed_bytes}}

@@ -1,6 +1,5 @@
 -- The hashes of the items of a list, by the places of the items.
-use Rattle.std.proofs.Common.{◌≡◌, ℕ, ◌^◌, ◌<◌, ◌⊎◌, ◌∙◌, inl, inr, ap, sym, refl, true, List, [], ◌∷◌, ◌++◌, length, map, Result, Ok, Err}
-use Rattle.std.proofs.Common.{IfOk, IfErr, IsOkAnd, MatchResult}
+use Rattle.std.proofs.{Common.{◌≡◌, ℕ, ◌^◌, ◌<◌, ◌⊎◌, ◌∙◌, inl, inr, ap, sym, refl, true, List, [], ◌∷◌, ◌++◌, length, map, Result, Ok, Err, IfOk, IfErr, IsOkAnd, MatchResult}}
 use Rattle.std.specs.List.{AllByRecursion}
 use Rattle.rlp.specs.{DecoderError.DecoderError, DecoderError.TheVariants.OutOfMemory, Format.Encoding.{IsSized, Item, encoding, list_of}}
 use Rattle.rlp.specs.Views.View.{View, item_at, strict_view_of}

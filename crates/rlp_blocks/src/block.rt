@@ -3,8 +3,7 @@
 ghost use Rattle.std.specs.Prelude.{◌≡◌, ◌⊎◌, IfErr, IfOk, map};
 ghost use Rattle.rlp.specs.{DecoderError.TheVariants.OutOfMemory, Format.Encoding.encoding, Views.View.strict_view_of};
 ghost use Rattle.rlp_reading.specs.Form.{Faults};
-ghost use Rattle.rlp_records.specs.Alone.{bytes_alone};
-ghost use Rattle.rlp_records.specs.Hashing.{AreHashesOf, IsHashOf};
+ghost use Rattle.rlp_records.specs.{Alone.{bytes_alone}, Hashing.{AreHashesOf, IsHashOf}};
 ghost use Rattle.rlp_headers.specs.Header.{header};
 ghost use Rattle.rlp_transactions.specs.Transaction.{any_transaction};
 ghost use Rattle.rlp_blocks.specs.{Block.{block, body}, declared.block.Block.Block, declared.block.Body.Body};

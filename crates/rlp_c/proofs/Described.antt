@@ -1,8 +1,7 @@
 -- The rows of a tree describe it.
 use Rattle.std.proofs.Common.{◌≡◌, ℕ, ◌+◌, ◌-◌, ◌<◌, ◌≤◌, List, [], ◌++◌, length, take, drop, refl, sym, ap, ◌∙◌, subst, arith, true, false}
 use Rattle.std.proofs.{Common.{append-nil, append_assoc, length-append, take_at, drop_at}, lemmas.Bool.cases_Bool}
-use Rattle.rlp_format.specs.Format.Encoding.{Item, string, list, Items, no_items, item_and, item_depth, items_depth, encoding, join_items}
-use Rattle.rlp_format.specs.Format.Encoding.{written_header}
+use Rattle.rlp_format.specs.{Format.Encoding.{Item, string, list, Items, no_items, item_and, item_depth, items_depth, encoding, join_items, written_header}}
 use Rattle.rlp_c.specs.{declared.item.RlpItem.RlpItem, Rows.{flat, flat_items, row_of}, Tree.{AreRows, DescribeTree, item_of, items_of, tree_of}}
 use Rattle.rlp_reading.specs.Format.Flat.{flat_item, flat_rows, header_length}
 use Rattle.rlp_reading.proofs.Trees.Needless.{high_written, low_again}

@@ -4,8 +4,7 @@ use Rattle.std.proofs.{Common.{append-nil, append_assoc, length-append}, lemmas.
 use Rattle.std.proofs.lemmas.List.{drop_at, get_or-replicate, get_or-set_other, get_or-set_same, length-replicate, length-set, length-take-le, take-append-drop, take-append-le, take-take, take_all, take_more}
 use Rattle.rlp_format.specs.Format.Encoding.{encoding}
 use Rattle.rlp_c.specs.{declared.item.RlpItem.RlpItem, Tree.{AreRows, DescribeTree, depth_behind, front_of, item_of, items_of, tree_of}}
-use Rattle.rlp_c.proofs.Trees.{behind-most, encoding-front, level, level-behind, level-deeper, level-here}
-use Rattle.rlp_c.proofs.Trees.{level-inside, level-within, rows-longer, rows-tree, rows_encoding}
+use Rattle.rlp_c.proofs.{Trees.{behind-most, encoding-front, level, level-behind, level-deeper, level-here, level-inside, level-within, rows-longer, rows-tree, rows_encoding}}
 
 -- What is written for the last rows stands in front of this end, if the array reaches it, and all else is as it was. The sizes are those of the rows' items by depth.
 pub record IsWriting (b : List ℕ) (items rest : List RlpItem) (sizes old : List ℕ) (end place : ℕ) (new : List ℕ) : Type 0 where

@@ -10,10 +10,9 @@ use Rattle.rlp_reading.proofs.{Lemmas.Views.list_shape, Lemmas.WholeLists.{stric
 use Rattle.rlp.specs.Codec.{truth_value}
 use Rattle.rlp_records.specs.{Alone.{bytes_alone, unknown_type}, Eip2718.{type_of, typed_alone}}
 use Rattle.rlp_transactions.specs.{declared.transaction.Transaction.{Transaction}, AccessListTransaction.{access_list_transaction_fields, signed_access_list_transaction}}
-use Rattle.rlp_transactions.specs.BlobTransaction.{blob_transaction_fields, signed_blob_transaction}
+use Rattle.rlp_transactions.specs.{BlobTransaction.{blob_transaction_fields, signed_blob_transaction}, Transaction.{transaction, transaction_types}}
 use Rattle.rlp_transactions.specs.{FeeMarketTransaction.{fee_market_transaction_fields, signed_fee_market_transaction}, LegacyTransaction.{signed_legacy_transaction_fields}}
 use Rattle.rlp_transactions.specs.{SetCodeTransaction.{set_code_transaction_fields, signed_set_code_transaction}, Signed.signed_fields}
-use Rattle.rlp_transactions.specs.Transaction.{transaction, transaction_types}
 use Rattle.rlp_transactions.specs.declared.transaction.Transaction.TheVariants.{AccessList as of_access_list, Blob as of_blob, FeeMarket as of_fee_market}
 use Rattle.rlp_transactions.specs.declared.transaction.Transaction.TheVariants.{Legacy as of_legacy, SetCode as of_set_code}
 use Rattle.rlp_records.proofs.TypedSums.{typed_strings}

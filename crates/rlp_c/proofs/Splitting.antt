@@ -1,10 +1,9 @@
 -- The walk over the items of one list.
 use Rattle.std.proofs.Common.{◌≡◌, ℕ, ◌+◌, ◌-◌, ◌^◌, ◌<◌, ◌≤◌, ◌⊎◌, inl, inr, suc, true, List, [], ◌∷◌, ◌++◌, length, drop, refl, sym, ap, ◌∙◌, subst}
 use Rattle.std.proofs.Common.{arith, Ok, Some, None, append-nil, append_assoc, length-append}
-use Rattle.rlp_reading.specs.{declared.error.DecoderError.DecoderError, declared.header.PayloadInfo.PayloadInfo}
+use Rattle.rlp_reading.specs.{declared.error.DecoderError.DecoderError, declared.header.PayloadInfo.PayloadInfo, declared.flat.TreeFault.TreeFault, Format.TreeFaults.tree_fault}
 use Rattle.rlp_reading.specs.Format.Framing.{IsFramedItem, fault, framing, value, begins_as_list, split, after_items, fault_of_some, strict_fault}
 use Rattle.rlp_reading.specs.{Format.Framing.{strict_list_fault, IsCanonicalWithin}, Format.Walk.{Extends, IsWalked}}
-use Rattle.rlp_reading.specs.{declared.flat.TreeFault.TreeFault, Format.TreeFaults.tree_fault}
 use Rattle.rlp_reading.proofs.Lemmas.Numbered.{split-nil, after_items-next, after_items-nil, after_items-none, fault_of_some-some, some_bytes}
 use Rattle.rlp_reading.proofs.{Lemmas.Numbered.{strict_not_begun, strict_not_whole, strict_whole, value-items}, Trees.Needless.whole_item}
 use Rattle.rlp_reading.proofs.Trees.Walks.{extends_both, extends_start, content_payload}

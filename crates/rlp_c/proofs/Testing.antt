@@ -1,9 +1,8 @@
 -- Tests that keep nothing have the faults of the codecs.
 use Rattle.std.proofs.Common.{◌≡◌, ℕ, ◌+◌, ◌<◌, ◌^◌, Bool, true, false, List, [], ◌∷◌, length, None, Some, Result, Ok, Err, refl, ap, arith}
 use Rattle.std.specs.{Bool.⊤, List.slice_get}
-use Rattle.rlp_reading.specs.{Format.Framing.{payload, strict_list_fault}, Views.View.{View, item_views, strict_view_of}}
+use Rattle.rlp_reading.specs.{Format.Framing.{payload, strict_list_fault}, Views.View.{View, item_views, strict_view_of}, Form.{map_answer, map_taken, struct_reading}}
 use Rattle.rlp_reading.specs.Form.{Answer, Fault, FieldsReading, Path, Taken, all_taken, go_on, if_possible, in_list}
-use Rattle.rlp_reading.specs.Form.{map_answer, map_taken, struct_reading}
 use Rattle.rlp_reading.proofs.{Lemmas.Numbered.{length-item_views, length-split, counted_told, told_whole}, Lemmas.Views.payload_short}
 use Rattle.rlp_c.specs.{Fields.{number_of, numbered}, Forgotten.forgotten}
 

@@ -1,9 +1,8 @@
 -- What bytes give as a record, read by the codecs of `rlp_transactions` and `rlp_headers`, and which item has a fault.
 use Rattle.std.specs.Prelude.{ℕ, ◌+◌, ⊤, [], ◌∷◌, Result}
 use Rattle.rlp_reading.specs.{Views.View.View, Form.{Answer, Fault, Path, map_fault, map_value}}
-use Rattle.rlp_transactions.specs.{AccessListTransaction.signed_access_list_transaction, BlobTransaction.signed_blob_transaction}
+use Rattle.rlp_transactions.specs.{AccessListTransaction.signed_access_list_transaction, BlobTransaction.signed_blob_transaction, SetCodeTransaction.{signed_set_code_transaction}}
 use Rattle.rlp_transactions.specs.{FeeMarketTransaction.signed_fee_market_transaction, LegacyTransaction.signed_legacy_transaction}
-use Rattle.rlp_transactions.specs.SetCodeTransaction.{signed_set_code_transaction}
 use Rattle.rlp_headers.specs.Header.{header}
 use Rattle.rlp_c.specs.declared.records.fields.Record.{Record}
 use Rattle.rlp_c.specs.declared.records.fields.Record.TheVariants.{Legacy, AccessListPayload, FeeMarketPayload, BlobPayload, SetCodePayload, Header}

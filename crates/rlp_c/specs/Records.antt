@@ -3,9 +3,8 @@ use Rattle.std.specs.Prelude.{ℕ, ◌≡◌, ◌+◌, ◌&&◌, ◌==◌, if◌
 use Rattle.rlp_reading.specs.{Format.Framing.{begins_as_list, items}, Form.{Fault, custom, is_too_short}}
 use Rattle.rlp_records.specs.{Alone.unknown_type, Eip2718.typed_alone}
 use Rattle.rlp_transactions.specs.Transaction.{transaction_types}
-use Rattle.rlp_c.specs.{declared.item.RlpItem.RlpItem, declared.records.fields.Record.Record}
+use Rattle.rlp_c.specs.{declared.item.RlpItem.RlpItem, declared.records.fields.Record.Record, Fields.numbered, Rows.ArePlaced, Status.fault_number}
 use Rattle.rlp_c.specs.declared.records.fields.Record.TheVariants.{Legacy, AccessListPayload, FeeMarketPayload, BlobPayload, SetCodePayload, Header}
-use Rattle.rlp_c.specs.{Fields.numbered, Rows.ArePlaced, Status.fault_number}
 
 -- the most fields that a record has
 abbrev pub most_fields : Record → ℕ

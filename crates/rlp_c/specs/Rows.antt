@@ -1,6 +1,5 @@
 -- What C sees of items.
-use Rattle.std.specs.Prelude.{ℕ, ◌≡◌, ◌+◌, ◌<◌, ◌≤◌, ◌⊎◌, Bool, false, List, [], ◌∷◌, ◌++◌, length, take, drop, Option, Some, None, Result, Ok, Err}
-use Rattle.std.specs.Prelude.{MatchResult}
+use Rattle.std.specs.{Prelude.{ℕ, ◌≡◌, ◌+◌, ◌<◌, ◌≤◌, ◌⊎◌, Bool, false, List, [], ◌∷◌, ◌++◌, length, take, drop, Option, Some, None, Result, Ok, Err, MatchResult}}
 use Rattle.rlp_reading.specs.{declared.error.DecoderError.DecoderError, declared.header.PayloadInfo.PayloadInfo}
 use Rattle.rlp_reading.specs.{Format.Framing.{framing, begins_as_list, items, IsCanonicalWithin}, declared.flat.FlatItem.FlatItem}
 use Rattle.rlp_reading.specs.{declared.flat.TreeFault.TreeFault, Format.Flat.{flat_rows, flat_rows_inside}, Format.TreeFaults.tree_fault}

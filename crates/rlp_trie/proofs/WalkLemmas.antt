@@ -2,18 +2,16 @@
 use Rattle.std.proofs.Common.{ℕ, ⊎_elim, ◌<◌, ◌^◌, ◌∙◌, ◌∷◌, ◌≡◌, ◌⊎◌, Bool, Err, IfOk, List, Ok, Option, Result, [], ap, arith, false, if◌then◌else◌, inl, inr, length, map, refl, subst, sym, true}
 use Rattle.std.proofs.{lemmas.List.Elements.Contains-append_right, lemmas.Slice.Eq.bytes_eq-Decides}
 use Rattle.std.specs.{Global.Vec, Prelude.{Contains, option_map}, Str.bytes_eq, Vec.vec_items}
-use Rattle.rlp_reading.proofs.Lemmas.Items.{encoding_same}
+use Rattle.rlp_reading.proofs.{Lemmas.Items.{encoding_same}, Corollaries.{not_both}, RawLaws.{string_kind}}
 use Rattle.rlp.specs.{DecoderError.DecoderError, Form.Faults, Format.Encoding.{Item, encoding, list, string}, Format.Framing.begins_as_list}
 use Rattle.rlp.specs.{Values.RawItem.raw_item_of, Views.View.strict_view_of}
-use Rattle.rlp_reading.proofs.{Corollaries.{not_both}, RawLaws.{string_kind}}
 use Rattle.rlp_records.specs.Keccak.{keccak256}
 use Rattle.rlp_trie.proofs.StepLemmas.{same_step, step_rest}
-use Rattle.rlp_trie.specs.{Child.child_item, EmptyStringLaws.empty_string, HexPrefix.AreNibbles}
+use Rattle.rlp_trie.specs.{Child.child_item, EmptyStringLaws.empty_string, HexPrefix.AreNibbles, declared.trie_node.TrieNode.{TrieNode}}
 use Rattle.rlp_trie.specs.{Lookup.{Encodes, HasValue, StandsFor, by_hash, ends, ends_here, goes, in_parent, leads_on, step}, Next.{Agrees, IsEnd, read_fault}}
 use Rattle.rlp_trie.specs.ProofWalk.{IsKnown, IsNoNode, IsSameKind, IsUnread, TakesNode, Walk, ends_at_last, ends_early, next_node, next_unread, no_next, stops, unread, walks_on}
 use Rattle.rlp_trie.specs.{TrieNode.node_item, TrieNodeLaws.trie_node, declared.child.Child.Child, declared.inline_node.InlineNode.InlineNode}
 use Rattle.rlp_trie.specs.{declared.proof.ProofFault.{ProofFault}, declared.proof.ProofFault.TheVariants.{FaultyNode, MissingNode, NodesLeft, OtherHash, OutOfMemory}}
-use Rattle.rlp_trie.specs.declared.trie_node.TrieNode.{TrieNode}
 use Rattle.rlp.specs.DecoderError.TheVariants as decoder
 use Rattle.rlp_trie.specs.declared.child.Child.TheVariants as child
 

@@ -8,10 +8,9 @@ use Rattle.rlp_reading.proofs.{Lemmas.StringsHeld.{held_only}, RawLaws.{ReadsIte
 use Rattle.rlp_reading.specs.FirstItems.{item_type}
 use Rattle.rlp_records.proofs.Alone.{result_same}
 use Rattle.rlp_trie.specs.{BranchChild.is_empty_string, Child.child_item, EmptyStringLaws.{empty_found, empty_only, other_item}, HexPrefix.is_leaf_flag}
-use Rattle.rlp_trie.specs.Trie.{branch, branch_fields, extension, extension_fields, leaf, leaf_fields}
+use Rattle.rlp_trie.specs.{Trie.{branch, branch_fields, extension, extension_fields, leaf, leaf_fields}, declared.trie_node.TrieNode.{TrieNode}}
 use Rattle.rlp_trie.specs.TrieNode.{IsTrieNode, SeenNode, begins_as_leaf, is_leaf_item, is_leaf_string, list_of_len, node_item, node_of, seen_node, written_node}
 use Rattle.rlp_trie.specs.{declared.branch.Branch.Branch, declared.leaf.Extension.Extension, declared.leaf.Leaf.Leaf, declared.path.Path.Path}
-use Rattle.rlp_trie.specs.declared.trie_node.TrieNode.{TrieNode}
 use Rattle.rlp_trie.specs.declared.trie_node.TrieNode.TheVariants as node
 
 -- ---- what is written is read

@@ -154,7 +154,7 @@ fn number_digits(bytes: &[u8], is_strict: bool, width: usize) -> Result<&[u8], D
         and_then (string_of (record { bytes = bytes.now; is_strict = is_strict })) (number_of width)
         ≡ Err (fault_of e)) }
 {
-    let digits = Rlp::of_kind(bytes, is_strict).decoder().string()?;
+    let digits = Rlp::of_kind(bytes, is_strict).decoder().string_in_line()?;
     check_digits(digits, width)?;
     Ok(digits)
 }

@@ -16,7 +16,7 @@ impl Decodable for Vec<u8> {
 
     #[inline(always)]
     fn decode(alloc: Global, rlp: &Rlp<'_>) -> Result<Vec<u8>, DecoderError> {
-        let string = rlp.decoder().string()?;
+        let string = rlp.decoder().string_in_line()?;
         Ok(Vec::from_slice(alloc, string)?)
     }
 }
@@ -112,7 +112,7 @@ impl Decodable for String {
 
     #[tactic(auto, using(rlp_reading::proofs::StringLaws::texts))]
     fn decode(alloc: Global, rlp: &Rlp<'_>) -> Result<String, DecoderError> {
-        let string = rlp.decoder().string()?;
+        let string = rlp.decoder().string_in_line()?;
         let Ok(text) = str::from_utf8(string) else {
             return Err(DecoderError::RlpExpectedToBeData);
         };

@@ -83,8 +83,21 @@ impl<'a> BasicDecoder<'a> {
     /// let decoder = rlp::BasicDecoder::new(&[0x83, b'c', b'a', b't']);
     /// assert_eq!(rt; decoder.string()?, b"cat".as_slice());
     /// ```
-    #[inline(always)]
     pub fn string(&self) -> Result<&'a [u8], DecoderError>
+        ensures exact { MatchResult result (λ d. view_string self.now ≡ Ok d.now)
+            (λ e. view_string self.now ≡ Err e) }
+        ensures held { MatchResult (view_string self.now) (λ d. HoldsString self.now d)
+            (λ _. HoldsNoString self.now) }
+    {
+        match self.rlp.known_string() {
+            Some(string) => Ok(string),
+            None => self.read_string(),
+        }
+    }
+
+    /// The same as [`BasicDecoder::string`]. A string with a header of one byte is read in line.
+    #[inline(always)]
+    pub(crate) fn string_in_line(&self) -> Result<&'a [u8], DecoderError>
         ensures exact { MatchResult result (λ d. view_string self.now ≡ Ok d.now)
             (λ e. view_string self.now ≡ Err e) }
         ensures held { MatchResult (view_string self.now) (λ d. HoldsString self.now d)

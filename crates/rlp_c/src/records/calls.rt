@@ -7,8 +7,7 @@ ghost use Rattle.rlp_records.specs.{Alone.bytes_alone, Eip2718.type_of};
 ghost use Rattle.rlp_transactions.specs.{Transaction.{transaction, transaction_types}, declared.transaction.Transaction.Transaction};
 ghost use Rattle.rlp_headers.specs.Header.{header};
 ghost use Rattle.rlp_headers.specs.declared.header.Header.{Header as BlockHeader};
-ghost use Rattle.rlp_c.specs.{declared.records.fields.Record.TheVariants.Header, Fields.{numbered, record_result}};
-ghost use Rattle.rlp_c.specs.Places.{IsFound, fields_in, fields_of, place_of};
+ghost use Rattle.rlp_c.specs.{declared.records.fields.Record.TheVariants.Header, Fields.{numbered, record_result}, Places.{IsFound, fields_in, fields_of, place_of}};
 ghost use Rattle.rlp_c.specs.{Records.{IsRecordRead, IsTransactionRead, faulty_field, most_fields, record_of_type, transaction_result}, Rows.ArePlaced};
 
 use super::fields::{Record, check_record, most_fields};

@@ -1,6 +1,5 @@
 use Rattle.std.proofs.{Common.{arith, refl, subst}, lemmas.List.nil_from_length}
-use Rattle.rlp_c.proofs.Measuring.{IsWriting, all_placed, all_written, last_is, last_row, next_low, next_within, rows_before, size_fits, too_long}
-use Rattle.rlp_c.proofs.Measuring.{writing_none, writing_one}
+use Rattle.rlp_c.proofs.{Measuring.{IsWriting, all_placed, all_written, last_is, last_row, next_low, next_within, rows_before, size_fits, too_long, writing_none, writing_one}}
 use Rattle.rlp_c.proofs.tree.write_tree.Goals as goal
 
 pub loop-rest-init : goal.loop-rest-init
