@@ -110,6 +110,7 @@ impl StrictRead for BytesMut {
 impl Decodable for String {
     ghost reading = { (text string_bytes).reading };
 
+    #[inline(always)]
     #[tactic(auto, using(rlp_reading::proofs::StringLaws::texts))]
     fn decode(alloc: Global, rlp: &Rlp<'_>) -> Result<String, DecoderError> {
         let string = rlp.decoder().string_in_line()?;
