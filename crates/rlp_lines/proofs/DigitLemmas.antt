@@ -1,13 +1,13 @@
 -- Numbers and bytes as digits.
-use Rattle.std.proofs.{Common.{◌≡◌, ◌≢◌, ℕ, ◌+◌, ◌*◌, ◌%◌, ◌^◌, ◌<◌, ◌≤◌, ◌&&◌, Bool, true, false, cond, nat_eq, nat_lt, IsTrue}, lemmas.List.Folds.{list_all_at}, lemmas.Str.{IsUtf8-from_ascii}, lemmas.Str.Ascii.{IsAscii-from_all}, lemmas.List.Elements.{All-from_recursion}}
+use Rattle.std.proofs.{Common.{◌≡◌, ◌≢◌, ℕ, ◌+◌, ◌*◌, ◌%◌, ◌^◌, ◌<◌, ◌≤◌, ◌&&◌, Bool, true, false, cond, nat_eq, nat_lt, IsTrue}, lemmas.List.Folds.{list_all_at}, lemmas.Str.{IsUtf8-from_ascii}}
 use Rattle.std.proofs.Common.{List, [], ◌∷◌, ◌++◌, length, take, drop, Option, Some, None, Result, Ok, Err, refl, subst, sym, ap, ◌∙◌, append_assoc}
 use Rattle.std.proofs.{Common.{arith, take-add, take-append-drop, zero, suc, get_or, slice_index, slice_index_or, ◌/◌, rules, IsUtf8}, lemmas.Bool.Decides.nat_tests}
 use Rattle.std.specs.{Simd.{first_chunks}, List.list_all, Char.{digit_value, is_ascii_digit}, Str.Parse.digits_value_after, Option.IsSomeAnd, Result.result_ok}
 use Rattle.std.proofs.{lemmas.List.Sums.{AllPass-from_list_all, list_all-from_AllPass}, lemmas.List.{append-nil, drop-drop, drop_all}}
-use Rattle.rlp_format.proofs.HexDigits.{digits_append}
+use Rattle.rlp_format.proofs.HexDigits.{digits_append, digits_are_ascii}
 use Rattle.hex.specs.Hex.{encode_with, encode_lower, lower_digits, decode_of, decode_pairs, digit_or_error, hex_digit_value, is_hex_digit, pair_value}
 use Rattle.hex.specs.declared.error.FromHexError.{FromHexError}
-use Rattle.hex.proofs.{Pairs.{drop-pair, prepend}, HexLemmas.{decode_of-ok, decode_of-digits, decode_of-odd, IsAscii-encode_with}}
+use Rattle.hex.proofs.{Pairs.{drop-pair, prepend}, HexLemmas.{decode_of-ok, decode_of-digits, decode_of-odd}}
 use Rattle.rlp_lines.specs.Digits.{with_digit}
 
 -- the number that digits write when they follow those of n
@@ -110,8 +110,7 @@ read-no_digits digits other = refused_by digits (decode_of digits) refl other
 
 -- digits are text
 pub digits_are_text : (bytes digits : List ℕ) → digits ≡ encode_lower bytes → IsUtf8 digits
-digits_are_text bytes digits is = subst IsUtf8 (sym is) (IsUtf8-from_ascii (encode_lower bytes) (IsAscii-encode_with lower_digits bytes
-    (IsAscii-from_all lower_digits (All-from_recursion (λ d. d < 128) lower_digits (search rules)))))
+digits_are_text bytes digits is = subst IsUtf8 (sym is) (IsUtf8-from_ascii (encode_lower bytes) (digits_are_ascii bytes))
 
 pub printed-none : (old bytes : List ℕ) → old ≡ old ++ encode_lower (take 0 bytes)
 unfolding encode_with

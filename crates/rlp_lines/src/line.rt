@@ -96,7 +96,7 @@ impl Line {
         out.push_str(self.reply.as_str())
     }
 
-    /// Appends the reply to a whole line, which isn't kept before. No line may have begun.
+    /// Appends the reply to a whole line, which isn't kept before.
     #[tactic(auto, unfolding(crate::specs::Replies::answer_by))]
     fn reply_to<A: LineAnswers>(
         &mut self,

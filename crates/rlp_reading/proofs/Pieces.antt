@@ -1,9 +1,21 @@
 -- Text that is put and written in pieces.
-use Rattle.std.proofs.{Common.{◌≡◌, ℕ, List, [], ◌++◌, sym, ap, ◌∙◌, append_assoc}, Output.{has_written_styled_append, has_written_styled_nil, has_written_styled_of_eq}}
+use Rattle.std.proofs.{Common.{◌≡◌, ◌≤◌, ◌+◌, ℕ, List, [], ◌++◌, length, take, sym, subst, ap, ◌∙◌, append_assoc, IsAscii, IsUtf8}, lemmas.Str.{IsAscii-append, IsUtf8-from_ascii}, lemmas.Slice.{take-put_mid}, Output.{has_written_styled_append, has_written_styled_nil, has_written_styled_of_eq}}
+use borrow.Rule.Slice.PartMut.{put_mid}
 use Rattle.std.specs.{Fmt.{HasWrittenStyled, IsFlush}, declared.fmt.Formatter.Formatter}
 use Rattle.rlp_reading.specs.Views.Buffered.{HasPut}
-use Rattle.rlp_format.proofs.HexDigits.{digits_append}
+use Rattle.hex.specs.Hex.{encode_lower}
+use Rattle.rlp_format.proofs.HexDigits.{digits_append, digits_are_ascii}
 use Rattle.rlp_reading.proofs.Lemmas.Texts.{items-list, length-framed, length-some, text-fault, text-followed, text-null, text-string}
+
+-- ASCII is text
+pub ascii_is_text : (bytes : List ℕ) → IsAscii bytes → IsUtf8 bytes
+ascii_is_text = IsUtf8-from_ascii
+
+-- and with digits after it
+pub ascii_and_digits : (room bytes digits : List ℕ) (len k n : ℕ) → IsAscii (take len room) → digits ≡ encode_lower bytes → n ≡ len + length digits
+    → len ≤ length room → IsAscii (take n (put_mid len k room digits))
+ascii_and_digits room bytes digits len k n front is end fits = subst IsAscii (sym (take-put_mid len k room digits n end fits))
+    (IsAscii-append (take len room) digits front (subst IsAscii (sym is) (digits_are_ascii bytes)))
 
 module _ {W : Type 0} (took : W → List ℕ → W → Type 0) where
   -- two pieces are one text

@@ -1,5 +1,5 @@
 -- Types that are read from the whole first item of a view, and raw items: they are read back, and from nothing else.
-use Rattle.std.proofs.Common.{if◌then◌else◌, ◌≡◌, ◌≤◌, ◌<◌, ◌^◌, ℕ, zero, suc, Bool, true, false, List, [], ◌∷◌, ◌++◌, length, map, refl, sym, ap, ◌∙◌, subst, arith}
+use Rattle.std.proofs.Common.{◌≡◌, ◌≤◌, ◌<◌, ◌^◌, ℕ, zero, suc, Bool, true, false, List, [], ◌∷◌, ◌++◌, length, map, refl, sym, ap, ◌∙◌, subst, arith}
 use Rattle.std.proofs.Common.{append-nil, Result, Ok, Err, ◌↔◌, ltb, take, drop, codes, length-append, take_all, take-append-drop, le-ltb}
 use Rattle.std.proofs.{Common.{lt-ltb, Option, Some, None}, lemmas.Bool.{cond-true, cond-false}, lemmas.Slice.Eq.bytes_eq-Decides}
 use Rattle.std.proofs.lemmas.List.Elements.{All-from_recursion, recursion_from_All}

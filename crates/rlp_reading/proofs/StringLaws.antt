@@ -1,5 +1,5 @@
 -- Types that are written as one string.
-use Rattle.std.proofs.Common.{if◌then◌else◌, ◌≡◌, ℕ, ◌^◌, ◌<◌, ◌≤◌, Bool, true, false, List, [], ◌∷◌, length, get_or, ap}
+use Rattle.std.proofs.Common.{◌≡◌, ℕ, ◌^◌, ◌<◌, ◌≤◌, Bool, true, false, List, [], ◌∷◌, length, get_or, ap}
 use Rattle.std.proofs.{Common.{◌∙◌, subst, ◌≢◌, Fits, w8, arith, Result, Ok, Err, IsUtf8, pos_of_ne-zero, ◌↔◌}, lemmas.List.Elements.{All-from_recursion, recursion_from_All}}
 use Rattle.std.proofs.{lemmas.Bool.{cond-true, cond-false, eqb-false}, lemmas.Str.{IsUtf8-from_is_utf8, is_utf8-from_IsUtf8}}
 use Rattle.std.specs.{Bool.⊤, Prelude.codes, Str.is_utf8, Int.Digits.number_from_digits}

@@ -1,5 +1,5 @@
 -- The text and the depth of bytes, by those of their items.
-use Rattle.std.proofs.Common.{◌≡◌, ℕ, zero, suc, ◌+◌, ◌<◌, ◌≤◌, true, false, List, [], ◌∷◌, ◌++◌, length, take, drop, map, codes, refl, sym, ap, ◌∙◌}
+use Rattle.std.proofs.Common.{◌≡◌, ℕ, zero, suc, ◌<◌, ◌≤◌, true, false, List, [], ◌∷◌, ◌++◌, length, take, drop, map, codes, refl, sym, ap, ◌∙◌}
 use Rattle.std.proofs.{Common.{arith, Ok, Err, Result, length-take, length-drop, MatchResult, max}, lemmas.List.{map-append, take-append-drop, take-append-le, drop-append-le}}
 use Rattle.std.proofs.{Common.{fold, subst, append-nil, ◌-◌, append_assoc, IsTrue, ◌↔◌, length-append}, lemmas.Bool.false≢true}
 use Rattle.std.specs.{Bool.⊤, List.AllByRecursion}

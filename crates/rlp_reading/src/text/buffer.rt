@@ -1,13 +1,13 @@
 //! Text that waits to be written.
 
-ghost use Rattle.std.specs.{Prelude.{◌≡◌, ◌+◌, ◌*◌, ◌≤◌, ◌++◌, [], length, OnOk}, Fmt.WritesStyledOnOk};
+ghost use Rattle.std.specs.{Prelude.{◌≡◌, ◌+◌, ◌*◌, ◌≤◌, ◌++◌, [], IsAscii, length, OnOk}, Fmt.WritesStyledOnOk};
 ghost use Rattle.hex.specs.Hex.{encode_lower};
 ghost use Rattle.rlp_reading.specs.Views.Buffered.{PutsOnOk};
 
 use rlp_format::hex_digits::put_digits;
 use std::fmt;
 use std::marker::Model;
-use std::str::from_utf8;
+use std::str::from_utf8_unchecked;
 
 /// The number of bytes that can wait.
 const ROOM: usize = 256;
@@ -15,7 +15,7 @@ const ROOM: usize = 256;
 /// The number of bytes that are put at once as digits.
 const AT_ONCE: usize = 64;
 
-/// Text that waits to be written. A formatter then gets many small pieces at once.
+/// ASCII text that waits to be written. A formatter then gets many small pieces at once.
 #[derive(Drop)]
 pub(super) struct TextBuffer {
     room: [u8; ROOM],
@@ -23,13 +23,13 @@ pub(super) struct TextBuffer {
 }
 
 impl Model for TextBuffer {
-    ghost use Rattle.std.specs.Prelude.{ℕ, List, ◌≤◌, take};
+    ghost use Rattle.std.specs.Prelude.{ℕ, List, ◌≤◌, IsAscii, take};
 
     ghost Value = { List ℕ };
 
     ghost view = { λ b. take b.len b.room };
 
-    ghost invariant = { λ b. b.len ≤ 256 };
+    ghost invariant = { λ b. (b.len ≤ 256) × IsAscii (take b.len b.room) };
 }
 
 impl TextBuffer {
@@ -45,22 +45,21 @@ impl TextBuffer {
 
     /// Writes the text that waits.
     #[inline(never)]
+    #[tactic(auto, using(crate::proofs::Pieces::ascii_is_text))]
     pub(super) fn flush<W: fmt::Write>(&mut self, f: &mut fmt::Formatter<W>) -> fmt::Result
         ensures written { WritesStyledOnOk W.write_str_gives f.old result self.old f.new }
         ensures empty { OnOk result (self.new ≡ []) }
     {
-        match from_utf8(&self.room[..self.len]) {
-            Ok(text) => f.write_str(text)?,
-            Err(_) => return Err(fmt::Error),
-        }
+        f.write_str(unsafe { from_utf8_unchecked(&self.room[..self.len]) })?;
         self.len = 0;
         Ok(())
     }
 
-    /// Appends bytes. There must be room for them.
+    /// Appends ASCII. There must be room for it.
     #[inline(always)]
     fn push(&mut self, piece: &[u8])
-        requires { length self.old + length piece.now ≤ 256 }
+        requires room { length self.old + length piece.now ≤ 256 }
+        requires ascii { IsAscii piece.now }
         ensures { self.new ≡ self.old ++ piece.now }
     {
         let end = self.len + piece.len();
@@ -92,14 +91,15 @@ impl TextBuffer {
         Ok(())
     }
 
-    /// Puts a piece of text.
+    /// Puts a piece of ASCII text.
     #[inline(always)]
     pub(super) fn put<W: fmt::Write>(
         &mut self,
         f: &mut fmt::Formatter<W>,
         piece: &[u8],
     ) -> fmt::Result
-        requires { length piece.now ≤ 256 }
+        requires few { length piece.now ≤ 256 }
+        requires ascii { IsAscii piece.now }
         ensures { PutsOnOk W.write_str_gives f.old self.old result piece.now f.new self.new }
     {
         self.make_room(f, piece.len())?;

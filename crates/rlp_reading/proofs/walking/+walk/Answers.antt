@@ -1,4 +1,4 @@
-use Rattle.std.proofs.Common.{◌-◌, ◌∙◌, sym, arith}
+use Rattle.std.proofs.Common.{◌∙◌, sym, arith}
 use Rattle.rlp_reading.proofs.{Lemmas.Numbered.{no_bytes, some_bytes}, Trees.Needless.{whole_item}, Trees.Canonical.{fault_refutes, walk_fault-deep, walk_fault-string}}
 use Rattle.rlp_reading.proofs.{Trees.Walks.{fault_of_bytes, fault_of_item, fault_of_none, walked_within, walking_all, walking_one}}
 use Rattle.rlp_reading.proofs.walking.+walk.Goals as goal
