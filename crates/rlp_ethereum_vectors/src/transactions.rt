@@ -5,8 +5,8 @@ use crate::fields::text;
 use rlp::{DecoderError, Uint};
 use rlp_records::{Address, Eip2718};
 use rlp_transactions::{
-    AccessList, FeeMarketTransaction, NonZeroScalar, PooledTransaction, Recipient, Signed, Tagged,
-    Transaction,
+    AccessList, FeeMarketTransaction, NonZeroScalar, Payload, PooledTransaction, Recipient, Signed,
+    Tagged, Transaction,
 };
 use rlp_vectors::rows::Hex;
 use std::alloc::Global;
@@ -90,7 +90,7 @@ fn consensus_form(alloc: Global, pooled: PooledTransaction) -> Result<String, De
 }
 
 /// Returns a payment of 1 ether, with a chosen signature.
-fn payment(alloc: Global) -> Signed<FeeMarketTransaction> {
+fn payment(alloc: Global) -> Option<Signed<FeeMarketTransaction>> {
     let payload = FeeMarketTransaction {
         chain_id: 1,
         nonce: 0,
@@ -102,19 +102,13 @@ fn payment(alloc: Global) -> Signed<FeeMarketTransaction> {
         data: Vec::new(alloc),
         access_list: AccessList(Vec::new(alloc)),
     };
-    Signed {
-        payload,
-        v: false,
-        r: NonZeroScalar {
-            number: Uint::<32>::from(1),
-        },
-        s: NonZeroScalar {
-            number: Uint::<32>::from(2),
-        },
-    }
+    let r = NonZeroScalar::new(Uint::<32>::from(1))?;
+    let s = NonZeroScalar::new(Uint::<32>::from(2))?;
+    Some(payload.with_signature(false, r, s))
 }
 
 /// Returns the digits of the envelope of the payment.
 pub(crate) fn made(alloc: Global) -> Result<String, DecoderError> {
-    Ok(hex::encode(alloc, payment(alloc).to_bytes(alloc)?.as_slice())?)
+    let signed = payment(alloc).ok_or(DecoderError::Custom("no signature"))?;
+    Ok(hex::encode(alloc, signed.to_bytes(alloc)?.as_slice())?)
 }

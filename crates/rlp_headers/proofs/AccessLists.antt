@@ -1,6 +1,5 @@
 -- What views give as access lists of blocks.
-use Rattle.std.proofs.{Common.{◌≡◌, Ok, Err, ap, ◌∙◌, codes}, lemmas.Bool.{cond-true, cond-false, false_from_ne_true}}
-use Rattle.std.specs.{Prelude.Vec, declared.alloc.Global.Global}
+use Rattle.std.{proofs.{Common.{◌≡◌, Ok, Err, ap, ◌∙◌, codes}, lemmas.Bool.{cond-true, cond-false, false_from_ne_true}}, specs.{Prelude.Vec, declared.alloc.Global.Global}}
 use Rattle.rlp.specs.{Form.{and_then, custom}, Views.View.View}
 use Rattle.rlp_records.specs.TestedForm.{passing}
 use Rattle.rlp_headers.specs.{AccessOrder.{AreAccountsInOrder, accounts, accounts_in_order, block_access_list}, declared.block_access_list.changes.AccountChanges.{AccountChanges}}

@@ -1,6 +1,5 @@
 -- Clones of accounts are seen as the accounts are.
-use Rattle.std.proofs.Common.{◌≡◌, ap, sym, subst}
-use Rattle.std.specs.{Prelude.{IsTrue, Vec}, List.{AllZip, each_same}, Vec.vec_items, declared.alloc.Global.Global}
+use Rattle.std.{proofs.Common.{◌≡◌, ap, sym, subst}, specs.{Prelude.{IsTrue, Vec}, List.{AllZip, each_same}, Vec.vec_items, declared.alloc.Global.Global}}
 use Rattle.rlp.specs.{Codec.{Codec, byte_string, number, uint}, Uint.Uint}
 use Rattle.rlp_records.proofs.Clones.{clones_seen}
 use Rattle.rlp_headers.specs.{AccessOrder.{AreAccountsInOrder, accounts_in_order, block_access_list}, Changes.{account_changes, change, slot_changes}}

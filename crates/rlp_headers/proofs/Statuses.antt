@@ -1,6 +1,5 @@
 -- Strings that are no status.
-use Rattle.std.proofs.{Common.{◌∙◌, ap, ne_eqb}, lemmas.Bool.cond-false}
-use Rattle.std.specs.Prelude.{ℕ, ◌==◌, ◌∷◌, ◌≡◌, ◌≢◌, Err, List, Some, [], codes, length, refl, suc, zero}
+use Rattle.std.{proofs.{Common.{◌∙◌, ap, ne_eqb}, lemmas.Bool.cond-false}, specs.Prelude.{ℕ, ◌==◌, ◌∷◌, ◌≡◌, ◌≢◌, Err, List, Some, [], codes, length, refl, suc, zero}}
 use Rattle.rlp.specs.Form.{custom, map_value}
 use Rattle.rlp_headers.specs.{StatusKindLaws.is_root, StatusKinds.{outcome_of, status_kind}}
 

@@ -1,8 +1,7 @@
 -- How receipts, their statuses and the filters of their logs are written and read.
 use Rattle.std.specs.{Prelude.false, Vec.vec_items}
 use Rattle.rlp.specs.Codec.{Codec, Fields, byte_array, end, field, list_type, newtype, number, string_type, struct_of}
-use Rattle.rlp_reading.proofs.StringLaws.{kinds_read}
-use Rattle.rlp_reading.specs.Kinds.{read_kind}
+use Rattle.rlp_reading.{proofs.StringLaws.{kinds_read}, specs.Kinds.{read_kind}}
 use Rattle.rlp_headers.specs.{Log.log, StatusKindLaws.status_kinds, StatusKinds.{IsStatus, status_bytes, status_kind, succeeded}}
 use Rattle.rlp_headers.specs.{declared.receipt.Bloom.Bloom, declared.receipt.Receipt.Receipt, declared.receipt.ReceiptStatus.ReceiptStatus}
 

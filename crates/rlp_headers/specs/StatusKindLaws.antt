@@ -1,6 +1,5 @@
 -- A string is a status if and only if it is written for one.
-use Rattle.std.proofs.{Common.{◌↔◌, arith, eq-eqb}, lemmas.Bool.cond-true, lemmas.Bool.Decides.nat_tests}
-use Rattle.std.specs.Prelude.{ℕ, ◌==◌, ◌≡◌, List, None, Ok, length, refl}
+use Rattle.std.{proofs.{Common.{◌↔◌, arith, eq-eqb}, lemmas.Bool.cond-true, lemmas.Bool.Decides.nat_tests}, specs.Prelude.{ℕ, ◌==◌, ◌≡◌, List, None, Ok, length, refl}}
 use Rattle.rlp_reading.proofs.StringLaws.{HaveKinds}
 use Rattle.rlp_headers.specs.{StatusKinds.{IsStatus, status_bytes, status_kind, succeeded}, declared.receipt.ReceiptStatus.ReceiptStatus}
 use Rattle.rlp_headers.specs.declared.receipt.ReceiptStatus.TheVariants.{Failure, StateRoot, Success}

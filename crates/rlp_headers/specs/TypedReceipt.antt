@@ -1,6 +1,5 @@
 -- How receipts of transactions of every type are written and read.
-use Rattle.std.specs.Prelude.{◌⊎◌, refl}
-use Rattle.std.proofs.Common.{inl, inr}
+use Rattle.std.{specs.Prelude.{◌⊎◌, refl}, proofs.Common.{inl, inr}}
 use Rattle.rlp.specs.Codec.{Codec}
 use Rattle.rlp_headers.specs.{declared.receipt.Receipt.Receipt, declared.typed_receipt.TypedReceipt.TypedReceipt}
 use Rattle.rlp_headers.specs.{declared.typed_receipt.TypedReceipt.TheVariants.{AccessList, Blob, FeeMarket, Legacy, SetCode}, Receipt.receipt}

@@ -1,6 +1,5 @@
 -- What the walk over bytes, and the count of what is in their envelopes, say of the items in them.
-use Rattle.std.specs.Prelude.{codes}
-use Rattle.std.proofs.Common.{◌≡◌, ℕ, ◌+◌, ◌-◌, ◌^◌, ◌<◌, ◌≤◌, ◌⊎◌, inl, inr, true, false, None, Some, List, length, sym, ap, subst, ◌∙◌}
+use Rattle.std.{specs.Prelude.{codes}, proofs.Common.{◌≡◌, ℕ, ◌+◌, ◌-◌, ◌^◌, ◌<◌, ◌≤◌, ◌⊎◌, inl, inr, true, false, None, Some, List, length, sym, ap, subst, ◌∙◌}}
 use Rattle.std.proofs.{Common.{arith, Result, Ok, Err, IfOk, IfErr}, lemmas.Bool.{cond-false, cond-true}, lemmas.Bool.Decides.nat_tests, lemmas.Slice.Eq.{bytes_eq-Decides}}
 use Rattle.rlp.specs.{DecoderError.DecoderError, DecoderError.TheVariants.OutOfMemory, Format.Encoding.{Item, encoding}}
 use Rattle.rlp.specs.{Format.Framing.IsCanonicalWithin, Format.TreeFaults.tree_fault, Values.RawItem.raw_item_of, Views.View.{View, strict_view_of}}

@@ -1,8 +1,7 @@
 -- What follows for a body that reads a type from bytes: `law` says that the bytes of a value are read back, and no other bytes are read.
 use Rattle.std.proofs.Common.{◌≡◌, ℕ, ◌^◌, ◌<◌, ◌⊎◌, inl, inr, List, length, sym, ap, ◌∙◌, subst, Result, Ok, Err, IfOk, IfErr}
 use Rattle.rlp.specs.{DecoderError.DecoderError, DecoderError.TheVariants.OutOfMemory, Format.Encoding.AreBytes}
-use Rattle.rlp_reading.specs.Form.{Fault, fault_of}
-use Rattle.rlp_reading.proofs.StringLaws.{ReadsStrings}
+use Rattle.rlp_reading.{specs.Form.{Fault, fault_of}, proofs.StringLaws.{ReadsStrings}}
 
 -- a type that holds a value of another type is read as the other type
 pub strings_held : {A B M : Type 0} (value : B → A) (Fits : A → Type 0) (bytes : A → List ℕ) (seen : A → M) (written : M → List ℕ) (read : List ℕ → Result M Fault)

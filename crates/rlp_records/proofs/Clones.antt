@@ -1,6 +1,5 @@
 -- Clones are seen as what they are clones of.
-use Rattle.std.proofs.Common.{◌≡◌, refl, List, [], ◌∷◌}
-use Rattle.std.specs.{Prelude.map, List.AllZip}
+use Rattle.std.{proofs.Common.{◌≡◌, refl, List, [], ◌∷◌}, specs.{Prelude.map, List.AllZip}}
 
 -- lists of values that are seen alike are seen alike
 pub clones_seen : {A M : Type 0} (R : A → A → Type 0) (seen : A → M) → ((x y : A) → R x y → seen y ≡ seen x)

@@ -1,8 +1,7 @@
 -- Values of every type by themselves, also of the types that aren't known: the bytes of a value are read back, and no other bytes are read.
 use Rattle.std.proofs.{Common.{◌≡◌, ℕ, ◌^◌, ◌<◌, ◌⊎◌, inl, inr, Bool, true, false, IsTrue, List, [], ◌∷◌, length, refl, subst, Result, Ok, arith}, lemmas.Bool.Decides.nat_tests}
 use Rattle.rlp.specs.{Format.Encoding.{AreBytes, Item, is_list, string}, Format.Framing.begins_as_list, Values.Sums.{OnSum, sum_item}}
-use Rattle.rlp_reading.specs.{Form.{Answer, Fault}, Sums.{CasesForm, envelope, sum_map}}
-use Rattle.rlp_reading.proofs.{StringLaws.ReadsStrings, SumLaws.sums_fit}
+use Rattle.rlp_reading.{specs.{Form.{Answer, Fault}, Sums.{CasesForm, envelope, sum_map}}, proofs.{StringLaws.ReadsStrings, SumLaws.sums_fit}}
 use Rattle.rlp_records.proofs.{Alone.{left_only, list_alone_begins, not_left}, Bytes.strings_held, TypedSums.typed_strings}
 use Rattle.rlp_records.specs.{Alone.bytes_alone, OtherEnvelope.{is_other, is_other_type, string_or}, OtherStringLaws.is_known}
 use Rattle.rlp_records.specs.{Eip2718.{TypedSum, typed, typed_alone}, KnownOrOther.{any_alone, value_or_bytes, with_others}}

@@ -1,6 +1,5 @@
 -- Where a value of a type, or a string of another, can't be read.
-use Rattle.std.specs.Prelude.{ℕ, ◌≡◌, ◌⊎◌, ◌++◌, Bool, List, IfSome, OnOk, Result, Ok, Err}
-use Rattle.std.proofs.Common.{arith, inl}
+use Rattle.std.{specs.Prelude.{ℕ, ◌≡◌, ◌⊎◌, ◌++◌, Bool, List, IfSome, OnOk, Result, Ok, Err}, proofs.Common.{arith, inl}}
 use Rattle.rlp_reading.specs.Form.{Answer, Fault, IsPlaced, Path, map_value, path_unless}
 use Rattle.rlp_records.specs.OtherEnvelope.{string_or}
 

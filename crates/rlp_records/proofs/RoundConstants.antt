@@ -1,6 +1,5 @@
 -- The table of round constants follows the standard's rule, and the table of offsets its walk.
-use Rattle.std.proofs.Common.{◌≡◌, ℕ, ◌+◌, ◌<◌, zero, suc, ◌*◌, ◌/◌, ◌%◌, List, [], ◌∷◌, map, slice_index, refl, ap, sym, ◌∙◌, arith, add-one}
-use Rattle.std.specs.List.{range_with_len}
+use Rattle.std.{proofs.Common.{◌≡◌, ℕ, ◌+◌, ◌<◌, zero, suc, ◌*◌, ◌/◌, ◌%◌, List, [], ◌∷◌, map, slice_index, refl, ap, sym, ◌∙◌, arith, add-one}, specs.List.{range_with_len}}
 use Rattle.std.proofs.lemmas.List.FromFn.{get_or-map-range_with_len}
 use Rattle.rlp_records.specs.Keccak.{lane, offsets, register, round, round_constant, rounds}
 

@@ -1,8 +1,7 @@
 -- For laws: values that are read of the same bytes are seen as the same.
 use Rattle.std.proofs.Common.{◌≡◌, ℕ, ◌^◌, ◌<◌, Bool, false, true, IsTrue, List, length, Result, Ok, Err, IfOk, IfErr, IsOkAnd}
 use Rattle.rlp.specs.{DecoderError.DecoderError, Format.Encoding.encoding, Views.View.strict_view_of}
-use Rattle.rlp_reading.specs.{Form.Form, Laws.IsLawful}
-use Rattle.rlp_reading.proofs.Corollaries.{one_value}
+use Rattle.rlp_reading.{specs.{Form.Form, Laws.IsLawful}, proofs.Corollaries.{one_value}}
 
 module _ {A : Type 0} (c : Form A) (law : IsLawful c) (b : List ℕ) (short : length b < 2 ^ 64) (v : A) (fit : c.Fits v) (is : b ≡ encoding (c.item v)) where
   -- the value that is read of the encoding of v is seen as v

@@ -1,8 +1,7 @@
 -- Values of the types of EIP-2718: what their payloads say of them, and the bytes of a value by themselves.
 use Rattle.std.proofs.Common.{◌≡◌, ℕ, ◌<◌, ◌⊎◌, inl, inr, true, ◌∷◌, refl, sym, ap, ◌∙◌, arith, Some, None}
 use Rattle.rlp.specs.{Codec.plain, Format.Encoding.{Item, is_list, string, encoding}, Values.Sums.sum_item}
-use Rattle.rlp_reading.specs.{Sums.{CasesForm, envelope}}
-use Rattle.rlp_reading.proofs.StringLaws.{ReadsStrings}
+use Rattle.rlp_reading.{specs.{Sums.{CasesForm, envelope}}, proofs.StringLaws.{ReadsStrings}}
 use Rattle.rlp_records.proofs.{Alone.{alone_strings, list_alone}, Bytes.strings_held}
 use Rattle.rlp_records.specs.{Alone.bytes_alone, Eip2718.{TypedSum, number_on_right, payload_item, type_number, typed, typed_alone}}
 

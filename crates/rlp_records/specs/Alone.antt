@@ -1,7 +1,6 @@
 -- How standalone values of several types are written and read, outside a list, as in EIP-2718: a value of the type without a number is a list, and a value of a type
 -- with a number is an envelope.
-use Rattle.std.specs.Prelude.{ℕ, List, ◌⊎◌, if◌then◌else◌, codes}
-use Rattle.std.proofs.Common.{inl, inr}
+use Rattle.std.{specs.Prelude.{ℕ, List, ◌⊎◌, if◌then◌else◌, codes}, proofs.Common.{inl, inr}}
 use Rattle.rlp.specs.{Format.Encoding.{Item, list, string, encoding}, Format.Framing.begins_as_list, Views.View.{View, strict_view_of}}
 use Rattle.rlp_reading.specs.{Form.{Answer, Fault, map_answer}, Sums.envelope_of}
 

@@ -1,6 +1,5 @@
 -- Values of the types of EIP-2718: transactions or receipts. A value of the type without a number is a list, and a value of a type with a number is an envelope.
-use Rattle.std.specs.Prelude.{ℕ, ◌≡◌, ◌<◌, ◌⊎◌, true, List, Option, Some, None, refl}
-use Rattle.std.proofs.Common.{inl, inr}
+use Rattle.std.{specs.Prelude.{ℕ, ◌≡◌, ◌<◌, ◌⊎◌, true, List, Option, Some, None, refl}, proofs.Common.{inl, inr}}
 use Rattle.rlp.specs.{Codec.{Cases, Codec, enveloped, list_or_string, newtype}, Format.Encoding.{Item, is_list}, Values.Sums.sum_item, Views.View.View}
 use Rattle.rlp_reading.specs.Form.{Answer, Fault, map_answer}
 use Rattle.rlp_records.specs.{Alone.read_alone, Envelope.four_types, OtherEnvelope.authorization_magic, OtherStringLaws.below_magic}

@@ -1,6 +1,5 @@
 -- How values of the types of EIP-2718 are written and read, also of types that aren't known.
-use Rattle.std.specs.Prelude.{ℕ, ◌≡◌, ◌⊎◌, List, Ok}
-use Rattle.std.proofs.Common.{inl, inr}
+use Rattle.std.{specs.Prelude.{ℕ, ◌≡◌, ◌⊎◌, List, Ok}, proofs.Common.{inl, inr}}
 use Rattle.rlp.specs.{Codec.{Codec, lawful, newtype, plain}, Format.Encoding.string}
 use Rattle.rlp_reading.specs.Form.{Answer, Fault}
 use Rattle.rlp_records.specs.{Eip2718.{TypedSum, type_of, typed, typed_alone}, OtherEnvelope.{IsOther, is_other, or_string, other_type, string_or}}

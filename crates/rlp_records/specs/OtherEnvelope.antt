@@ -1,6 +1,5 @@
 -- Envelopes of types that aren't known: which bytes they are, and how values of a type or such strings are written and read.
-use Rattle.std.specs.Prelude.{ℕ, ◌&&◌, ◌⊎◌, nat_lt, Bool, true, false, IsTrue, if◌then◌else◌, List, [], ◌∷◌, Result, Ok, Err, codes}
-use Rattle.std.proofs.Common.{inl, inr}
+use Rattle.std.{specs.Prelude.{ℕ, ◌&&◌, ◌⊎◌, nat_lt, Bool, true, false, IsTrue, if◌then◌else◌, List, [], ◌∷◌, Result, Ok, Err, codes}, proofs.Common.{inl, inr}}
 use Rattle.rlp.specs.{Format.Encoding.string, Values.Sums.{OnSum, sum_item}}
 use Rattle.rlp_reading.specs.{Form.{Answer, Fault, Form, here, map_answer, string_of}, Sums.sum_map}
 

@@ -1,8 +1,7 @@
 -- Values that pass a test are read back, and are read only from their encodings.
 use Rattle.std.proofs.Common.{◌≡◌, ◌↔◌, Bool, true, false, if◌then◌else◌, ℕ, List, Ok, Err, ap, refl, subst, ◌∙◌}
 use Rattle.rlp.specs.Codec.{Codec}
-use Rattle.rlp_reading.specs.{Form.{and_then, custom}, Laws.{GivesOnly, IsLawful, ReadsBack, viewed}}
-use Rattle.rlp_reading.proofs.ListLaws.{goes_on}
+use Rattle.rlp_reading.{specs.{Form.{and_then, custom}, Laws.{GivesOnly, IsLawful, ReadsBack, viewed}}, proofs.ListLaws.{goes_on}}
 use Rattle.rlp_records.specs.TestedForm.{Passes, passing, tested_form}
 
 module _ {A : Type 0} (text : List ℕ) (c : Codec A) (test : c.reading.M → Bool) (Fits : A → Type 0) (same : (x : A) → Fits x ↔ Passes c test x) where

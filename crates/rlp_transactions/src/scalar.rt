@@ -13,6 +13,8 @@ use std::alloc::{AllocError, Global};
 pub struct NonZeroScalar {
     /// The number.
     pub number: Uint<32>,
+    // It has no bytes, and aligns the number, so that the compiler copies a `Result` of it in words.
+    aligned: [u64; 0],
     pub ghost in_range: { is_scalar (number_from_digits 256 number.bytes) ≡ true },
 }
 
@@ -41,7 +43,10 @@ impl NonZeroScalar {
         ensures none { IfNone result (¬ IsScalar number) }
     {
         if is_scalar(&number) {
-            Some(NonZeroScalar { number })
+            Some(NonZeroScalar {
+                number,
+                aligned: [],
+            })
         } else {
             None
         }

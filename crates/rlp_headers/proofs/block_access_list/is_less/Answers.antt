@@ -1,5 +1,4 @@
-use Rattle.std.proofs.Common.{rules, ap, ◌∙◌}
-use Rattle.std.specs.Ordering.{is_lt}
+use Rattle.std.{proofs.Common.{rules, ap, ◌∙◌}, specs.Ordering.{is_lt}}
 use Rattle.rlp_reading.proofs.Lemmas.Reading.{bytes_held}
 use Rattle.rlp_headers.proofs.Numbers.{bytes_order}
 use Rattle.rlp_headers.proofs.block_access_list.is_less.Goals as goal

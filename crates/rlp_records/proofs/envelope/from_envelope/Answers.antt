@@ -1,7 +1,6 @@
 use Rattle.std.proofs.Common.{arith}
 use Rattle.rlp_reading.specs.Laws.{form_of}
-use Rattle.rlp_records.proofs.{AfterByte.{rest_fails, rest_given, rest_only, rest_whole, same_rest, with_first}, Faults.fault_first}
-use Rattle.rlp_records.specs.Envelope.{another_type}
+use Rattle.rlp_records.{proofs.{AfterByte.{rest_fails, rest_given, rest_only, rest_whole, same_rest, with_first}, Faults.fault_first}, specs.Envelope.{another_type}}
 use Rattle.rlp_records.proofs.envelope.from_envelope.Goals as goal
 
 pub returns-in-len1-up-clause-value : goal.returns-in-len1-up-clause-value

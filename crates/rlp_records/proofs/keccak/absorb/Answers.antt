@@ -1,6 +1,5 @@
 use Rattle.std.proofs.Common.{ap, sym, ◌∙◌, ◌∷◌, [], bit_xor, slice_index}
-use Rattle.rlp_records.specs.{Complements.{masked}, Keccak.{absorb, keccak_f}}
-use Rattle.rlp_records.proofs.Sponge.{block_xored}
+use Rattle.rlp_records.{specs.{Complements.{masked}, Keccak.{absorb, keccak_f}}, proofs.Sponge.{block_xored}}
 use Rattle.rlp_records.proofs.keccak.absorb.Goals as goal
 
 pub returns : goal.returns

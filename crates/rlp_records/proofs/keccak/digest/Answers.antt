@@ -1,9 +1,7 @@
 use Rattle.std.proofs.{Common.{rules, ◌≡◌, ◌∙◌, ◌+◌, ◌*◌, ◌≤◌, ◌<◌, ◌^◌, ℕ, List, length, take, slice_index, arith, sym, refl, add-one}, lemmas.List.take_all}
-use Rattle.std.proofs.lemmas.Slice.{overwrites, take-put_mid}
-use Rattle.std.specs.Int.{w64, to_le_bytes}
+use Rattle.std.{proofs.lemmas.Slice.{overwrites, take-put_mid}, specs.Int.{w64, to_le_bytes}}
 use borrow.Rule.Slice.PartMut.{put_mid}
-use Rattle.rlp_records.specs.{Complements.{masked}, Keccak.{bytes_of_lanes}}
-use Rattle.rlp_records.proofs.Complements.{not_is}
+use Rattle.rlp_records.{specs.{Complements.{masked}, Keccak.{bytes_of_lanes}}, proofs.Complements.{not_is}}
 use Rattle.rlp_records.proofs.keccak.digest.Goals as goal
 
 more : (out a ys : List ℕ) (i k : ℕ) → take (8 * i) out ≡ bytes_of_lanes a i → 8 * i ≤ length out → ys ≡ to_le_bytes w64 (slice_index a i)

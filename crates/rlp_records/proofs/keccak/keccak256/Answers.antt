@@ -1,6 +1,5 @@
 use Rattle.std.proofs.{Common.{◌≡◌, ◌∙◌, ◌+◌, ◌-◌, ◌*◌, arith, sym, refl, length, ◌/◌}, lemmas.List.take_rest}
-use Rattle.rlp_records.specs.{Complements.{complement, masked}, Keccak.{absorbed}}
-use Rattle.rlp_records.proofs.Sponge.{absorbed_next, hash_of}
+use Rattle.rlp_records.{specs.{Complements.{complement, masked}, Keccak.{absorbed}}, proofs.Sponge.{absorbed_next, hash_of}}
 use Rattle.rlp_records.proofs.keccak.keccak256.Goals as goal
 
 pub whole-init : goal.whole-init

@@ -1,7 +1,6 @@
 use Rattle.std.proofs.Common.{ap}
 use Rattle.rlp.specs.Format.Encoding.{encoding}
-use Rattle.rlp_reading.proofs.{Lemmas.Items.{encoding_same}, Corollaries.{told_by_item}}
-use Rattle.rlp_reading.specs.Laws.{form_of}
+use Rattle.rlp_reading.{proofs.{Lemmas.Items.{encoding_same}, Corollaries.{told_by_item}}, specs.Laws.{form_of}}
 use Rattle.rlp_records.proofs.laws.encodings_tell_records.Goals as goal
 
 pub returns-clause-alike : goal.returns-clause-alike

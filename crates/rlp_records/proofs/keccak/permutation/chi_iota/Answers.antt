@@ -1,6 +1,5 @@
 use Rattle.std.proofs.Common.{rules, ◌^◌, ◌<◌, ℕ, slice_index, arith, refl}
-use Rattle.rlp_records.specs.{Complements.{complement, masked, masked_by_pi}, Keccak.{chi, iota}}
-use Rattle.rlp_records.proofs.{RoundConstants.{constant_at}, Complements.{complements, next, not_is}}
+use Rattle.rlp_records.{specs.{Complements.{complement, masked, masked_by_pi}, Keccak.{chi, iota}}, proofs.{RoundConstants.{constant_at}, Complements.{complements, next, not_is}}}
 use Rattle.rlp_records.proofs.keccak.permutation.chi_iota.Goals as goal
 
 pub returns : goal.returns

@@ -1,6 +1,5 @@
 use Rattle.std.proofs.Common.{rules, ◌^◌, ◌<◌, ℕ, slice_index}
-use Rattle.rlp_records.specs.Keccak.{round}
-use Rattle.rlp_records.proofs.Complements.{theta_masked, rho_pi_masked}
+use Rattle.rlp_records.{specs.Keccak.{round}, proofs.Complements.{theta_masked, rho_pi_masked}}
 use Rattle.rlp_records.proofs.keccak.permutation.round.Goals as goal
 
 pub returns : goal.returns
