@@ -107,12 +107,13 @@ def trait_at(text, head, source):
 
 
 def type_at(text, head, source):
-    """A struct, an enum, a constant or an alias; private fields are left out."""
+    """A struct, an enum, a constant or an alias; private fields are left out, and two dots stand for them behind public fields."""
     shape = fields_of(text, head.start() + 4)
     if head["sort"] == "struct":
         lines = shape.splitlines()
         shown = [line.replace("pub ", "") for line in lines[1:-1] if line.startswith("    pub ")]
-        shape = "\n".join([lines[0], *shown, "}"]) if shown else lines[0].removesuffix(" {")
+        dots = ["    ..,"] if any(re.match(r"    (?!pub )\w", line) for line in lines[1:-1]) else []
+        shape = "\n".join([lines[0], *shown, *dots, "}"]) if shown else lines[0].removesuffix(" {")
     return Item(head["name"], head["sort"], documentation_of(text, head.start()), shape, source)
 
 

@@ -59,11 +59,13 @@ pub(crate) fn run(alloc: Global, inputs: &Inputs, operation: &str, times: usize)
         "transaction_by_iter" => each(transaction, times, by_iter),
         "transaction_by_at" => each(transaction, times, |b| by_at(b, 9)),
         "transaction_by_fields" => each(transaction, times, |b| by_fields(b, 9)),
+        "transaction_by_val_at" => each(transaction, times, |b| by_val_at(alloc, b, 9)),
         "branch_by_iter" => each(branch, times, by_iter),
         "branch_by_at" => each(branch, times, |b| by_at(b, 17)),
         "branch_by_fields" => each(branch, times, |b| by_fields(b, 17)),
         "branch_by_val_at" => each(branch, times, |b| by_val_at(alloc, b, 17)),
         "hashes_by_at" => each(inputs.hashes.as_slice(), times, |b| by_at(b, 200)),
+        "hashes_by_at_shuffled" => each(inputs.hashes.as_slice(), times, by_at_shuffled),
         "item_count_of_1000" => each(list, times, |b| Rlp::new(b).item_count().ok()),
         "item_count_of_9" => each(transaction, times, |b| Rlp::new(b).item_count().ok()),
         "iterate_10000" => each(long_list, times, by_iter),
@@ -140,6 +142,12 @@ fn numbers_by_iter(alloc: Global, bytes: &[u8]) -> Option<usize> {
 fn by_at(bytes: &[u8], count: usize) -> Option<usize> {
     let list = Rlp::new(bytes);
     summed(count, |index| Some(list.at(index).ok()?.as_raw().len()))
+}
+
+/// Takes each of 200 items once, by steps of 77.
+fn by_at_shuffled(bytes: &[u8]) -> Option<usize> {
+    let list = Rlp::new(bytes);
+    summed(200, |turn| Some(list.at(turn.wrapping_mul(77) % 200).ok()?.as_raw().len()))
 }
 
 fn by_val_at(alloc: Global, bytes: &[u8], count: usize) -> Option<usize> {

@@ -17,10 +17,12 @@ pub fn run(inputs: &Inputs, operation: &str, times: usize) -> Option<usize> {
         "decode_transaction" => summed(&inputs.transaction_bytes, times, |rlp| Ok(rlp.as_val::<Transaction>()?.gas_limit as usize)),
         "transaction_by_iter" => summed(&inputs.transaction_bytes, times, by_iter),
         "transaction_by_at" => summed(&inputs.transaction_bytes, times, |rlp| by_at(rlp, 9)),
+        "transaction_by_val_at" => summed(&inputs.transaction_bytes, times, |rlp| by_val_at(rlp, 9)),
         "branch_by_iter" => summed(&inputs.branch, times, by_iter),
         "branch_by_at" => summed(&inputs.branch, times, |rlp| by_at(rlp, 17)),
         "branch_by_val_at" => summed(&inputs.branch, times, |rlp| by_val_at(rlp, 17)),
         "hashes_by_at" => summed(&inputs.hashes, times, |rlp| by_at(rlp, 200)),
+        "hashes_by_at_shuffled" => summed(&inputs.hashes, times, by_at_shuffled),
         "item_count_of_1000" => summed(&inputs.list, times, |rlp| rlp.item_count()),
         "item_count_of_9" => summed(&inputs.transaction_bytes, times, |rlp| rlp.item_count()),
         "iterate_10000" => summed(&inputs.long_list, times, by_iter),
@@ -61,6 +63,15 @@ fn by_at(rlp: &Rlp, count: usize) -> Result<usize, DecoderError> {
     let mut sum: usize = 0;
     for index in 0..count {
         sum = sum.wrapping_add(rlp.at(index)?.as_raw().len());
+    }
+    Ok(sum)
+}
+
+/// Takes each of 200 items once, by steps of 77.
+fn by_at_shuffled(rlp: &Rlp) -> Result<usize, DecoderError> {
+    let mut sum: usize = 0;
+    for turn in 0..200 {
+        sum = sum.wrapping_add(rlp.at(turn * 77 % 200)?.as_raw().len());
     }
     Ok(sum)
 }
