@@ -45,7 +45,6 @@ OPERATIONS = {
     "transaction_by_iter": "nine fields by iter",
     "transaction_by_at": "nine fields by at(0) to at(8)",
     "transaction_by_fields": "nine fields by Fields",
-    "transaction_by_val_at": "nine byte strings by val_at",
     "branch_by_iter": "seventeen fields by iter",
     "branch_by_at": "seventeen fields by at(0) to at(16)",
     "branch_by_fields": "seventeen fields by Fields",

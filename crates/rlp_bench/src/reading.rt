@@ -59,7 +59,6 @@ pub(crate) fn run(alloc: Global, inputs: &Inputs, operation: &str, times: usize)
         "transaction_by_iter" => each(transaction, times, by_iter),
         "transaction_by_at" => each(transaction, times, |b| by_at(b, 9)),
         "transaction_by_fields" => each(transaction, times, |b| by_fields(b, 9)),
-        "transaction_by_val_at" => each(transaction, times, |b| by_val_at(alloc, b, 9)),
         "branch_by_iter" => each(branch, times, by_iter),
         "branch_by_at" => each(branch, times, |b| by_at(b, 17)),
         "branch_by_fields" => each(branch, times, |b| by_fields(b, 17)),

@@ -17,7 +17,6 @@ pub fn run(inputs: &Inputs, operation: &str, times: usize) -> Option<usize> {
         "decode_transaction" => summed(&inputs.transaction_bytes, times, |rlp| Ok(rlp.as_val::<Transaction>()?.gas_limit as usize)),
         "transaction_by_iter" => summed(&inputs.transaction_bytes, times, by_iter),
         "transaction_by_at" => summed(&inputs.transaction_bytes, times, |rlp| by_at(rlp, 9)),
-        "transaction_by_val_at" => summed(&inputs.transaction_bytes, times, |rlp| by_val_at(rlp, 9)),
         "branch_by_iter" => summed(&inputs.branch, times, by_iter),
         "branch_by_at" => summed(&inputs.branch, times, |rlp| by_at(rlp, 17)),
         "branch_by_val_at" => summed(&inputs.branch, times, |rlp| by_val_at(rlp, 17)),
