@@ -146,7 +146,10 @@ fn by_at(bytes: &[u8], count: usize) -> Option<usize> {
 /// Takes each of 200 items once, by steps of 77.
 fn by_at_shuffled(bytes: &[u8]) -> Option<usize> {
     let list = Rlp::new(bytes);
-    summed(200, |turn| Some(list.at(turn.wrapping_mul(77) % 200).ok()?.as_raw().len()))
+    summed(
+        200,
+        |turn| Some(list.at(turn.wrapping_mul(77) % 200).ok()?.as_raw().len()),
+    )
 }
 
 fn by_val_at(alloc: Global, bytes: &[u8], count: usize) -> Option<usize> {
