@@ -12,7 +12,8 @@ import subprocess
 
 import machine
 
-RUNS = 5
+# Each round runs all operations once, so that what disturbs the machine for a while doesn't disturb all runs of an operation.
+RUNS = 7
 SECONDS = 0.3
 # what another program is called, if nothing else is said
 OTHER = "other build"
@@ -82,14 +83,9 @@ def enough(program, operation):
     return max(1, int(times * SECONDS / max(seconds(program, operation, times), 1e-6)))
 
 
-def nanoseconds(programs, operation):
-    """The median for each program, which run by turns, and their smallest times."""
-    times = [enough(program, operation) for program in programs]
-    taken = [[] for _ in programs]
-    for _ in range(RUNS):
-        for program, count, each in zip(programs, times, taken):
-            each.append((seconds(program, operation, count) - seconds(program, operation, 0)) * 1e9 / count)
-    return [statistics.median(each) for each in taken], [min(each) for each in taken]
+def nanoseconds(programs, operation, times):
+    """One run of each program, by turns."""
+    return [(seconds(program, operation, count) - seconds(program, operation, 0)) * 1e9 / count for program, count in zip(programs, times)]
 
 
 def counted(program, operation, times):
@@ -105,7 +101,7 @@ def instructions(programs, operation):
 
 
 def write(file, rows, called):
-    """Writes the medians, the instructions and their ratios, with the version, the day and the machine."""
+    """Writes the smallest times, the instructions and their ratios, with the version, the day and the machine."""
     heads = ["operation"]
     for unit, ratio in (("ns", "ratio"), ("instructions", "ratio of instructions"))[: 2 if rows and rows[0][2] else 1]:
         heads += [unit, *(f"{unit}, {name}" for name in called), *(f"{ratio}, {name}" for name in called)]
@@ -116,7 +112,7 @@ def write(file, rows, called):
             missing = [""] * (len(called) - len(others))
             cells += [f"{number:.1f}" for number in (own, *others)] + missing + [f"{own / number:.2f}" for number in others] + missing
         lines.append(cells)
-    machine.write(file, heads, lines, runs=f"median of {RUNS} runs")
+    machine.write(file, heads, lines, runs=f"least of {RUNS} runs")
 
 
 def words():
@@ -128,12 +124,12 @@ def words():
 
 
 def main():
-    given, rows, unequal = words(), [], []
+    given, plan, rows, unequal = words(), [], [], []
     if given.write and not given.against:
         raise SystemExit("--write needs another program")
     programs, called = [given.program, *given.against], (given.called + [OTHER] * len(given.against))[: len(given.against)]
-    other = "; then those of each other program, and this one's median by theirs" if given.against else ""
-    print(f"nanoseconds of processor time: the median and the smallest of {RUNS} runs{other}")
+    other = "; then those of each other program, and this one's smallest by theirs" if given.against else ""
+    print(f"nanoseconds of processor time: the median and the smallest of {RUNS} runs{other}", flush=True)
     for operation, what in OPERATIONS.items():
         if not machine.is_wanted(operation, given.words):
             continue
@@ -144,12 +140,17 @@ def main():
             unequal.append(what)
             print(f"{what:50} refused: the sums of the results are {' and '.join(str(sums[program]) for program in some)}", flush=True)
             continue
-        medians, least = nanoseconds(some, operation)
+        plan.append((operation, what, some, [enough(program, operation) for program in some], []))
+    for _ in range(RUNS):
+        for operation, _, some, times, taken in plan:
+            taken.append(nanoseconds(some, operation, times))
+    for operation, what, some, _, taken in plan:
+        least = [min(each) for each in zip(*taken)]
         counts = instructions(some, operation) if given.instructions else []
-        ratio = "".join(f"{medians[0] / median:8.2f}" for median in medians[1:])
+        ratio = "".join(f"{least[0] / low:8.2f}" for low in least[1:])
         told = "; instructions" + "".join(f" {count:,.1f}" for count in counts) if counts else ""
-        print(f"{what:50}" + "".join(f"{median:13.1f} {low:13.1f}" for median, low in zip(medians, least)) + ratio + told, flush=True)
-        rows.append((what, medians, counts))
+        print(f"{what:50}" + "".join(f"{statistics.median(each):13.1f} {min(each):13.1f}" for each in zip(*taken)) + ratio + told, flush=True)
+        rows.append((what, least, counts))
     if unequal:
         raise SystemExit(f"the sums of the results differ: {', '.join(unequal)}; nothing was written")
     if given.write:
