@@ -4,7 +4,7 @@ import os
 import pathlib
 
 ROOT = pathlib.Path(__file__).resolve().parent.parent
-# The most memory that one job of a check takes, in kB.
+# The memory that each job of a check may take, in kB. A check with one job takes up to 5.3 GB: the check of `rlp_show`.
 JOB = 4_000_000
 
 

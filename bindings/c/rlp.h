@@ -1,8 +1,10 @@
 /* The Recursive Length Prefix format of Ethereum. Link librlp.a or librlp.so; neither needs another library.
  *
- * What each function answers, and what it leaves in its result parameters, is proved to be as stated here, for all
- * bytes, lengths and items. By the way they are written, and by no proof, none takes memory, keeps a pointer or has a
- * state; none writes elsewhere than through its result parameters. So calls may run at the same time.
+ * The status that each function returns, and what it leaves in its result parameters, are proved to be as described
+ * here, for all bytes, lengths and items. The lists of statuses behind `Status:`, and the ranges of `*count` and
+ * `header_len`, follow from what is proved, but no contract states them. By the way they are written, and by no proof,
+ * none takes memory, keeps a pointer or has a state; none writes elsewhere than through its result parameters. So calls
+ * may run at the same time.
  *
  * A caller owes this, and nothing tests it: `bytes` are `len` readable bytes, `items` are `items_len` readable
  * elements, and `out` are `cap` writable ones. A pointer may be NULL if its length is 0. Result parameters are aligned,
@@ -82,11 +84,12 @@ uint32_t rlp_flatten(const uint8_t *RLP_RESTRICT bytes, size_t len, uint32_t max
 /* Finds the fields of the standalone transaction that the bytes are, as in EIP-2718, at depth 1 and in order; `*count`
  * is the number of fields. `*transaction_type` is 0 for a legacy transaction, which is a list, and otherwise the byte
  * in front of the list: 1 (EIP-2930), 2 (EIP-1559), 3 (EIP-4844) or 4 (EIP-7702). Each field is tested, and in a field
- * that is a list each item. A number has at most 8 or 32 bytes, an address 20 and a hash 32. The parity of a signature
- * is 0 or 1; in an authorization it is a number of at most one byte. The two numbers after the parity are from 1 to
- * below the order of secp256k1. After RLP_NO_ROOM the elements of `out` have no meaning. After a fault `*count` is the
- * number of the field that has the fault or is missing, counted from 1; after too many fields the number of the first
- * field too many; and 0 after a fault of the whole.
+ * that is a list each item. A number has at most 8 or 32 bytes, an address 20 and a hash 32. The parity of the
+ * transaction's signature is 0 or 1, and the two numbers after it are from 1 to below the order of secp256k1. In an
+ * authorization the parity is any number of at most one byte, and the two numbers any of at most 32 bytes: a block may
+ * hold an authorization without a valid signature, which EIP-7702 skips. After RLP_NO_ROOM the elements of `out` have
+ * no meaning. After a fault `*count` is the number of the field that has the fault or is missing, counted from 1; after
+ * too many fields the number of the first field too many; and 0 after a fault of the whole.
  * Status: 0, 1, 2, 3, 4, 5, 6, 7, 8, 11, 13, 16; after 2 for no bytes, and 16, `*transaction_type` is unchanged. */
 uint32_t rlp_transaction(const uint8_t *RLP_RESTRICT bytes, size_t len, uint32_t *RLP_RESTRICT transaction_type,
                          rlp_item *RLP_RESTRICT out, size_t cap, size_t *RLP_RESTRICT count);

@@ -22,7 +22,7 @@ from machine import parser, write
 RUNS = 3
 DISTINCT = A_DAY // 10
 PARTS = 4
-HEADS = ["how", "seconds", "processor seconds", "ms a block", "millions of bytes in a second", "requests for memory a block", "memory of a process, MB"]
+HEADS = ["how", "seconds", "processor seconds", "ms a block", "MB/s", "allocations a block", "memory of a process, MB"]
 
 
 def input_of(folder, blocks):

@@ -3,7 +3,9 @@
 usage: gate.py ROOT FILE
 
 It looks at the run's processes of the prover every half a second, and adds up their processor time by crate. What a process takes
-after the last look isn't counted. What `rt ci` prints is in `out/bench/gate.log`. A run that fails writes no FILE. `tools/pages/calling` makes a table of FILE, which is `gate.tsv` here.
+after the last look isn't counted. What `rt ci` prints is in `out/bench/gate.log`. Without RT_JOBS one check runs for each processor.
+FILE also has the minutes that the run takes by its schedule, with what each part took. A run that fails writes no FILE.
+`tools/pages/calling` makes a table of FILE, which is `gate.tsv` here.
 """
 
 import os
@@ -14,8 +16,13 @@ import tempfile
 import time
 from collections import defaultdict
 
-from machine import file_of_times
+sys.path.append(os.path.dirname(os.path.dirname(os.path.abspath(__file__))))
 
+from machine import file_of_times
+from schedule import foretold
+from tree import crates
+
+PLACES = int(os.environ.get("RT_JOBS", os.cpu_count() or 1))
 EVERY = 0.5
 TICKS = os.sysconf("SC_CLK_TCK")
 NAME = re.compile(rb"--crate-name\0([^\0]+)")
@@ -76,12 +83,13 @@ def main():
         clone = os.path.join(folder, "rlp")
         subprocess.run(["git", "clone", "--quiet", root, clone], check=True)
         with open(printed, "w", encoding="utf-8") as log:
-            run = subprocess.Popen(["rt", "ci", "--anew"], cwd=clone, stdin=subprocess.DEVNULL, stdout=log, stderr=subprocess.STDOUT)
+            run = subprocess.Popen(["rt", "ci", "--anew"], cwd=clone, stdin=subprocess.DEVNULL, stdout=log, stderr=subprocess.STDOUT, env={**os.environ, "RT_JOBS": str(PLACES)})
             parts, whole = watched(run)
     with open(printed, encoding="utf-8", errors="replace") as log:
         last = log.read().splitlines()[-1]
     rows = [[*part, *(f"{number:.0f}" for number in numbers)] for part, numbers in sorted(parts.items(), key=lambda it: it[1][0])]
-    text = file_of_times(HEADS, rows, result=f"{last}, in {whole / 60:.1f} minutes")
+    schedule = f"{foretold(parts, crates(), PLACES):.1f} minutes"
+    text = file_of_times(HEADS, rows, result=f"{last}, in {whole / 60:.1f} minutes", schedule=schedule, checks=str(PLACES))
     print(text, end="")
     if run.returncode:
         sys.exit(f"{to} is as it was, since the run failed")

@@ -61,7 +61,7 @@ def main():
     os.makedirs(given.folder, exist_ok=True)
     programs = [given.program] + ([given.against] if given.against else [])
     other = "; then those of the other build, and the time of this one by the other's" if given.against else ""
-    print(f"millions of bytes of input in a second of processor time: the median and the smallest of {RUNS} runs{other}")
+    print(f"MB/s of input, by processor time: the median and the smallest of {RUNS} runs{other}")
     for name, line_of in kinds().items():
         if not is_wanted(name, given.words):
             continue
@@ -78,7 +78,7 @@ def main():
         print(f"{name:40}" + "".join(rate(size, taken) for taken in times) + ratio, flush=True)
         rows.append([name, *(f"{size / statistics.median(taken) / 1e6:.1f}" for taken in times), *([ratio.strip()] if ratio else [])])
     if given.write:
-        heads = ["kind of lines", "millions of bytes in a second", *([f"the same, {given.called}", "ratio of times"] if given.against else [])]
+        heads = ["kind of lines", "MB/s", *([f"MB/s, {given.called}", "ratio of times"] if given.against else [])]
         write(given.write, heads, rows, runs=f"median of {RUNS} runs")
 
 

@@ -16,7 +16,7 @@ def library(folder):
 
 
 def asked(preload, words, path=os.devnull):
-    """The requests for memory that a run makes over an input, and the most memory that it has, in MB."""
+    """The allocations that a run makes over an input, and the most memory that it has, in MB."""
     with tempfile.TemporaryFile() as told, open(path, "rb") as given:
         how = {"LD_PRELOAD": preload, "REFUSE": "0", "TELL": str(told.fileno())}
         subprocess.run(words, stdin=given, stdout=subprocess.DEVNULL, env={**os.environ, **how}, pass_fds=(told.fileno(),), check=True)

@@ -15,6 +15,10 @@ class Payload(str):
     """The line of the bytes after that number."""
 
 
+class Encoding(str):
+    """The line of the encoding of a list, whose items have no lines."""
+
+
 def row(data, place, begin, end, what):
     """The row of a header and a payload."""
     return f"{place} {data[place:begin].hex() or '-'} {data[begin:end].hex() or '-'} {what}"
@@ -24,7 +28,8 @@ def rows(data, lines):
     """A row for each line, and for each header of a list that has items, or of the string of a typed record."""
     place, found = 0, []
     for line in lines:
-        while not isinstance(line, Payload) and place < len(data) and data[place] > 0xC0:
+        own = bytes.fromhex(line.split(": 0x")[1]) if isinstance(line, Encoding) else None
+        while not isinstance(line, Payload) and place < len(data) and data[place] > 0xC0 and not (own and data.startswith(own, place)):
             begin = framing(data, place, len(data))[0]
             found.append(row(data, place, begin, begin, "list"))
             place = begin

@@ -13,7 +13,7 @@ from answers import Answered, bytes_of, canonical_end, encoded_list, encoded_str
 from guess import guess
 from keccak import keccak256
 from lines import digits, spoiled
-from places import Derived, Payload, TypeByte, rows
+from places import Derived, Encoding, Payload, TypeByte, rows
 from strict import bytes_of_node_text, node_text, strict_items, strict_string
 
 # ---- types: how an item is shown under a name, and how a random one is written
@@ -405,7 +405,8 @@ class Sent(Held):
 
 
 class AnyItem:
-    """An item of any kind, which is canonical and of at most 256 nested lists. A fault is that of the whole item."""
+    """An item of any kind, which is canonical and of at most 256 nested lists. A fault is that of the whole item. A list that has
+    items and is in 16 lists of the item is shown as its encoding, any other list item by item."""
 
     def lines(self, name, data):
         try:
@@ -413,18 +414,24 @@ class AnyItem:
         except Answered:
             is_deep = text_of_view(data) == "error deep"
             raise Wrong(name, f'Custom("{"item nests too deep" if is_deep else "item is not canonical"}")') from None
-        return self.shown(name, data)
+        return self.shown(name, data, 16)
 
-    def shown(self, name, data):
+    def shown(self, name, data, most):
+        """The lines of an item, through at most so many lists."""
         if data[0] < 0xC0:
             return STRING.lines(name, data)
-        items = strict_items(data)
-        return [line for place, item in enumerate(items) for line in AnyItem().shown(f"{name}[{place}]", item)] or [f"{name}: []"]
+        if most == 0 and data != b"\xc0":
+            return [Encoding(f"{name}.encoding: 0x{data.hex()}")]
+        return self.list_shown(name, strict_items(data), most - 1)
+
+    def list_shown(self, name, items, most):
+        """The lines of a list, whose items are shown through at most so many lists."""
+        return [line for place, item in enumerate(items) for line in AnyItem().shown(f"{name}[{place}]", item, most)] or [f"{name}: []"]
 
     def written(self, dice):
-        if dice.random() < 0.01:
-            data = b""
-            for _ in range(dice.choice((255, 256, 256, 257))):
+        if dice.random() < 0.02:
+            data = dice.choice((b"", b"", b"\5\xc0\x80", b"\xc1\xc0\6"))
+            for _ in range(dice.choice((14, 15, 16, 16, 17, 18, 255, 256, 256, 257))):
                 data = encoded_list([data])
             return data
         if dice.random() < 0.6:
@@ -561,23 +568,20 @@ def kind_line(name, kind):
 class KeptNode(AnyItem):
     """A node that is kept in its parent: an item of any kind, which is shown as a node if it has the form of one."""
 
-    def shown(self, name, data):
-        if data[0] < 0xC0:
-            return STRING.lines(name, data)
-        items = strict_items(data)
+    def list_shown(self, name, items, most):
         if len(items) == 17:
-            children = [line for place, item in enumerate(items[:16]) for line in self.shown(f"{name}.children[{place}]", item)]
-            return [kind_line(name, "branch"), *children, *AnyItem().shown(f"{name}.value", items[16])]
+            children = [line for place, item in enumerate(items[:16]) for line in self.shown(f"{name}.children[{place}]", item, most)]
+            return [kind_line(name, "branch"), *children, *AnyItem().shown(f"{name}.value", items[16], most)]
         try:
             path = strict_string(items[0])
             line = f"{name}.path: {path_text(path)}"
         except (Answered, IndexError):
-            return super().shown(name, data)
+            return super().list_shown(name, items, most)
         if len(items) != 2:
-            return super().shown(name, data)
+            return super().list_shown(name, items, most)
         if path[0] < 0x20:
-            return [kind_line(name, "extension"), line, *self.shown(f"{name}.child", items[1])]
-        return [kind_line(name, "leaf"), line, *AnyItem().shown(f"{name}.value", items[1])]
+            return [kind_line(name, "extension"), line, *self.shown(f"{name}.child", items[1], most)]
+        return [kind_line(name, "leaf"), line, *AnyItem().shown(f"{name}.value", items[1], most)]
 
 
 class Child:
@@ -650,11 +654,12 @@ def fields(text, types):
 
 
 TYPES = {"u8": number(1), "u64": number(8), "u256": number(32), "hash": HASH, "address": ADDRESS, "bloom": BLOOM, "string": STRING}
-TYPES |= {"scalar": Text(scalar_text, some_scalar), "v": number(32, v_text, (27, 28, 35, 36, 37, 38, (2 << 64) + 34, (2 << 64) + 35))}
+TYPES |= {"scalar": Text(scalar_text, some_scalar), "any_scalar": Text(number_text(32, hex), some_scalar), "v": number(32, v_text, (27, 28, 35, 36, 37, 38, (2 << 64) + 34, (2 << 64) + 35))}
 TYPES |= {"zero": Zero(), "truth": TRUTH, "recipient": RECIPIENT, "status": STATUS, "nonce": fixed(8), "hashes": ListOf(HASH)}
 TYPES["log"] = Record(fields("address:address topics:hashes data:string", TYPES))
 TYPES["access"] = Record(fields("address:address storage_keys:hashes", TYPES))
-TYPES["authorization"] = Signed(b"\5", Record(fields("chain_id:u256 address:address nonce:u64 y_parity:u8 r:scalar s:scalar", TYPES)))
+# EIP-7702 bounds an authorization by widths alone: y_parity < 2**8, r < 2**256 and s < 2**256.
+TYPES["authorization"] = Signed(b"\5", Record(fields("chain_id:u256 address:address nonce:u64 y_parity:u8 r:any_scalar s:any_scalar", TYPES)))
 TYPES |= {"logs": ListOf(TYPES["log"]), "access_list": ListOf(TYPES["access"])}
 TYPES["authorizations"] = ListOf(TYPES["authorization"])
 

@@ -8,6 +8,8 @@ from tree import ROOT, crates, needed
 DEFINITION = re.compile(r"^ *(?:(?:abbrev|unfoldable) )*(?:pub (?:data|record)|(?:abbrev|unfoldable) pub|(?:abbrev|unfoldable) mutual)\b", re.MULTILINE)
 # The crates whose definitions are the format itself, and those that stand on them for its calls.
 OWN = "rlp"
+# How the names of files end that hold mostly proofs, which nobody has to believe.
+PROVED = "Laws"
 
 
 def files_of(names, without=()):
@@ -21,6 +23,10 @@ def files_of(names, without=()):
     return found
 
 
+def links_to(files):
+    return ", ".join(f"[`{file.stem}`](../{file.relative_to(ROOT)})" for file in files)
+
+
 def table_of_files(order):
     """A row for each crate. The order names crates, and after a `-` those whose files stand elsewhere."""
     names = order.split()[1:]
@@ -28,6 +34,9 @@ def table_of_files(order):
     without = [name[1:] for name in names if name.startswith("-")]
     text = "| Crate | Files | Definitions |\n|---|---|---|\n"
     for crate, files in files_of(tops, without).items():
-        links = ", ".join(f"[`{file.stem}`](../{file.relative_to(ROOT)})" for file in files)
+        proved = [file for file in files if file.stem.endswith(PROVED) and file.stem != PROVED]
+        links = links_to(file for file in files if file not in proved)
+        if proved:
+            links += f"; with definitions in front of proofs, of which only the definitions need be right: {links_to(proved)}"
         text += f"| [`{crate}`](../crates/{crate}) | {len(files)} | {links} |\n"
     return text

@@ -1,6 +1,5 @@
 """The tries of bodies: which share a check, and what each check says of them."""
 
-import random
 import sys
 import threading
 import time
@@ -138,10 +137,10 @@ class Tries:
     def to_check(self):
         """The crates to check as they stand: those below first, unless their libraries are there, else those with the most bodies.
 
-        Where the time is bounded they are in another order each day, so that no crate is always left out.
+        Where the time is bounded they are in the order in which they were given.
         """
         if self.base.built and self.end:
-            return random.Random(time.strftime("%F")).sample(sorted(self.bodies), len(self.bodies))
+            return list(self.bodies)
         if self.base.built:
             return sorted(self.bodies, key=lambda crate: -len(self.bodies[crate]))
         return lowest_first(self.bodies, self.base.crates)

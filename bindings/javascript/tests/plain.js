@@ -111,7 +111,7 @@ const ORDER = 0xfffffffffffffffffffffffffffffffebaaedce6af48a03bbfd25e8cd0364141
 // signature, an address or nothing, any string, and in brackets a list of fields, or of any number of one kind behind
 // "each".
 const ACCESS_LIST = ["each", [20, ["each", 32]]];
-const AUTHORIZATIONS = ["each", ["n32", 20, "n8", "n1", "scalar", "scalar"]];
+const AUTHORIZATIONS = ["each", ["n32", 20, "n8", "n1", "n32", "n32"]];
 const SIGNED = ["bit", "scalar", "scalar"];
 const FEES = ["n8", "n8", "n32", "n32", "n8"];
 const TRANSACTIONS = [

@@ -78,7 +78,7 @@ ORDER = 0xFFFFFFFFFFFFFFFFFFFFFFFFFFFFFFFEBAAEDCE6AF48A03BBFD25E8CD0364141
 # signature, an address or nothing, any string, and in brackets a list of fields, or of any number of one kind behind
 # "each".
 ACCESS_LIST = ["each", [20, ["each", 32]]]
-AUTHORIZATIONS = ["each", ["n32", 20, "n8", "n1", "scalar", "scalar"]]
+AUTHORIZATIONS = ["each", ["n32", 20, "n8", "n1", "n32", "n32"]]
 SIGNED = ["bit", "scalar", "scalar"]
 FEES = ["n8", "n8", "n32", "n32", "n8"]
 TRANSACTIONS = {

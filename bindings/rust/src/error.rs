@@ -33,7 +33,7 @@ pub enum DecoderError {
     RlpTooDeep = 14,
     /// The items describe no tree, or lie outside the bytes.
     RlpBadItems = 15,
-    /// A transaction has a type other than 0 to 4.
+    /// A transaction begins no list, and its first byte isn't 1 to 4.
     RlpUnknownType = 16,
 }
 

@@ -1,5 +1,5 @@
 -- The items of a view, as a reader of items begins with them.
-use Rattle.std.proofs.Common.{◌≡◌, ℕ, ◌≤◌, ◌↔◌, Option, IsTrue, true, false, MatchResult, IfOk, List, [], ◌∷◌, ◌++◌, length, take, drop, map, ◌<◌}
+use Rattle.std.proofs.Common.{◌≡◌, ◌≢◌, ℕ, ◌≤◌, ◌↔◌, Option, IsTrue, true, false, MatchResult, IfOk, IsOkAnd, List, [], ◌∷◌, ◌++◌, length, take, drop, map, ◌<◌}
 use Rattle.std.proofs.{Common.{◌^◌, Bool, arith, Result, Ok, Err, None, Some, refl, sym, ap, ◌∙◌}, lemmas.Bool.{cond-true, cond-false}}
 use Rattle.std.proofs.{lemmas.List.length-map, lemmas.Result.err_from_is_err_and}
 use Rattle.rlp_reading.specs.{declared.error.DecoderError.DecoderError, declared.error.DecoderError.TheVariants.RlpExpectedToBeList, declared.header.PayloadInfo.{PayloadInfo}}
@@ -145,13 +145,16 @@ list_faulty_by v true e kind fault = grind (arith, cond-true, strict_untold)
 pub list_faulty : (v : View) (e : DecoderError) → list_fault v ≡ Some e → list_of_views v ≡ Err (fault_of e)
 list_faulty v e fault = list_faulty_by v v.is_strict e refl fault
 
+-- the items of a list of which an item was taken
+pub some_listed : (v : View) (vs left : List View) → list_of_views v ≡ Ok vs → 1 ≤ length left → length left ≤ length vs → IsOkAnd (list_of_views v) (λ vs. vs ≢ [])
+some_listed v vs left is one few = grind arith
+
 -- ---- a reader of items
 
 -- what a reader of the bytes has left
 abbrev pub left_in : Bool → List ℕ → ItemsLeft
 left_in strict b = record {
   views = map (λ b. record { bytes = b; is_strict = strict }) (split b);
-  past = fault (after_items b);
   after = after_items b;
 }
 

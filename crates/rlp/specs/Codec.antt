@@ -83,7 +83,7 @@ option c = lawful (form.option (plain c)) (option_lawful (plain c) c.reads_stric
 
 -- a type that holds a value of another type, and allocates no memory for the value
 abbrev pub newtype : {A B : Type 0} → (B → A) → Codec A → Codec B
-newtype value c = lawful (form.newtype value (plain c)) (value_lawful (plain c) value (plain c).reading.takes_memory c.reads_strictly)
+newtype value c = lawful (form.newtype value (plain c)) (value_lawful (plain c) value (plain c).reading.takes_memory (plain c).reading.Allocates c.reads_strictly)
 
 -- a type of exactly n bytes
 abbrev pub fixed_bytes : {B : Type 0} → ℕ → (B → List ℕ) → Codec B
@@ -91,7 +91,7 @@ fixed_bytes n bytes = newtype bytes (byte_array n)
 
 -- a type that holds a value of another type in memory of its own, such as a box
 abbrev pub holding : {A B : Type 0} → (B → A) → Codec A → Codec B
-holding value c = lawful (form.holding value (plain c)) (value_lawful (plain c) value true c.reads_strictly)
+holding value c = lawful (form.holding value (plain c)) (value_lawful (plain c) value true (form.BoxAllocates c.reading) c.reads_strictly)
 
 -- a type that contracts see as lists of values
 abbrev pub list_type : {A B : Type 0} → (B → List A) → Codec A → Codec B

@@ -1,24 +1,16 @@
 -- What a reader of the items of a list has left.
-use Rattle.std.specs.Prelude.{ℕ, ◌≡◌, ◌≤◌, List, [], ◌∷◌, drop, length, None, Result, Ok, Err}
-use Rattle.rlp_reading.specs.{declared.error.DecoderError.DecoderError, Format.Framing.{strict_fault, value}, Views.View.View, Form.{FieldsReading, fault_of, take_all}}
+use Rattle.std.specs.Prelude.{ℕ, ◌≡◌, List, [], ◌∷◌, length, Result, Ok, Err}
+use Rattle.rlp_reading.specs.{declared.error.DecoderError.DecoderError, Format.Framing.fault, Views.View.View, Form.{FieldsReading, fault_of, take_all}}
 
--- The views of the items that are left, in order; the error past the last item; and the bytes that follow the items in the list, which are the same before and after
--- an item is taken.
+-- The views of the items that are left, in order, and the bytes that follow the items in the list. These bytes are the same before and after an item is taken.
 pub record ItemsLeft : Type 0 where
   pub views : List View
-  pub past : DecoderError
   pub after : List ℕ
 
 -- The views of the items that are left of a list, in order, and the number of all items of the list.
 pub record ItemsCounted : Type 0 where
   pub views : List View
   pub count : ℕ
-
--- The bytes are exactly one item, and the value of the item begins after h bytes.
-pub record HasValueAfter (b : List ℕ) (h : ℕ) : Type 0 where
-  pub whole : strict_fault b ≡ None
-  pub content : value b ≡ Ok (drop h b)
-  pub within : h ≤ length b
 
 -- the first of the views, or the error if there is none
 abbrev pub first_view : DecoderError → List View → Result View DecoderError
@@ -30,9 +22,13 @@ abbrev pub after_first : List View → List View
 after_first [] = []
 after_first (v ∷ vs) = vs
 
--- the next item, or the error if no item is left
+-- the error past the last item: the fault of the bytes that follow the items
+abbrev pub past_fault : ItemsLeft → DecoderError
+past_fault left = fault left.after
+
+-- the next item, or the error past the last item if no item is left
 abbrev pub next_item : ItemsLeft → Result View DecoderError
-next_item left = first_view left.past left.views
+next_item left = first_view (past_fault left) left.views
 
 -- what is left after the next item
 abbrev pub after_next : ItemsLeft → ItemsLeft

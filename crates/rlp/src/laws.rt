@@ -3,6 +3,7 @@
 //! makes a call and returns the result of the call, which the law is about.
 
 mod described;
+mod own_faults;
 mod reading;
 mod round_trip;
 mod strict;
@@ -10,10 +11,15 @@ mod uints;
 mod views;
 
 pub use described::{finished_buffers_tell_items, stream_joins_what_is_described};
+pub use own_faults::{
+    fields_have_own_faults, holders_have_own_faults, reading_needs_no_memory,
+    scalars_have_own_faults,
+};
 pub use reading::{
     arrays_are_read, bool_is_read, bytes_are_read, encodings_are_raw_items, field_is_read,
     number_is_read, one_reading, option_is_read, option_of_bytes_is_read, option_of_option_is_read,
-    options_are_read, raw_item_is_read, string_is_read, struct_is_read, text_is_read,
+    options_are_read, raw_item_is_read, raw_items_are_shallow, string_is_read, struct_is_read,
+    text_is_read,
 };
 pub use rlp_reading::laws::{
     cuts_begin_one_another, digits_are_canonical, encoding_has_its_depth,

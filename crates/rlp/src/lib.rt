@@ -14,7 +14,7 @@
 
 ghost use Rattle.std.specs.{Prelude.{◌≡◌, IfOk, IfErr, IsOkAnd, IsTrue, ◌⊎◌, List, map, All}, Vec.vec_items};
 ghost use Rattle.rlp_format.specs.{Format.Encoding.{list_of, encoding}, Values.Value.AreAlike};
-ghost use Rattle.rlp_reading.specs.{declared.error.DecoderError.TheVariants.OutOfMemory, Views.View.{strict_view_of, view_of}, Form.{Faults, Gives, list_reading}};
+ghost use Rattle.rlp_reading.specs.{declared.error.DecoderError.TheVariants.OutOfMemory, Views.View.{strict_view_of, view_of}, Form.{Faults, Gives, MayLackMemory, list_reading}};
 
 mod impls;
 pub mod laws;
@@ -51,7 +51,7 @@ pub use traits::{
 pub fn decode<T: Decodable>(alloc: Global, bytes: &[u8]) -> Result<T, DecoderError>
     ensures value { IfOk result (λ x. Gives T.reading (view_of bytes.now) x) }
     ensures fault { IfErr result (λ e. Faults T.reading (view_of bytes.now) e
-        ⊎ ((e ≡ OutOfMemory) × IsTrue T.reading.takes_memory)) }
+        ⊎ ((e ≡ OutOfMemory) × MayLackMemory T.reading (view_of bytes.now))) }
 {
     Rlp::new(bytes).as_val(alloc)
 }
@@ -66,7 +66,9 @@ pub fn decode_list<T: Decodable>(alloc: Global, bytes: &[u8]) -> Result<Vec<T>, 
     ensures value { IfOk result
         (λ values. Gives (list_reading vec_items T.reading) (view_of bytes.now) values) }
     ensures fault { IfErr result
-        (λ e. Faults (list_reading (λ xs. xs) T.reading) (view_of bytes.now) e ⊎ (e ≡ OutOfMemory)) }
+        (λ e. Faults (list_reading (λ xs. xs) T.reading) (view_of bytes.now) e
+        ⊎ ((e ≡ OutOfMemory)
+        × MayLackMemory (list_reading (λ xs. xs) T.reading) (view_of bytes.now))) }
 {
     Rlp::new(bytes).as_list(alloc)
 }
@@ -81,7 +83,7 @@ pub fn decode_list<T: Decodable>(alloc: Global, bytes: &[u8]) -> Result<Vec<T>, 
 pub fn decode_strict<T: Decodable>(alloc: Global, bytes: &[u8]) -> Result<T, DecoderError>
     ensures value { IfOk result (λ x. Gives T.reading (strict_view_of bytes.now) x) }
     ensures fault { IfErr result (λ e. Faults T.reading (strict_view_of bytes.now) e
-        ⊎ ((e ≡ OutOfMemory) × IsTrue T.reading.takes_memory)) }
+        ⊎ ((e ≡ OutOfMemory) × MayLackMemory T.reading (strict_view_of bytes.now))) }
 {
     Rlp::new_strict(bytes).as_val(alloc)
 }
@@ -99,7 +101,9 @@ pub fn decode_list_strict<T: Decodable>(alloc: Global, bytes: &[u8]) -> Result<V
     ensures value { IfOk result
         (λ values. Gives (list_reading vec_items T.reading) (strict_view_of bytes.now) values) }
     ensures fault { IfErr result
-        (λ e. Faults (list_reading (λ xs. xs) T.reading) (strict_view_of bytes.now) e ⊎ (e ≡ OutOfMemory)) }
+        (λ e. Faults (list_reading (λ xs. xs) T.reading) (strict_view_of bytes.now) e
+        ⊎ ((e ≡ OutOfMemory)
+        × MayLackMemory (list_reading (λ xs. xs) T.reading) (strict_view_of bytes.now))) }
 {
     Rlp::new_strict(bytes).as_list(alloc)
 }
@@ -117,7 +121,7 @@ pub fn decode_list_strict<T: Decodable>(alloc: Global, bytes: &[u8]) -> Result<V
 pub fn decode_whole<T: StrictRead>(alloc: Global, bytes: &[u8]) -> Result<T, DecoderError>
     ensures whole { IfOk result (λ w. T.fits w × (bytes.now ≡ encoding (T.item w))) }
     ensures fault { IfErr result (λ e. Faults T.reading (strict_view_of bytes.now) e
-        ⊎ ((e ≡ OutOfMemory) × IsTrue T.reading.takes_memory)) }
+        ⊎ ((e ≡ OutOfMemory) × MayLackMemory T.reading (strict_view_of bytes.now))) }
     ensures only { (v : T) → IsOkAnd result (λ w. AreAlike T.item w v)
         → bytes.now ≡ encoding (T.item v) }
     ensures alike { (v : T) → T.fits v → bytes.now ≡ encoding (T.item v)
@@ -144,7 +148,8 @@ pub fn decode_list_whole<T: StrictRead>(alloc: Global, bytes: &[u8]) -> Result<V
         × (bytes.now ≡ encoding (list_of (map T.item ws.items)))) }
     ensures fault { IfErr result
         (λ e. Faults (list_reading (λ xs. xs) T.reading) (strict_view_of bytes.now) e
-        ⊎ (e ≡ OutOfMemory)) }
+        ⊎ ((e ≡ OutOfMemory)
+        × MayLackMemory (list_reading (λ xs. xs) T.reading) (strict_view_of bytes.now))) }
     ensures only { (vs : List T)
         → IsOkAnd result (λ ws. map T.item ws.items ≡ map T.item vs)
         → bytes.now ≡ encoding (list_of (map T.item vs)) }

@@ -2,7 +2,7 @@
 
 ghost use Rattle.std.specs.{Prelude.{◌≡◌, ◌+◌, ◌⊎◌, ◌^◌, Ok, Err, Some, IfOk, IfErr, IsTrue, slice_get}, Vec.vec_items};
 ghost use Rattle.rlp_reading.specs.{declared.error.DecoderError.TheVariants.OutOfMemory, Values.FaultText.field_fault_text, Views.View.item_views, Laws.{TakePossible}};
-ghost use Rattle.rlp_reading.specs.Form.{Faults, FieldsReading, Gives, fault_of, group_before, items_of, list_reading, no_fields, one_field, part_fields, struct_reading};
+ghost use Rattle.rlp_reading.specs.Form.{Faults, FieldsReading, Gives, MayLackMemory, fault_of, group_before, items_of, list_reading, no_fields, one_field, part_fields, struct_reading};
 ghost use Rattle.rlp_reading.proofs.FieldLaws.{end_possible, group_possible, one_wide, part_possible};
 ghost use Rattle.rlp.specs.Left.{AreFaulty};
 
@@ -143,10 +143,10 @@ impl<T: Decodable, Q: DecodeFields> DecodeFields for (T, Q) {
 pub fn decode_struct<F: DecodeFields + Drop>(alloc: Global, rlp: &Rlp<'_>) -> Result<F, FieldFault>
     ensures value { IfOk result (λ x. Gives (struct_reading F.reading) rlp.now x) }
     ensures fault { IfErr result (λ e. Faults (struct_reading F.reading) rlp.now e.fault
-        ⊎ ((e.fault ≡ OutOfMemory) × IsTrue F.reading.takes_memory)) }
+        ⊎ ((e.fault ≡ OutOfMemory) × MayLackMemory (struct_reading F.reading) rlp.now)) }
     ensures place { IfErr result (λ e.
         (slice_get ((struct_reading F.reading).read rlp.now).path 0 ≡ e.place)
-        ⊎ ((e.fault ≡ OutOfMemory) × IsTrue F.reading.takes_memory)) }
+        ⊎ ((e.fault ≡ OutOfMemory) × MayLackMemory (struct_reading F.reading) rlp.now)) }
 {
     let mut fields = match Fields::framed(rlp) {
         Ok(fields) => fields,
@@ -174,9 +174,9 @@ fn first_fault<F: DecodeFields>(rlp: &Rlp<'_>, after: usize, found: DecoderError
         → AreFaulty F.reading (item_views rlp.now) after found
         ⊎ ((found ≡ OutOfMemory) × IsTrue F.reading.takes_memory) }
     ensures fault { Faults (struct_reading F.reading) rlp.now result.fault
-        ⊎ ((result.fault ≡ OutOfMemory) × IsTrue F.reading.takes_memory) }
+        ⊎ ((result.fault ≡ OutOfMemory) × MayLackMemory (struct_reading F.reading) rlp.now) }
     ensures place { (slice_get ((struct_reading F.reading).read rlp.now).path 0 ≡ result.place)
-        ⊎ ((result.fault ≡ OutOfMemory) × IsTrue F.reading.takes_memory) }
+        ⊎ ((result.fault ≡ OutOfMemory) × MayLackMemory (struct_reading F.reading) rlp.now) }
 {
     let count = match rlp.item_count() {
         Ok(count) => count,

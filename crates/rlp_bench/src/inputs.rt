@@ -2,9 +2,7 @@
 
 use rlp::{Encodable, RlpStream, Uint};
 use rlp_records::Address;
-use rlp_transactions::{
-    LegacyTransaction, NonZeroScalar, Payload, Recipient, SignedLegacyTransaction,
-};
+use rlp_transactions::{LegacyTransaction, NonZeroScalar, Recipient, SignedLegacyTransaction};
 use std::alloc::{AllocError, Global};
 
 /// Values, and encodings. Each encoding is there twice, one after the other.

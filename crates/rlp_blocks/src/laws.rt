@@ -1,12 +1,15 @@
-//! What holds of all that a key signs: nothing has two meanings.
+//! What a key signs: of transactions, authorizations, messages and node records, none has two meanings.
 
 ghost use Rattle.std.specs.Prelude.{◌≡◌, ◌<◌, ◌^◌, ◌⊎◌, length};
 ghost use Rattle.rlp_records.specs.Keccak.{keccak256};
 ghost use Rattle.rlp_blocks.specs.SignedContent.{AreCollision, FitsContent, MeanTheSame, SignedContent, content_bytes};
 
-/// Nothing that a key signs has two meanings. A key of an account signs transactions,
-/// authorizations, and messages, which begin with the byte 0x19, as in EIP-191 and EIP-712; the key
-/// of a node signs node records. The law takes the bytes of a transaction of an unknown type to
+/// Of the transactions, authorizations, messages and node records that a key signs, none has two
+/// meanings. A key of an account signs transactions, authorizations, and messages, which begin with
+/// the byte 0x19, as in EIP-191 and EIP-712; the key of a node signs node records. The law says
+/// nothing of the packets of discv4, which the key of a node signs too: the bytes of some packets
+/// are also the bytes of an authorization. Nor does it speak of seals, which some chains sign over
+/// a part of a header. The law takes the bytes of a transaction of an unknown type to
 /// begin with the type, which isn't 0x19. If two contents have the same bytes, fewer than 2^64,
 /// they are signed for the same purpose, with the same fields. Node records and legacy transactions
 /// are both lists: they differ because the keys of a record are in order.

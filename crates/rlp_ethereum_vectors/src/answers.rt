@@ -2,7 +2,8 @@
 
 use crate::kinds::both_ways;
 use crate::{
-    fields, hashes, messages, node_records, nodes, places, read_hashes, reading, transactions, uses,
+    direct, fields, hashes, messages, node_records, nodes, places, read_hashes, reading,
+    transactions, uses,
 };
 use rlp::DecoderError;
 use std::alloc::Global;
@@ -35,6 +36,7 @@ fn about_bytes(alloc: Global, call: &str, bytes: &[u8]) -> Result<String, Decode
         "account" => uses::tell_account(alloc, bytes),
         "address" => hashes::address(alloc, name, bytes),
         "at most" => reading::bounded(alloc, name, bytes),
+        "direct" => direct::answer(alloc, name, bytes),
         "fields" => fields::answer(alloc, name, bytes),
         "hash" => hashes::answer(alloc, name, bytes),
         "number" => messages::number(alloc, name, bytes),

@@ -1,8 +1,9 @@
 //! Fields of transactions and of other records, as text.
 
+use crate::transactions::authorized;
 use rlp::DecoderError;
 use rlp_headers::DepositReceipt;
-use rlp_messages::{Disconnect, Message, P2pMessage};
+use rlp_p2p::{Disconnect, Message, P2pMessage};
 use rlp_records::{Eip2718, Enveloped, keccak256};
 use rlp_transactions::{
     AnyTransaction, Authorization, DepositTransaction, Tagged, Transaction, UnsignedTransaction,
@@ -19,6 +20,7 @@ pub(crate) fn answer(alloc: Global, name: &str, bytes: &[u8]) -> Result<String, 
         "fees" => fees(alloc, &Transaction::from_bytes(alloc, bytes)?),
         "unsigned" => text(alloc, UnsignedTransaction::from_bytes(alloc, bytes)?),
         "authorization" => text(alloc, Authorization::from_signing_payload(alloc, bytes)?),
+        "signature of an authorization" => authorized(alloc, bytes),
         "deposit" => text(alloc, DepositTransaction::from_bytes(alloc, bytes)?),
         "source of deposit" => source(alloc, bytes),
         "deposit receipt" => text(alloc, DepositReceipt::from_bytes(alloc, bytes)?),

@@ -2,11 +2,12 @@
 
 use rlp::{DecoderError, RlpStream};
 use rlp_headers::{BlockAccessList, Header};
+use rlp_pooled::PooledTransaction;
 use rlp_records::{Address, Eip2718, Hash, encoding_hash, keccak256};
 use rlp_transactions::{
     AccessListTransaction, AnyTransaction, Authorization, BlobTransaction, FeeMarketTransaction,
-    PooledTransaction, SetCodeTransaction, Signed, Tagged, TypedTransaction,
-    UnsignedLegacyTransaction, UnsignedTransaction, signing_hash,
+    SetCodeTransaction, Signed, Tagged, TypedTransaction, UnsignedLegacyTransaction,
+    UnsignedTransaction, signing_hash,
 };
 use rlp_trie::TrieNode;
 use std::alloc::{AllocError, Global};

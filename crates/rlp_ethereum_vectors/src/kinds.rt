@@ -8,19 +8,19 @@ use rlp_headers::{
     Withdrawal,
 };
 use rlp_messages::{
-    BlockBodies, BlockHeaders, BlockRangeUpdate, Disconnect, Eth68Message, Eth69Message, ForkId,
-    GetBlockBodies, GetBlockHeaders, GetPooledTransactions, GetReceipts, HashOrNumber, Hello,
-    Message, MessageBounds, NewBlock, NewBlockHashes, NewPooledTransactionHashes, P2pMessage, Ping,
-    Pong, PooledTransactions, Receipts, Receipts69, Status68, Status69, Transactions,
-    WithRequestId,
+    BlockBodies, BlockHeaders, BlockRangeUpdate, Eth68Message, Eth69Message, ForkId,
+    GetBlockBodies, GetBlockHeaders, GetPooledTransactions, GetReceipts, HashOrNumber, NewBlock,
+    NewBlockHashes, NewPooledTransactionHashes, PooledTransactions, Receipts, Receipts69, Status68,
+    Status69, Transactions, WithRequestId,
 };
 use rlp_node_record::NodeRecord;
+use rlp_p2p::{Disconnect, Hello, Message, MessageBounds, P2pMessage, Ping, Pong};
+use rlp_pooled::{BlobTransactionWithCellProofs, BlobTransactionWithProofs, PooledTransaction};
 use rlp_records::Hash;
 use rlp_transactions::{
     AccessList, AccessListTransaction, AnyTransaction, Authorization, BlobTransaction,
-    BlobTransactionWithCellProofs, BlobTransactionWithProofs, DepositTransaction,
-    FeeMarketTransaction, PooledTransaction, SetCodeTransaction, Signed, SignedLegacyTransaction,
-    Transaction, UnsignedLegacyTransaction, UnsignedTransaction,
+    DepositTransaction, FeeMarketTransaction, SetCodeTransaction, Signed, SignedAuthorization,
+    SignedLegacyTransaction, Transaction, UnsignedLegacyTransaction, UnsignedTransaction,
 };
 use rlp_trie::{Branch, BranchChild, Child, Extension, Leaf, TrieNode};
 use std::alloc::{AllocError, Global};
@@ -72,7 +72,7 @@ fn again(alloc: Global, kind: &str, bytes: &[u8]) -> Again {
         AccessList Account AnyReceipt AnyTransaction Block BlockAccessList BlockRangeUpdate Body
         Branch BranchChild Child DepositTransaction Disconnect Extension ForkId Hash HashOrNumber
         Header Hello Leaf Log NewBlock NewBlockHashes NewPooledTransactionHashes NodeRecord Ping Pong
-        PooledTransaction Receipt Status68 Status69 Transaction Transactions
+        PooledTransaction Receipt SignedAuthorization Status68 Status69 Transaction Transactions
         TrieNode TypedReceipt UnsignedLegacyTransaction Withdrawal;
         BlockBodies BlockHeaders GetBlockBodies GetBlockHeaders GetPooledTransactions GetReceipts
         PooledTransactions Receipts Receipts69;

@@ -4,6 +4,7 @@
 #![tactic(auto)]
 
 mod answers;
+mod direct;
 mod fields;
 mod hashes;
 mod kinds;

@@ -3,9 +3,9 @@
 use crate::fields::text;
 use rlp::DecoderError;
 use rlp_messages::{
-    Capability, ETH_68, ETH_69, Eth68Message, Eth69Message, GetBlockHeaders, HashOrNumber, Hello,
-    Message, NodeId, P2pMessage, Protocol, WithRequestId,
+    ETH_68, ETH_69, Eth68Message, Eth69Message, GetBlockHeaders, HashOrNumber, WithRequestId,
 };
+use rlp_p2p::{Capability, Hello, Message, NodeId, P2pMessage, Protocol};
 use std::alloc::{AllocError, Global};
 
 /// Returns the number of a message of a protocol.

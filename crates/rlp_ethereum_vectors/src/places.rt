@@ -4,8 +4,9 @@ use rlp::{DecodePlaced, DecoderError, Rlp};
 use rlp_blocks::Block;
 use rlp_headers::{Account, London, TypedReceipt, Withdrawal};
 use rlp_node_record::NodeRecord;
+use rlp_pooled::PooledTransaction;
 use rlp_records::{Eip2718, KnownOrOther};
-use rlp_transactions::{PooledTransaction, Transaction};
+use rlp_transactions::Transaction;
 use rlp_trie::TrieNode;
 use std::alloc::Global;
 

@@ -3,9 +3,10 @@
 
 use bytes::BytesMut;
 use rlp::{Decodable, DecoderError, Encodable, StrictRead};
-use rlp_blocks::Body;
+use rlp_blocks::{Block, Body};
 use rlp_headers::Withdrawal;
-use rlp_messages::Message;
+use rlp_messages::{Eth68Message, Eth69Message};
+use rlp_p2p::{Message, MessageBounds, P2pMessage};
 use rlp_records::{Eip2718, Enveloped, KnownOrOther, decode_at_most};
 use rlp_transactions::{AnyTransaction, Signed, Tagged, Transaction, TypedTransaction};
 use rlp_vectors::rows::{cut, number};
@@ -73,20 +74,47 @@ pub(crate) fn message<M: Message>(alloc: Global, offset: u8, bytes: &[u8]) -> Ag
 }
 
 /// Reads a value of a type with at most a number of items, which stands before the name of the type.
-/// Allocates nothing else.
+/// The name of a protocol stands for a message of any kind. Allocates nothing else.
 pub fn at_most(alloc: Global, asked: &str, bytes: &[u8]) -> Result<(), DecoderError> {
-    let (most, kind) = cut(asked);
+    let (items, kind) = cut(asked);
+    let most = number(items);
     match kind {
-        "AnyTransaction" => read::<AnyTransaction>(alloc, bytes, number(most)),
-        "Body" => read::<Body>(alloc, bytes, number(most)),
-        "Transaction" => read::<Transaction>(alloc, bytes, number(most)),
-        _ => read::<Withdrawal>(alloc, bytes, number(most)),
+        "AnyTransaction" => read::<AnyTransaction>(alloc, bytes, most, Some(0)),
+        "Block" => read::<Block>(alloc, bytes, most, Some(2)),
+        "Body" => read::<Body>(alloc, bytes, most, Some(2)),
+        "Transaction" => read::<Transaction>(alloc, bytes, most, Some(0)),
+        "eth/68" => read_message::<Eth68Message>(alloc, 0x10, bytes, most),
+        "eth/69" => read_message::<Eth69Message>(alloc, 0x10, bytes, most),
+        "p2p" => read_message::<P2pMessage>(alloc, 0, bytes, most),
+        _ => read::<Withdrawal>(alloc, bytes, most, None),
     }
 }
 
-/// Reads a value of this type.
-fn read<R: StrictRead>(alloc: Global, bytes: &[u8], most: usize) -> Result<(), DecoderError> {
-    match decode_at_most::<R>(alloc, bytes, most) {
+/// Reads a value of this type, whose envelopes stand inside a number of lists.
+fn read<R: StrictRead>(
+    alloc: Global,
+    bytes: &[u8],
+    most: usize,
+    envelopes: Option<usize>,
+) -> Result<(), DecoderError> {
+    match decode_at_most::<R>(alloc, bytes, most, envelopes) {
+        Ok(_) => Ok(()),
+        Err(fault) => Err(fault),
+    }
+}
+
+/// Reads a message whose id is its number after this offset.
+fn read_message<M: Message>(
+    alloc: Global,
+    offset: u8,
+    bytes: &[u8],
+    items: usize,
+) -> Result<(), DecoderError> {
+    let most = MessageBounds {
+        bytes: bytes.len(),
+        items,
+    };
+    match M::from_message_at_most(alloc, offset, bytes, most) {
         Ok(_) => Ok(()),
         Err(fault) => Err(fault),
     }

@@ -3,10 +3,11 @@
 
 use crate::fields::text;
 use rlp::{DecoderError, Uint};
+use rlp_pooled::PooledTransaction;
 use rlp_records::{Address, Eip2718};
 use rlp_transactions::{
-    AccessList, FeeMarketTransaction, NonZeroScalar, Payload, PooledTransaction, Recipient, Signed,
-    Tagged, Transaction,
+    AccessList, FeeMarketTransaction, NonZeroScalar, Recipient, Signed, SignedAuthorization,
+    Tagged, Transaction, TypedTransaction,
 };
 use rlp_vectors::rows::Hex;
 use std::alloc::Global;
@@ -38,6 +39,19 @@ fn second(alloc: Global, signed: &Transaction) -> Result<String, DecoderError> {
         return Ok(hex::encode(alloc, payload.as_slice())?);
     }
     Err(DecoderError::Custom("no second authorization"))
+}
+
+/// Returns the parity and the numbers of the signature of an authorization, and whether it has the same
+/// bytes again with this signature.
+pub(crate) fn authorized(alloc: Global, bytes: &[u8]) -> Result<String, DecoderError> {
+    let signed = rlp::decode_strict::<SignedAuthorization>(alloc, bytes)?;
+    let Some((y_parity, r, s)) = signed.signature() else {
+        return Ok(String::from_str(alloc, "None")?);
+    };
+    let is_same = signed.payload.with_signature(y_parity, r, s) == signed;
+    let (r, s) = (rlp::encode(alloc, &r)?, rlp::encode(alloc, &s)?);
+    let (r, s) = (Hex(r.as_slice()), Hex(s.as_slice()));
+    Ok(format!(in alloc; "{y_parity} {r:?} {s:?} {is_same}")?)
 }
 
 /// Removes the signature, puts it back, and returns whether the transaction has the same bytes again.

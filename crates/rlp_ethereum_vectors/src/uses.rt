@@ -12,9 +12,11 @@ fn received(alloc: Global, bytes: &[u8]) -> Result<Hash, &'static str> {
     match AnyTransaction::from_bytes_with_hash(alloc, bytes) {
         Ok((_, hash)) => Ok(hash),
         Err(DecoderError::OutOfMemory) => Err("no memory: try again"),
-        Err(DecoderError::RlpIsTooShort) => Err("the bytes are cut off"),
-        Err(DecoderError::RlpIsTooBig) => Err("bytes follow, or a number is too large"),
+        Err(DecoderError::RlpIsTooShort) => Err("cut off, or an address or a hash is too short"),
+        Err(DecoderError::RlpIsTooBig) => Err("bytes follow, or a field is too long"),
         Err(DecoderError::RlpIncorrectListLen) => Err("fields are missing or added"),
+        Err(DecoderError::RlpExpectedToBeList) => Err("a field is a string in place of a list"),
+        Err(DecoderError::RlpExpectedToBeData) => Err("a field is a list in place of a string"),
         Err(DecoderError::Custom(text)) => Err(text),
         Err(_) => Err("this isn't a canonical encoding"),
     }

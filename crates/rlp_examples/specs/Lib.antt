@@ -3,6 +3,5 @@ pub mod Message
 pub mod Nest
 pub mod NestLaws
 pub mod Odd
-pub mod Pair
 pub mod Parcel
 pub mod Row

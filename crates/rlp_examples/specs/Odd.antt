@@ -15,4 +15,5 @@ odd = record {
   item = number_item;
   read = λ v. go_on ((number 8).reading.read v) (λ n. here (odd_of n));
   takes_memory = false;
+  Allocates = λ v. ⊥;
 }

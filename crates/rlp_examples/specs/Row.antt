@@ -27,37 +27,20 @@ second_columns =
     field (λ (r : Row). r.column_15) (byte_string vec_items) (
     field (λ (r : Row). r.column_16) (byte_array 8) end)))))))
 
--- columns 17 to 24
+-- columns 17 to 20
 abbrev pub third_columns : Fields Row
 third_columns =
     field (λ (r : Row). r.column_17) (number 8) (
     field (λ (r : Row). r.column_18) (byte_array 32) (
     field (λ (r : Row). r.column_19) (byte_string vec_items) (
-    field (λ (r : Row). r.column_20) (byte_array 8) (
-    field (λ (r : Row). r.column_21) (number 8) (
-    field (λ (r : Row). r.column_22) (byte_array 32) (
-    field (λ (r : Row). r.column_23) (byte_string vec_items) (
-    field (λ (r : Row). r.column_24) (byte_array 8) end)))))))
-
--- columns 25 to 32
-abbrev pub fourth_columns : Fields Row
-fourth_columns =
-    field (λ (r : Row). r.column_25) (number 8) (
-    field (λ (r : Row). r.column_26) (byte_array 32) (
-    field (λ (r : Row). r.column_27) (byte_string vec_items) (
-    field (λ (r : Row). r.column_28) (byte_array 8) (
-    field (λ (r : Row). r.column_29) (number 8) (
-    field (λ (r : Row). r.column_30) (byte_array 32) (
-    field (λ (r : Row). r.column_31) (byte_string vec_items) (
-    field (λ (r : Row). r.column_32) (byte_array 8) end)))))))
+    field (λ (r : Row). r.column_20) (byte_array 8) end)))
 
 -- the fields, in order
 abbrev pub row_fields : Fields Row
 row_fields =
     group (λ r. r) first_columns refl (
     group (λ r. r) second_columns refl (
-    group (λ r. r) third_columns refl (
-    fourth_columns)))
+    third_columns))
 
 -- the list of the fields
 abbrev pub row : Codec Row

@@ -3,13 +3,10 @@
 #![tactic(auto)]
 
 mod appends;
-mod half_written;
 mod inner;
 mod message;
 mod nest;
-mod nonce;
 mod odd;
-mod pair;
 mod parcel;
 mod renumber;
 mod row;
@@ -17,13 +14,10 @@ mod trio;
 mod uses;
 
 pub use appends::bytes_of_three;
-pub use half_written::HalfWritten;
 pub use inner::Inner;
 pub use message::Message;
 pub use nest::Nest;
-pub use nonce::Nonce;
 pub use odd::Odd;
-pub use pair::{Pair, pair_back};
 pub use parcel::{Parcel, items_tell_parcels};
 pub use renumber::{received, renumbered};
 pub use row::Row;

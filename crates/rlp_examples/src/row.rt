@@ -1,4 +1,4 @@
-//! A row of a table: the list of its thirty-two columns.
+//! A row of a table: the list of its twenty columns.
 
 ghost use Rattle.rlp_examples.specs.Row.{row};
 
@@ -7,7 +7,7 @@ use rlp::{
 };
 use std::alloc::{AllocError, Global};
 
-/// A row of a table with thirty-two columns, which are counted from 1. It shows a struct of many
+/// A row of a table with twenty columns, which are counted from 1. It shows a struct of many
 /// fields, which are read in groups.
 #[derive(Drop)]
 pub struct Row {
@@ -31,18 +31,6 @@ pub struct Row {
     pub column_18: [u8; 32],
     pub column_19: Vec<u8>,
     pub column_20: [u8; 8],
-    pub column_21: u64,
-    pub column_22: [u8; 32],
-    pub column_23: Vec<u8>,
-    pub column_24: [u8; 8],
-    pub column_25: u64,
-    pub column_26: [u8; 32],
-    pub column_27: Vec<u8>,
-    pub column_28: [u8; 8],
-    pub column_29: u64,
-    pub column_30: [u8; 32],
-    pub column_31: Vec<u8>,
-    pub column_32: [u8; 8],
 }
 
 impl Encodable for Row {
@@ -72,19 +60,7 @@ impl Encodable for Row {
             &self.column_17,
             &self.column_18,
             &self.column_19,
-            &self.column_20,
-            &self.column_21,
-            &self.column_22,
-            &self.column_23,
-            &self.column_24,
-            &self.column_25,
-            &self.column_26,
-            &self.column_27,
-            &self.column_28,
-            &self.column_29,
-            &self.column_30,
-            &self.column_31,
-            &self.column_32
+            &self.column_20
         )
     }
 }
@@ -117,24 +93,10 @@ impl Decodable for Row {
                     column_15,
                     column_16,
                 ),
-                (
-                    column_17,
-                    column_18,
-                    column_19,
-                    column_20,
-                    column_21,
-                    column_22,
-                    column_23,
-                    column_24,
-                ),
-                column_25,
-                column_26,
-                column_27,
-                column_28,
-                column_29,
-                column_30,
-                column_31,
-                column_32
+                column_17,
+                column_18,
+                column_19,
+                column_20
             }
         )
     }
@@ -148,7 +110,7 @@ type Eight = Four<Four<()>>;
 
 impl DecodePlaced for Row {
     fn put_path(alloc: Global, rlp: &Rlp<'_>, path: &mut Vec<usize>) -> Result<(), AllocError> {
-        rlp::put_path_of::<Joined<Eight, Joined<Eight, Joined<Eight, Eight>>>>(alloc, rlp, path)
+        rlp::put_path_of::<Joined<Eight, Joined<Eight, Four<()>>>>(alloc, rlp, path)
     }
 }
 

@@ -1,8 +1,4 @@
--- How messages between clients are written and read.
+-- How the messages of eth are written and read.
 
--- messages with their ids
-pub mod Message
--- messages of p2p
-pub mod P2p
 -- messages of eth
 pub mod Eth

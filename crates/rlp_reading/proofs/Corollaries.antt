@@ -36,6 +36,10 @@ module _ {A : Type 0} (c : Form A) where
       → Gives c.reading (view_of b) v ↔ GivesValue c.Fits c.item (view_of b) v
   gives_exactly law exact b v bytes fits = grind arith
 
+  -- bytes that begin with the encoding of a value that fits have no fault
+  pub gives_soundly : IsReadBack c → (b : List ℕ) (v : A) → length b < 2 ^ 64 → GivesValue c.Fits c.item (view_of b) v → (e : DecoderError) → ¬ Faults c.reading (view_of b) e
+  gives_soundly law b v fits given e = not_both c.reading (view_of b) v e (law.back.back b v fits given.fits given.begins)
+
   -- ---- the law of `StrictRead`
 
   pub gives_strictly : IsLawful c → AlwaysReadsStrictly c.Fits c.item (Gives c.reading) (Faults c.reading)
@@ -89,9 +93,9 @@ module _ {A : Type 0} (c : Form A) {is_strict : Bool} (back : ReadsBack is_stric
   list_alike values r told given = grind (arith, each_told, lists_back)
 
   -- reading the list fails only with `OutOfMemory`
-  pub list_memory : {B : Type 0} (r : Result B DecoderError) → IfErr r (λ e. Faults (list_reading (λ xs. xs) c.reading) (viewed is_strict b) e ⊎ (e ≡ OutOfMemory))
-      → IfErr r (λ e. e ≡ OutOfMemory)
-  list_memory r fault = grind (arith, lists_back)
+  pub list_memory : {B : Type 0} (r : Result B DecoderError) (T : Type 0)
+      → IfErr r (λ e. Faults (list_reading (λ xs. xs) c.reading) (viewed is_strict b) e ⊎ ((e ≡ OutOfMemory) × T)) → IfErr r (λ e. e ≡ OutOfMemory)
+  list_memory r T fault = grind (arith, lists_back)
 
 module _ {A : Type 0} (c : Form A) where
   -- item i of the encoding of a list gives the values that fit and are alike to value i, and has no fault

@@ -26,3 +26,5 @@ pub mod Readings
 pub mod PathLaws
 -- text that is written in pieces
 pub mod Pieces
+-- readings that have no fault `OutOfMemory` of their own
+pub mod OwnFaultLaws

@@ -261,20 +261,20 @@ module _ {A : Type 0} (c : Form A) where
 
   -- ---- a type that holds a value of another
 
-  module _ {B : Type 0} (value : B → A) (takes_memory : Bool) where
-    pub value_back : (is_strict : Bool) → ReadsBack is_strict c → ReadsBack is_strict (held_type takes_memory value c)
+  module _ {B : Type 0} (value : B → A) (takes_memory : Bool) (Allocates : View → Type 0) where
+    pub value_back : (is_strict : Bool) → ReadsBack is_strict c → ReadsBack is_strict (held_type takes_memory Allocates value c)
     value_back is_strict law = record { back = λ b x. law.back b (value x) }
 
-    pub value_only : (is_strict : Bool) → GivesOnly is_strict c → GivesOnly is_strict (held_type takes_memory value c)
+    pub value_only : (is_strict : Bool) → GivesOnly is_strict c → GivesOnly is_strict (held_type takes_memory Allocates value c)
     value_only is_strict law = record { only = λ b x. law.only b (value x) }
 
-    pub value_told : IsSeen c → IsSeen (held_type takes_memory value c)
+    pub value_told : IsSeen c → IsSeen (held_type takes_memory Allocates value c)
     value_told law = record { fits = λ x y. law.fits (value x) (value y); written = λ x. law.written (value x) }
 
-    pub value_read_back : IsReadBack c → IsReadBack (held_type takes_memory value c)
+    pub value_read_back : IsReadBack c → IsReadBack (held_type takes_memory Allocates value c)
     value_read_back law = record { told = value_told law.told; back = value_back false law.back }
 
-    pub value_lawful : IsLawful c → IsLawful (held_type takes_memory value c)
+    pub value_lawful : IsLawful c → IsLawful (held_type takes_memory Allocates value c)
     value_lawful law = record { told = value_told law.told; back = λ is_strict. value_back is_strict (law.back is_strict); exact = value_only true law.exact }
 
 -- a lawful codec is read back

@@ -1,5 +1,5 @@
 -- Types that are read from the whole first item of a view.
-use Rattle.std.specs.Prelude.{ℕ, List, Bool}
+use Rattle.std.specs.Prelude.{ℕ, ⊤, List, Bool}
 use Rattle.rlp_format.specs.Format.Encoding.{Item}
 use Rattle.rlp_reading.specs.{Values.RawItem.view_frame, Form.{Answer, Fault, Form, go_on, here, seen_fault}}
 
@@ -15,5 +15,6 @@ item_type {M = M} Fits item seen written read takes_memory = record {
     item = written;
     read = λ v. go_on (here (seen_fault (view_frame v))) read;
     takes_memory = takes_memory;
+    Allocates = λ v. ⊤;
   };
 }

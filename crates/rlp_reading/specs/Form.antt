@@ -1,5 +1,5 @@
 -- How the values of types are written as items and read from views.
-use Rattle.std.specs.Prelude.{◌≡◌, ⊤, ℕ, zero, suc, ◌+◌, ◌-◌, ◌%◌, ◌==◌, ◌&&◌, ◌||◌, nat_lt, nat_le, Bool, true, false, if◌then◌else◌, All, IfSome, IsSomeAnd, IsUtf8}
+use Rattle.std.specs.Prelude.{◌≡◌, ◌≢◌, ⊤, ℕ, zero, suc, ◌+◌, ◌-◌, ◌%◌, ◌==◌, ◌&&◌, ◌||◌, nat_lt, nat_le, Bool, true, false, if◌then◌else◌, All, IfSome, IsOk, IsOkAnd, IsSomeAnd, IsTrue, IsUtf8, ◌⊎◌}
 use Rattle.std.specs.{Prelude.{List, [], ◌∷◌, ◌++◌, length, map, codes, Option, Some, None, option_map, Result, Ok, Err}, Str.{bytes_eq, is_utf8}, Int.Digits.{number_from_digits}}
 use Rattle.rlp_format.specs.{declared.uint.Uint.Uint, Format.Encoding.{Item, string, list_of, big_endian, encoding}}
 use Rattle.rlp_format.specs.Values.Value.{FitsBytes, all_items, bit, items_if, option_item}
@@ -112,13 +112,14 @@ IsFound false a old new = (fault_path a ≡ None) × (new ≡ old)
 -- ---- what views give
 
 -- How the values of a type are read: what contracts see of a value, the item of a value, by what contracts see of the value, what a view gives if no memory is
--- refused, and whether reading may also fail with `OutOfMemory`.
+-- refused, whether reading may also fail with `OutOfMemory`, and if so, for which views.
 pub record Reading (A : Type 0) : Type 1 where
   pub M : Type 0
   pub seen : A → M
   pub item : M → Item
   pub read : View → Answer M Fault
   pub takes_memory : Bool
+  pub Allocates : View → Type 0
 
 -- The view gives the value.
 abbrev pub Gives : {A : Type 0} → Reading A → View → A → Type 0
@@ -127,6 +128,10 @@ Gives r v x = (r.read v).result ≡ Ok (r.seen x)
 -- The view gives no value, and the error says why.
 abbrev pub Faults : {A : Type 0} → Reading A → View → DecoderError → Type 0
 Faults r v e = (r.read v).result ≡ Err (fault_of e)
+
+-- Reading the view may fail with `OutOfMemory`.
+abbrev pub MayLackMemory : {A : Type 0} → Reading A → View → Type 0
+MayLackMemory r v = IsTrue r.takes_memory × r.Allocates v
 
 -- The string of a view, or why the view holds no string.
 abbrev pub string_of : View → Result (List ℕ) Fault
@@ -179,6 +184,12 @@ read_option read [] = here (Ok None)
 read_option read (v ∷ []) = within 0 (map_answer Some (read v))
 read_option read (v ∷ w ∷ vs) = here (Err incorrect_list_len)
 
+-- The list has one view, and reading the view may allocate.
+abbrev pub OneAllocates : (View → Type 0) → List View → Type 0
+OneAllocates Allocates [] = ⊥
+OneAllocates Allocates (v ∷ []) = Allocates v
+OneAllocates Allocates (v ∷ w ∷ vs) = ⊥
+
 -- The values that the last items of a list of n items give, in order, or the fault of the first item that has a fault.
 abbrev pub read_each : {M : Type 0} → (View → Answer M Fault) → ℕ → List View → Answer (List M) Fault
 read_each read n [] = here (Ok [])
@@ -192,9 +203,10 @@ option_reading r = record {
   item = option_item r.item;
   read = λ v. go_on (here (items_of v)) (read_option r.read);
   takes_memory = r.takes_memory;
+  Allocates = λ v. IsOkAnd (items_of v) (OneAllocates r.Allocates);
 }
 
--- The reading of a type that contracts see as a list of values.
+-- The reading of a type that contracts see as a list of values. A list that has a fault of its own, or no items, takes no memory.
 abbrev pub list_reading : {A B : Type 0} → (B → List A) → Reading A → Reading B
 list_reading values r = record {
   M = List r.M;
@@ -202,11 +214,31 @@ list_reading values r = record {
   item = λ xs. list_of (map r.item xs);
   read = λ v. go_on (here (list_of_views v)) (λ vs. read_each r.read (length vs) vs);
   takes_memory = true;
+  Allocates = λ v. IsOkAnd (list_of_views v) (λ vs. vs ≢ []);
 }
 
--- The reading of a type that holds one value.
+-- The reading of a type that holds one value: whether reading may fail with `OutOfMemory`, and if so, for which views.
+abbrev pub reading_of_held : {A B : Type 0} → Bool → (View → Type 0) → (B → A) → Reading A → Reading B
+reading_of_held takes_memory Allocates value r = record {
+  M = r.M;
+  seen = λ b. r.seen (value b);
+  item = r.item;
+  read = r.read;
+  takes_memory = takes_memory;
+  Allocates = Allocates;
+}
+
+-- The reading of a type that holds one value, and allocates for no other views than the type of the value.
 abbrev pub held_reading : {A B : Type 0} → Bool → (B → A) → Reading A → Reading B
-held_reading takes_memory value r = record { M = r.M; seen = λ b. r.seen (value b); item = r.item; read = r.read; takes_memory = takes_memory }
+held_reading takes_memory value r = reading_of_held takes_memory r.Allocates value r
+
+-- The views for which a box allocates: those that give a value, which is read first, and those for which reading the value allocates.
+abbrev pub BoxAllocates : {A : Type 0} → Reading A → View → Type 0
+BoxAllocates r v = IsOk (r.read v).result ⊎ MayLackMemory r v
+
+-- The reading of a type that holds one value in memory, such as a box.
+abbrev pub boxed_reading : {A B : Type 0} → (B → A) → Reading A → Reading B
+boxed_reading value r = reading_of_held true (BoxAllocates r) value r
 
 -- The reading of item i of a list.
 abbrev pub reading_at : {A : Type 0} → ℕ → Reading A → Reading A
@@ -216,6 +248,7 @@ reading_at i r = record {
   item = r.item;
   read = λ v. go_on (here (seen_fault (item_at v i))) (λ item. within i (r.read item));
   takes_memory = r.takes_memory;
+  Allocates = λ v. IsOkAnd (item_at v i) r.Allocates;
 }
 
 -- ---- codecs of types
@@ -227,7 +260,7 @@ pub record Form (A : Type 0) : Type 1 where
   pub reading : Reading A
 
 -- A type of strings: which values fit, the bytes of a value, what contracts see of a value, the bytes of a value, by what contracts see of the value, what a string
--- gives, and whether reading allocates.
+-- gives, and whether reading allocates, for a string that gives a value.
 abbrev pub string_type : {A M : Type 0} → (A → Type 0) → (A → List ℕ) → (A → M) → (M → List ℕ) → (List ℕ → Result M Fault) → Bool → Form A
 string_type {M = M} Fits bytes seen written read takes_memory = record {
   Fits = Fits;
@@ -238,6 +271,7 @@ string_type {M = M} Fits bytes seen written read takes_memory = record {
     item = λ m. string (written m);
     read = λ v. here (and_then (string_of v) read);
     takes_memory = takes_memory;
+    Allocates = λ v. IsOk (and_then (string_of v) read);
   };
 }
 
@@ -272,6 +306,7 @@ raw_item = record {
     item = raw_item_of;
     read = λ v. here (and_then (seen_fault (view_frame v)) raw_of);
     takes_memory = true;
+    Allocates = λ v. IsOk (and_then (seen_fault (view_frame v)) raw_of);
   };
 }
 
@@ -283,21 +318,21 @@ option c = record { Fits = λ o. IfSome o c.Fits; item = option_item c.item; rea
 abbrev pub list_type : {A B : Type 0} → (B → List A) → Form A → Form B
 list_type values c = record { Fits = λ b. All c.Fits (values b); item = λ b. list_of (map c.item (values b)); reading = list_reading values c.reading }
 
--- A type that holds one value, in memory that reading allocates or not, as the Bool says.
-abbrev pub held_type : {A B : Type 0} → Bool → (B → A) → Form A → Form B
-held_type takes_memory value c = record {
+-- A type that holds one value: whether reading may fail with `OutOfMemory`, and if so, for which views.
+abbrev pub held_type : {A B : Type 0} → Bool → (View → Type 0) → (B → A) → Form A → Form B
+held_type takes_memory Allocates value c = record {
   Fits = λ b. c.Fits (value b);
   item = λ b. c.item (value b);
-  reading = held_reading takes_memory value c.reading;
+  reading = reading_of_held takes_memory Allocates value c.reading;
 }
 
 -- A type that holds one value, and allocates no memory for the value.
 abbrev pub newtype : {A B : Type 0} → (B → A) → Form A → Form B
-newtype value c = held_type c.reading.takes_memory value c
+newtype value c = held_type c.reading.takes_memory c.reading.Allocates value c
 
 -- A type that holds one value in memory, such as a box.
 abbrev pub holding : {A B : Type 0} → (B → A) → Form A → Form B
-holding value c = held_type true value c
+holding value c = held_type true (BoxAllocates c.reading) value c
 
 -- Numbers that are kept as n bytes.
 abbrev pub uint : (n : ℕ) → Form (Uint n)
@@ -378,7 +413,7 @@ take_all read vs = go_on (read vs) (λ t. all_taken t.0 t.1)
 abbrev pub read_struct : {M : Type 0} → (ℕ → Bool) → (List View → Taken M) → List View → Answer M Fault
 read_struct accepts read vs = if_possible (accepts (length vs)) (in_list (length vs) (take_all read vs))
 
--- The reading of a struct from the list of the fields.
+-- The reading of a struct from the list of the fields. A list that has a fault of its own takes no memory.
 abbrev pub struct_reading : {P : Type 0} → FieldsReading P → Reading P
 struct_reading r = record {
   M = r.M;
@@ -386,6 +421,7 @@ struct_reading r = record {
   item = λ m. list_of (r.items m);
   read = λ v. go_on (here (items_of v)) (read_struct r.accepts r.read);
   takes_memory = r.takes_memory;
+  Allocates = λ v. IsOk (items_of v);
 }
 
 -- The reading of no fields.

@@ -14,3 +14,5 @@ pub mod Laws
 pub mod Kinds
 -- types that are read from the whole first item of a view
 pub mod FirstItems
+-- types that are read without `OutOfMemory` as a fault of their own
+pub mod OwnFaults

@@ -1,5 +1,5 @@
 -- Values of several types, which differ in the kind of item or in a tag in front of a payload.
-use Rattle.std.specs.Prelude.{ℕ, ◌⊎◌, ◌==◌, ◌||◌, Bool, true, false, if◌then◌else◌, List, [], ◌∷◌, Err}
+use Rattle.std.specs.Prelude.{ℕ, ⊤, ◌⊎◌, ◌==◌, ◌||◌, Bool, true, false, if◌then◌else◌, List, [], ◌∷◌, Err}
 use Rattle.std.proofs.Common.{inl, inr}
 use Rattle.rlp_format.specs.{Format.Encoding.{Item, list_of, string, encoding}, Values.Value.{FitsBytes, number_item}}
 use Rattle.rlp_reading.specs.{Format.Framing.begins_as_list, Values.Sums.{OnSum, sum_item, sum_tag}, Views.View.{View, strict_view_of}}
@@ -27,6 +27,7 @@ list_or_string c d = record {
     item = sum_item c.reading.item d.reading.item;
     read = read_either c.reading.read d.reading.read;
     takes_memory = c.reading.takes_memory || d.reading.takes_memory;
+    Allocates = λ v. ⊤;
   };
 }
 
@@ -110,6 +111,7 @@ enveloped cases = record {
     item = λ m. string (seen_envelope cases m);
     read = λ v. go_on (here (string_of v)) (envelope_of cases.read);
     takes_memory = cases.takes_memory;
+    Allocates = λ v. ⊤;
   };
 }
 
@@ -131,5 +133,6 @@ tagged_list width cases = record {
     item = λ m. list_of (number_item (cases.seen_tag m) ∷ cases.seen_item m ∷ []);
     read = λ v. go_on (here (items_of v)) (read_tagged width cases.read);
     takes_memory = cases.takes_memory;
+    Allocates = λ v. ⊤;
   };
 }

@@ -13,8 +13,8 @@ use std::marker::Model;
 /// Only [`ItemReader::next_framed`] and [`ItemReader::next_item`] read a header here, and each
 /// counts the header.
 ///
-/// Iterators use this reader. Functions whose contracts don't speak of headers, such as `Rlp::at`,
-/// read headers by `first_framed` and don't count them.
+/// Only the contracts of iterators speak of this number. Other functions, such as `Rlp::at`, also
+/// read headers without this reader.
 #[derive(Drop)]
 pub struct ItemReader<'a> {
     rest: &'a [u8],

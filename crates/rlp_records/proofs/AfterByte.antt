@@ -1,7 +1,7 @@
 -- For bodies that read a value after a byte that says what it is.
 use Rattle.std.proofs.Common.{◌≡◌, ◌≢◌, ◌≤◌, ◌-◌, ◌^◌, ◌<◌, ℕ, true, List, [], ◌∷◌, ◌==◌, length, take, drop, take_all, get_or, refl, sym, ap, ◌∙◌}
 use Rattle.std.proofs.{Common.{◌⊎◌, inl, inr, arith, eq-eqb, Result, Ok, Err, IfOk, IfErr, IsOkAnd}, lemmas.Bool.Decides.nat_tests}
-use Rattle.rlp.specs.{DecoderError.DecoderError, Format.Encoding.{Item, encoding, AreBytes}, Values.Value.AreAlike, Views.View.{View, strict_view_of}}
+use Rattle.rlp.specs.{DecoderError.{DecoderError}, DecoderError.TheVariants.OutOfMemory, Format.Encoding.{Item, encoding, AreBytes}, Values.Value.AreAlike, Views.View.{View, strict_view_of}}
 use Rattle.rlp_reading.specs.{Form.{Answer, Fault, Form, custom, fault_of}, Laws.IsLawful, Sums.last_case}
 use Rattle.rlp_reading.proofs.{StringLaws.ReadsStrings, SumLaws.{envelope_strings, last_case_lawful}}
 use Rattle.rlp_records.specs.Envelope.{read_after}
@@ -61,9 +61,9 @@ module _ (kind : ℕ) (d payload : List ℕ) (is : d ≡ kind ∷ payload) where
     rest_given law short (Err e) whole = tt
 
     -- the bytes have the fault of the rest
-    pub rest_fails : {R : Type 0} (T : DecoderError → Type 0) (r : Result R DecoderError)
-        → IfErr r (λ e. ((c.reading.read (strict_view_of payload)).result ≡ Err (fault_of e)) ⊎ T e)
-        → IfErr r (λ e. ((read_after kind other c.reading.read d).result ≡ Err (fault_of e)) ⊎ T e)
-    rest_fails T (Ok w) fault = tt
-    rest_fails T (Err e) (inl bad) = inl (after_kind kind other c.reading.read d payload is ∙ bad)
-    rest_fails T (Err e) (inr memory) = inr memory
+    pub rest_fails : {R : Type 0} (T U : Type 0) (r : Result R DecoderError)
+        → IfErr r (λ e. ((c.reading.read (strict_view_of payload)).result ≡ Err (fault_of e)) ⊎ ((e ≡ OutOfMemory) × (T × U)))
+        → IfErr r (λ e. ((read_after kind other c.reading.read d).result ≡ Err (fault_of e)) ⊎ ((e ≡ OutOfMemory) × T))
+    rest_fails T U (Ok w) fault = tt
+    rest_fails T U (Err e) (inl bad) = inl (after_kind kind other c.reading.read d payload is ∙ bad)
+    rest_fails T U (Err e) (inr memory) = inr (memory.0, memory.1.0)

@@ -5,7 +5,8 @@ use Rattle.rlp.specs.{Format.Encoding.{IsSized, Item, encoding, is_list, list, l
 use Rattle.rlp_reading.specs.{Form.{Fault, and_then, here, map_value, read_each, seen_fault}, Laws.{viewed, views_of}}
 use Rattle.rlp_reading.proofs.{Lemmas.StringsHeld.{held_begins, held_only}, Lemmas.Views.front_kind, ListLaws.{held_itself, held_sized, items_sized, list_held}}
 use Rattle.rlp_reading.proofs.RawLaws.{view_frame-held}
-use Rattle.rlp_records.specs.{Alone.bytes_alone, Hashing.{IsHashOf, alone_of, hash_of, hashes_of}, Keccak.keccak256, declared.hash.Hash.Hash}
+use Rattle.rlp_keccak.specs.Keccak.{keccak256}
+use Rattle.rlp_records.specs.{Alone.bytes_alone, Hashing.{IsHashOf, alone_of, hash_of, hashes_of}, declared.hash.Hash.Hash}
 
 kind_held : (v : View) (x : Item) → length v.bytes < 2 ^ 64 → HoldsItem v x → begins_as_list v.bytes ≡ is_list x
 kind_held v x short holds = front_kind x v.bytes (held_sized v.is_strict v.bytes x short holds) (held_begins v x holds)

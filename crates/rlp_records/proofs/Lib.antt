@@ -5,11 +5,8 @@ pub mod Alone
 pub mod Bounds
 pub mod Bytes
 pub mod Clones
-pub mod Complements
 pub mod ItemHashes
 pub mod OtherTypes
 pub mod Placed
-pub mod RoundConstants
 pub mod Scanning
-pub mod Sponge
 pub mod TypedSums

@@ -1,5 +1,5 @@
 -- Bounds on untrusted bytes.
-use Rattle.std.specs.{Prelude.{ℕ, ◌≡◌, ◌+◌, ◌≤◌, ◌&&◌, nat_le, nat_lt, if◌then◌else◌, Bool, List, [], ◌∷◌, Option, Some, None, Err, length, codes}, Str.{bytes_eq}}
+use Rattle.std.specs.{Prelude.{ℕ, zero, suc, ◌≡◌, ◌+◌, ◌≤◌, ◌&&◌, nat_le, nat_lt, if◌then◌else◌, Bool, List, [], ◌∷◌, Option, Some, None, Err, length, codes}, Str.{bytes_eq}}
 use Rattle.rlp.specs.{DecoderError.DecoderError, Format.Encoding.{Item, Items, item_and, item_depth, list, no_items, string, encoding}}
 use Rattle.rlp.specs.{Format.Flat.flat, Format.Framing.{begins_as_list, strict_fault}, Format.TreeFaults.tree_fault, Values.RawItem.raw_item_of, Views.View.{View, strict_view_of}}
 use Rattle.rlp_reading.specs.{Form.{Answer, Fault, custom, fault_of, here}, declared.flat.TreeFault.TreeFault, declared.flat.TreeFault.TheVariants.{Decoding, TooDeep}}
@@ -35,31 +35,44 @@ abbrev pub items_in_string : List ℕ → ℕ
 items_in_string [] = 0
 items_in_string (kind ∷ payload) = if is_read_type kind then payload_items payload else 0
 
--- the number of items that the strings in an item count as, besides the strings themselves
+-- The number of items that the envelopes in an item count as, besides the strings themselves. Envelopes stand inside this number of lists, which is their depth: a
+-- string inside as many lists may be an envelope, and a string inside fewer or more lists counts as no further items.
 abbrev mutual
-  pub items_in_envelopes : Item → ℕ
-  items_in_envelopes (string d) = items_in_string d
-  items_in_envelopes (list xs) = items_in_all_envelopes xs
+  pub items_in_envelopes : ℕ → Item → ℕ
+  items_in_envelopes zero (string d) = items_in_string d
+  items_in_envelopes zero (list xs) = 0
+  items_in_envelopes (suc depth) (string d) = 0
+  items_in_envelopes (suc depth) (list xs) = items_in_all_envelopes depth xs
 
-  pub items_in_all_envelopes : Items → ℕ
-  items_in_all_envelopes no_items = 0
-  items_in_all_envelopes (item_and x xs) = items_in_envelopes x + items_in_all_envelopes xs
+  -- the number of items that the envelopes in these items count as
+  pub items_in_all_envelopes : ℕ → Items → ℕ
+  items_in_all_envelopes depth no_items = 0
+  items_in_all_envelopes depth (item_and x xs) = items_in_envelopes depth x + items_in_all_envelopes depth xs
+
+-- the number of items that the envelopes at a depth count as, and no items where no envelopes may stand
+abbrev pub enveloped_items : Option ℕ → Item → ℕ
+enveloped_items None x = 0
+enveloped_items (Some depth) x = items_in_envelopes depth x
+
+-- the number of items in an item, and in its envelopes
+abbrev pub items_counted : Option ℕ → Item → ℕ
+items_counted envelopes x = items_in x + enveloped_items envelopes x
 
 -- ---- the bounds
 
--- the item and its envelopes have at most this number of items, and its lists nest at most 256 deep
-abbrev pub IsBounded : ℕ → Item → Type 0
-IsBounded most x = (items_in x + items_in_envelopes x ≤ most) × (item_depth x ≤ 256)
+-- the item and its envelopes, which stand at this depth or nowhere, have at most this number of items, and its lists nest at most 256 deep
+abbrev pub IsBounded : ℕ → Option ℕ → Item → Type 0
+IsBounded most envelopes x = (items_counted envelopes x ≤ most) × (item_depth x ≤ 256)
 
 -- the bytes are the encoding of an item within the bounds
-pub record IsWithinBounds (most : ℕ) (b : List ℕ) : Type 0 where
+pub record IsWithinBounds (most : ℕ) (envelopes : Option ℕ) (b : List ℕ) : Type 0 where
   pub x : Item
   pub is : b ≡ encoding x
-  pub bounded : IsBounded most x
+  pub bounded : IsBounded most envelopes x
 
 -- the fault of an item that has more than this number of items with its envelopes
-abbrev pub count_fault : ℕ → Item → Option Fault
-count_fault most x = if nat_lt most (items_in x + items_in_envelopes x) then Some (custom (codes "too many items")) else None
+abbrev pub count_fault : ℕ → Option ℕ → Item → Option Fault
+count_fault most envelopes x = if nat_lt most (items_counted envelopes x) then Some (custom (codes "too many items")) else None
 
 -- the fault of bytes that have this first fault as a tree
 abbrev pub depth_fault : Option TreeFault → Option Fault
@@ -69,8 +82,8 @@ depth_fault (Some (Decoding e)) = Some (fault_of e)
 
 -- Why bytes are refused before a value is read: the bytes are the encoding of an item with more than `most` items, or lists nest too deep, or the bytes aren't the
 -- encoding of an item. Of the last two the fault is the first in the order of the bytes.
-abbrev pub bound_fault : ℕ → List ℕ → Option Fault
-bound_fault most b = if is_encoding b then count_fault most (raw_item_of b) else depth_fault (tree_fault 256 b)
+abbrev pub bound_fault : ℕ → Option ℕ → List ℕ → Option Fault
+bound_fault most envelopes b = if is_encoding b then count_fault most envelopes (raw_item_of b) else depth_fault (tree_fault 256 b)
 
 -- the answer, unless there is a fault
 abbrev pub unless_fault : {M : Type 0} → Option Fault → Answer M Fault → Answer M Fault
@@ -78,5 +91,5 @@ unless_fault None a = a
 unless_fault (Some e) a = here (Err e)
 
 -- what bytes give within the bounds, read strictly
-abbrev pub read_bounded : {M : Type 0} → ℕ → (View → Answer M Fault) → List ℕ → Answer M Fault
-read_bounded most read b = unless_fault (bound_fault most b) (read (strict_view_of b))
+abbrev pub read_bounded : {M : Type 0} → ℕ → Option ℕ → (View → Answer M Fault) → List ℕ → Answer M Fault
+read_bounded most envelopes read b = unless_fault (bound_fault most envelopes b) (read (strict_view_of b))

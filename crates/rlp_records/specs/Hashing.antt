@@ -2,7 +2,8 @@
 use Rattle.std.specs.Prelude.{◌≡◌, ℕ, List, Result, if◌then◌else◌, length, map}
 use Rattle.rlp.specs.{Format.Framing.begins_as_list, Values.RawItem.view_frame, Views.View.View}
 use Rattle.rlp_reading.specs.Form.{Fault, and_then, here, list_of_views, map_value, read_each, seen_fault, string_of}
-use Rattle.rlp_records.specs.{Keccak.keccak256, declared.hash.Hash.Hash}
+use Rattle.rlp_keccak.specs.Keccak.{keccak256}
+use Rattle.rlp_records.specs.declared.hash.Hash.{Hash}
 
 -- h is the Keccak-256 hash of these bytes
 abbrev pub IsHashOf : Hash → List ℕ → Type 0

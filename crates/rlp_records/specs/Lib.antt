@@ -1,12 +1,11 @@
+pub use Rattle.rlp_keccak.specs.Keccak
 pub mod Address
 pub mod Alone
 pub mod Bounded
-pub mod Complements
 pub mod Eip2718
 pub mod Envelope
 pub mod Hash
 pub mod Hashing
-pub mod Keccak
 pub mod KnownOrOther
 pub mod OtherEnvelope
 pub mod OtherStringLaws

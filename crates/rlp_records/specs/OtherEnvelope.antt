@@ -1,5 +1,5 @@
 -- Envelopes of types that aren't known: which bytes they are, and how values of a type or such strings are written and read.
-use Rattle.std.{specs.Prelude.{ℕ, ◌&&◌, ◌⊎◌, nat_lt, Bool, true, false, IsTrue, if◌then◌else◌, List, [], ◌∷◌, Result, Ok, Err, codes}, proofs.Common.{inl, inr}}
+use Rattle.std.{specs.Prelude.{ℕ, ⊤, ◌&&◌, ◌⊎◌, nat_lt, Bool, true, false, IsTrue, if◌then◌else◌, List, [], ◌∷◌, Result, Ok, Err, codes}, proofs.Common.{inl, inr}}
 use Rattle.rlp.specs.{Format.Encoding.string, Values.Sums.{OnSum, sum_item}}
 use Rattle.rlp_reading.specs.{Form.{Answer, Fault, Form, here, map_answer, string_of}, Sums.sum_map}
 
@@ -49,5 +49,6 @@ or_string c is = record {
     item = sum_item c.reading.item string;
     read = λ v. string_or is (c.reading.read v) (string_of v);
     takes_memory = true;
+    Allocates = λ v. ⊤;
   };
 }

@@ -22,5 +22,6 @@ tested_form text c test Fits = record {
     item = c.reading.item;
     read = λ v. go_on (c.reading.read v) (λ m. here (passing text test m));
     takes_memory = c.reading.takes_memory;
+    Allocates = c.reading.Allocates;
   };
 }

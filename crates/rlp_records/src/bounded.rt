@@ -5,7 +5,7 @@ ghost use Rattle.rlp.specs.{DecoderError.TheVariants.OutOfMemory, Format.Encodin
 ghost use Rattle.rlp_reading.specs.Form.{fault_of};
 ghost use Rattle.rlp_records.specs.Bounded.{IsBounded, IsWithinBounds, bound_fault, read_bounded};
 
-use crate::envelope_items::{GREATEST_DEPTH, items_in_envelopes};
+use crate::envelope_items::{GREATEST_DEPTH, enveloped_items};
 use rlp::{DecoderError, FlatItem, StrictRead, TreeFault};
 use rlp_reading::walking::walk_whole;
 use std::alloc::Global;
@@ -13,9 +13,13 @@ use std::alloc::Global;
 /// The record whose whole encoding the bytes are, if it has at most `most` items. Each string and
 /// each list counts as one item, at every depth, and so does the record itself.
 ///
-/// The items in an envelope count too. An envelope is any string that is a byte from 1 to 4, the
-/// type of a transaction or a receipt, and then a list; it may also be the input of a call. If the
-/// list can't be read, each of its bytes counts as one item.
+/// The items in an envelope count too. An envelope is a string that is a byte from 1 to 4, the type
+/// of a transaction or a receipt, and then a list. If the list can't be read, each of its bytes
+/// counts as one item. `envelopes` says inside how many lists of a record of the type `R` a
+/// transaction or a receipt may stand, and is `None` for a type that holds none: a string anywhere
+/// else, such as the input of a call, counts as one item whatever its bytes are. It is `Some(0)`
+/// for a transaction or a receipt, `Some(1)` for a list of them, and `Some(2)` for a block or the
+/// body of a block.
 ///
 /// It walks over the bytes before it reads the record, and doesn't allocate for bytes that fail
 /// there. For the encoding of a record within the bounds it fails only if memory is refused.
@@ -27,20 +31,21 @@ pub fn decode_at_most<R: StrictRead>(
     alloc: Global,
     bytes: &[u8],
     most: usize,
+    envelopes: Option<usize>,
 ) -> Result<R, DecoderError>
     ensures whole { IfOk result (λ w. R.fits w × (bytes.now ≡ encoding (R.item w))) }
-    ensures bounded { IfOk result (λ w. IsBounded most (R.item w)) }
+    ensures bounded { IfOk result (λ w. IsBounded most envelopes (R.item w)) }
     ensures value { IfOk result
-        (λ w. (read_bounded most R.reading.read bytes.now).result ≡ Ok (R.reading.seen w)) }
+        (λ w. (read_bounded most envelopes R.reading.read bytes.now).result ≡ Ok (R.reading.seen w)) }
     ensures fault { IfErr result
-        (λ e. ((read_bounded most R.reading.read bytes.now).result ≡ Err (fault_of e))
-        ⊎ (IsWithinBounds most bytes.now × ((e ≡ OutOfMemory) × IsTrue R.reading.takes_memory))) }
+        (λ e. ((read_bounded most envelopes R.reading.read bytes.now).result ≡ Err (fault_of e))
+        ⊎ (IsWithinBounds most envelopes bytes.now × ((e ≡ OutOfMemory) × IsTrue R.reading.takes_memory))) }
     ensures alike { (v : R) → R.fits v → bytes.now ≡ encoding (R.item v)
         → IfOk result (λ w. R.fits w × AreAlike R.item w v) }
-    ensures memory { (v : R) → R.fits v → IsBounded most (R.item v)
+    ensures memory { (v : R) → R.fits v → IsBounded most envelopes (R.item v)
         → bytes.now ≡ encoding (R.item v) → IfErr result (λ e. e ≡ OutOfMemory) }
 {
-    match test_bounds(bytes, most) {
+    match test_bounds(bytes, most, envelopes) {
         Ok(()) => rlp::decode_whole(alloc, bytes),
         Err(fault) => Err(fault),
     }
@@ -48,11 +53,11 @@ pub fn decode_at_most<R: StrictRead>(
 
 /// Tests that the bytes are the encoding of an item within the bounds.
 #[tactic(auto, using(crate::proofs::Bounds::bounding))]
-fn test_bounds(bytes: &[u8], most: usize) -> Result<(), DecoderError>
-    ensures within { MatchResult result (λ _. IsWithinBounds most bytes.now)
-        (λ _. ¬ IsWithinBounds most bytes.now) }
-    ensures fault { MatchResult result (λ _. bound_fault most bytes.now ≡ None)
-        (λ e. bound_fault most bytes.now ≡ Some (fault_of e)) }
+fn test_bounds(bytes: &[u8], most: usize, envelopes: Option<usize>) -> Result<(), DecoderError>
+    ensures within { MatchResult result (λ _. IsWithinBounds most envelopes bytes.now)
+        (λ _. ¬ IsWithinBounds most envelopes bytes.now) }
+    ensures fault { MatchResult result (λ _. bound_fault most envelopes bytes.now ≡ None)
+        (λ e. bound_fault most envelopes bytes.now ≡ Some (fault_of e)) }
 {
     let count = match walk_whole::<FlatItem>(bytes, GREATEST_DEPTH, &mut []) {
         Ok(count) => count,
@@ -62,7 +67,7 @@ fn test_bounds(bytes: &[u8], most: usize) -> Result<(), DecoderError>
     if count > most {
         return Err(DecoderError::Custom("too many items"));
     }
-    if items_in_envelopes(bytes) > most - count {
+    if enveloped_items(bytes, envelopes) > most - count {
         return Err(DecoderError::Custom("too many items"));
     }
     Ok(())

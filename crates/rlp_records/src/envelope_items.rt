@@ -1,8 +1,8 @@
 //! How many items are in the envelopes in an item.
 
 ghost use Rattle.std.specs.Prelude.{◌≡◌, ◌≤◌, length};
-ghost use Rattle.rlp.specs.{Format.Encoding.{encoding, Item}, Format.Framing.IsCanonical};
-ghost use Rattle.rlp_records.specs.Bounded.{is_read_type, items_in_envelopes, items_in_string, payload_items};
+ghost use Rattle.rlp.specs.Format.Encoding.{encoding, join_items, Item, Items};
+ghost use Rattle.rlp_records.specs.Bounded.{enveloped_items, is_read_type, items_in_all_envelopes, items_in_string, payload_items};
 
 use crate::{ACCESS_LIST_TYPE, SET_CODE_TYPE};
 use rlp::FlatItem;
@@ -12,22 +12,55 @@ use rlp_reading::walking::walk_whole;
 /// How deep lists may nest in an item, or in the payload of an envelope.
 pub(crate) const GREATEST_DEPTH: usize = 256;
 
-/// Returns how many items are in the envelopes in an item, whose encoding the bytes are. It walks
-/// over the bytes once, and over the payloads of envelopes once more.
-#[tactic(auto, using(crate::proofs::Scanning::scanning))]
-pub(crate) fn items_in_envelopes(bytes: &[u8]) -> usize
-    requires { IsCanonical bytes.now }
-    ensures { (x : Item) → bytes.now ≡ encoding x → result ≡ items_in_envelopes x }
+/// Returns how many items are in the envelopes of an item, whose encoding the bytes are. Envelopes
+/// stand inside this number of lists, or nowhere for `None`.
+pub(crate) fn enveloped_items(bytes: &[u8], envelopes: Option<usize>) -> usize
+    ensures { (x : Item) → bytes.now ≡ encoding x → result ≡ enveloped_items envelopes x }
 {
+    match envelopes {
+        Some(depth) => items_in_envelopes(bytes, depth),
+        None => 0,
+    }
+}
+
+/// Returns how many items are in the envelopes of items, whose encodings the bytes are one after
+/// another. Envelopes stand inside this number of lists. It reads no header of an item that is
+/// inside more lists, but walks over the payloads of envelopes.
+#[tactic(auto, using(crate::proofs::Scanning::scanning))]
+fn items_in_envelopes(bytes: &[u8], depth: usize) -> usize
+    ensures count { (xs : Items) → bytes.now ≡ join_items xs
+        → result ≡ items_in_all_envelopes depth xs }
+    ensures few { result ≤ length bytes.now }
+{
+    if depth == 0 {
+        return items_in_strings(bytes);
+    }
     let mut rest = bytes;
     let mut count = 0;
     while let Ok((framed, others)) = first_framed(rest) {
         if framed.is_list() {
-            rest = &rest[framed.header.header_len..];
-        } else {
-            count += items_in_string(framed.content);
-            rest = others;
+            count += items_in_envelopes(framed.content, depth - 1);
         }
+        rest = others;
+    }
+    count
+}
+
+/// Returns how many items are in the strings that are envelopes among items, whose encodings the
+/// bytes are one after another.
+#[tactic(auto, using(crate::proofs::Scanning::scanning))]
+fn items_in_strings(bytes: &[u8]) -> usize
+    ensures count { (xs : Items) → bytes.now ≡ join_items xs
+        → result ≡ items_in_all_envelopes 0 xs }
+    ensures few { result ≤ length bytes.now }
+{
+    let mut rest = bytes;
+    let mut count = 0;
+    while let Ok((framed, others)) = first_framed(rest) {
+        if !framed.is_list() {
+            count += items_in_string(framed.content);
+        }
+        rest = others;
     }
     count
 }

@@ -9,7 +9,6 @@ mod envelope;
 mod envelope_items;
 mod enveloped;
 mod hash;
-mod keccak;
 mod known_or_other;
 pub mod laws;
 mod other_envelope;
@@ -23,6 +22,6 @@ pub use envelope::{
 };
 pub use enveloped::Enveloped;
 pub use hash::{Hash, decode_with_hash, encoding_hash, item_hash, item_hashes};
-pub use keccak::keccak256;
 pub use known_or_other::KnownOrOther;
 pub use other_envelope::OtherEnvelope;
+pub use rlp_keccak::keccak256;

@@ -5,9 +5,10 @@ use Rattle.rlp.specs.Format.Encoding.{encoding}
 use Rattle.rlp_transactions.specs.{declared.blob_transaction.BlobTransaction.BlobTransaction, declared.transaction.Transaction.Transaction}
 use Rattle.rlp_transactions.specs.{declared.signed.Signed.Signed, declared.unsigned_transaction.UnsignedTransaction.UnsignedTransaction}
 use Rattle.rlp_transactions.specs.{BlobTransaction.signed_blob_transaction, Transaction.any_transaction, Transaction.transaction}
-use Rattle.rlp_transactions.specs.{UnsignedTransaction.unsigned_transaction, PooledTransaction.consensus_form, PooledTransaction.pooled_transaction}
-use Rattle.rlp_transactions.specs.declared.pooled_transaction.PooledTransaction.{PooledTransaction}
-use Rattle.rlp_transactions.proofs.Pooled.{consensus_written}
+use Rattle.rlp_transactions.specs.UnsignedTransaction.{unsigned_transaction}
+use Rattle.rlp_pooled.specs.{PooledTransaction.consensus_form, PooledTransaction.pooled_transaction}
+use Rattle.rlp_pooled.specs.declared.pooled_transaction.PooledTransaction.{PooledTransaction}
+use Rattle.rlp_pooled.proofs.Pooled.{consensus_written}
 use Rattle.rlp_headers.specs.{Header.header, declared.header.Header.Header}
 use Rattle.rlp_show.specs.{Transactions.{blob_hash, payload_hash, pooled_hash, transaction_hash}, Blocks.{header_hash, seen_hash}}
 

@@ -1,11 +1,12 @@
--- Where the contents of a value stand in its encoding: a row for each content, and for each header of a list that has items.
-use Rattle.std.specs.Prelude.{ℕ, zero, suc, ◌-◌, ◌==◌, ◌&&◌, nat_lt, nat_eq, if◌then◌else◌, Bool, false, List, [], ◌∷◌, ◌++◌, codes, decimal, length, take, drop, Result, Ok, Err}
+-- Where the contents of a value stand in its encoding: a row for each content, and for each header of a list that has items. A list that is
+-- shown as its encoding is one content.
+use Rattle.std.specs.Prelude.{ℕ, zero, suc, ◌-◌, ◌==◌, ◌&&◌, ◌||◌, nat_lt, nat_eq, if◌then◌else◌, Bool, false, List, [], ◌∷◌, ◌++◌, codes, decimal, length, take, drop, Result, Ok, Err}
 use Rattle.std.specs.List.{starts_with}
 use Rattle.hex.specs.Hex.{encode_lower}
 use Rattle.rlp.specs.{DecoderError.DecoderError, Format.Encoding.encoding, Format.Framing.begins_as_list, PayloadInfo.PayloadInfo, Values.Value.number_item, Views.View.begins_as_data}
 use Rattle.rlp.specs.{Format.Framing.framing, Format.Encoding.string}
 use Rattle.rlp_show.specs.Value.{Steps, after, Content, Value, number, type_byte, bytes, text, empty_list}
-use Rattle.rlp_show.specs.{declared.sink.NumberKind.TheVariants.Place, declared.sink.BytesKind.TheVariants.Payload, Lines.line}
+use Rattle.rlp_show.specs.{declared.sink.NumberKind.TheVariants.Place, declared.sink.BytesKind.TheVariants.{Encoding, Payload}, Lines.line}
 
 -- The rows so far, the number of bytes of the encoding, and the bytes that have no row yet.
 pub record Dump : Type 0 where
@@ -51,20 +52,25 @@ list_header b = header_before (begins_as_list b) 0 (framing b)
 abbrev pub string_header : List ℕ → ℕ
 string_header b = header_before (begins_as_data b) 1 (framing b)
 
--- rows for the headers of the lists that come next, at most this number of them
-abbrev pub enter_lists : ℕ → Dump → Dump
-enter_lists zero s = s
-enter_lists (suc most) s = if list_header s.rest == 0 then s else enter_lists most (row (list_header s.rest) 0 (codes "list\n") s)
+-- whether these bytes, which aren't none, come next
+abbrev pub come_next : List ℕ → Dump → Bool
+come_next e s = nat_lt 0 (length e) && starts_with nat_eq s.rest e
+
+-- rows for the headers of the lists that come next, until these bytes come next; at most this number of rows
+abbrev pub enter_lists : List ℕ → ℕ → Dump → Dump
+enter_lists e zero s = s
+enter_lists e (suc most) s =
+    if come_next e s || (list_header s.rest == 0) then s else enter_lists e most (row (list_header s.rest) 0 (codes "list\n") s)
 
 -- A typed transaction or receipt in a list is the payload of a string, as EIP-2718 has it: a row for the header of this string.
 abbrev pub enter_envelope : Dump → Dump
 enter_envelope s = if string_header s.rest == 0 then s else row (string_header s.rest) 0 (codes "envelope\n") s
 
--- the rows before a content: none before the payload of an envelope, and the headers of lists before any other content
-abbrev pub enter : Content → Dump → Dump
-enter (bytes Payload b) s = s
-enter (type_byte n) s = enter_envelope (enter_lists (length s.rest) s)
-enter _ s = enter_lists (length s.rest) s
+-- the rows before a content, whose bytes are these: none before the payload of an envelope, and the headers of lists before any other content
+abbrev pub enter : Content → List ℕ → Dump → Dump
+enter (bytes Payload b) e s = s
+enter (type_byte n) e s = enter_envelope (enter_lists e (length s.rest) s)
+enter _ e s = enter_lists e (length s.rest) s
 
 -- the bytes of a content in an encoding; a place or a text has no bytes there
 abbrev pub encoded_bytes : Content → List ℕ
@@ -72,6 +78,7 @@ encoded_bytes (number Place n) = []
 encoded_bytes (number kind n) = encoding (number_item n)
 encoded_bytes (type_byte n) = encoding (string (n ∷ []))
 encoded_bytes (bytes Payload b) = b
+encoded_bytes (bytes Encoding b) = b
 encoded_bytes (bytes kind b) = encoding (string b)
 encoded_bytes (text t) = []
 encoded_bytes empty_list = 0xc0 ∷ []
@@ -80,10 +87,6 @@ encoded_bytes empty_list = 0xc0 ∷ []
 abbrev pub content_header : Content → List ℕ → ℕ
 content_header (bytes Payload b) e = 0
 content_header _ e = header_length (framing e)
-
--- whether these bytes come next
-abbrev pub come_next : List ℕ → Dump → Bool
-come_next e s = nat_lt 0 (length e) && starts_with nat_eq s.rest e
 
 -- a row for a content, whose bytes are these
 abbrev pub content_row : List ℕ → Content → List ℕ → Dump → Dump
@@ -94,7 +97,7 @@ abbrev pub dump_steps : Steps Dump
 dump_steps = record {
   is_json = false;
   key = λ json s. s;
-  put = λ name c s. content_row (line name c) c (encoded_bytes c) (enter c s);
+  put = λ name c s. content_row (line name c) c (encoded_bytes c) (enter c (encoded_bytes c) s);
   bracket = λ bracket s. s;
 }
 

@@ -4,11 +4,11 @@ use Rattle.rlp.specs.{Format.Encoding.Item, Format.Framing.read_string, Values.R
 use Rattle.rlp_node_record.specs.NodeFields.{node_fields, pair_fields}
 use Rattle.rlp_trie.specs.TrieNodeLaws.{trie_node}
 use Rattle.rlp_show.specs.{Display.{a_list, a_number, a_string, an_object, bytes_as, one, same, through}, Value.{Content, Display}, declared.sink.BytesKind.TheVariants.Word}
-use Rattle.rlp_show.specs.{ItemLaws.{key_apart, node_apart, raw_apart}, Items.{node_told, shown_within, whole_node}, NodeRecords.{key_told_by, key_value}}
+use Rattle.rlp_show.specs.{ItemLaws.{key_apart, node_apart, raw_apart}, Items.{deepest_shown, node_told, shown_within, whole_node}, NodeRecords.{key_told_by, key_value}}
 
 -- items that are kept as the bytes of their encodings
 abbrev pub raw_item_display : Display (List ℕ)
-raw_item_display = record { shown = shown_within 256 false; Told = Item; told = raw_item_of; apart = raw_apart }
+raw_item_display = record { shown = shown_within deepest_shown false; Told = Item; told = raw_item_of; apart = raw_apart }
 
 -- nodes of the trie that stand alone
 unfoldable pub node_display : Display trie_node.reading.M

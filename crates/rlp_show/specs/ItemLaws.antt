@@ -2,10 +2,10 @@
 use Rattle.std.specs.Prelude.{ℕ, zero, suc, ◌==◌, if◌then◌else◌, not, Bool, true, false, List, [], ◌∷◌, get_or, length, map, take, Option, Some, None, Result, Ok, Err}
 use Rattle.std.proofs.{Common.{◌≡◌, ◌∙◌, refl, sym, ap, arith, inl, inr}, lemmas.Bool.Decides.nat_tests, lemmas.List.length-map}
 use Rattle.rlp_records.specs.Keccak.{keccak256}
-use Rattle.rlp.specs.{Format.Encoding.{Item, string, list, no_items, item_and, items_from}, Format.Framing.items, Views.View.View, Views.View.view_of}
+use Rattle.rlp.specs.{Format.Encoding.{Item, string, list, list_of, no_items, item_and, items_from}, Format.Framing.items, Views.View.View, Views.View.view_of}
 use Rattle.rlp.specs.{Values.RawItem.{item_by, item_within, raw_item_of, string_or_none}, DecoderError.DecoderError, Format.Framing.read_string}
 use Rattle.rlp_trie.specs.{HexPrefix.ends_in_leaf, TrieNodeLaws.trie_node}
-use Rattle.rlp_show.specs.Items.{branch_shown, few_shown, item_shown, joined, node_shown, node_told, pair_shown, shown_item, shown_items, shown_within, string_at, whole_node}
+use Rattle.rlp_show.specs.Items.{branch_shown, deepest_shown, few_shown, inner_shown, item_shown, joined, last_shown, node_shown, node_told, pair_shown, shown_item, shown_items, shown_within, string_at, whole_node}
 use Rattle.rlp_show.specs.{DisplayLaws.content_same, NodeRecords.{key_told_by, key_value, key_value_by}, Records.written, Value.Value, Value.values_of}
 
 module _ (inside : Bool → List ℕ → Value) (within : List ℕ → Item) (back : (is_node : Bool) (b : List ℕ) → shown_item (inside is_node b) ≡ within b)
@@ -59,19 +59,34 @@ unfolding item_within
 string_within zero b d is = ap (λ r. string (string_or_none r)) is
 string_within (suc most) b d is = ap (item_by (item_within most) b) is
 
-within_back : (most : ℕ) (is_node : Bool) (b : List ℕ) → shown_item (shown_within most is_node b) ≡ item_within most b
+-- items that are shown without their items: 256 - 16 is 240
+inner_back : (b : List ℕ) (bs : List (List ℕ)) (e : DecoderError) → read_string b ≡ Err e → items b ≡ bs → shown_item (inner_shown b (map view_of bs)) ≡ item_within 240 b
+unfolding item_within
+inner_back b [] e is none = sym (ap (item_by (item_within 239) b) is ∙ ap (λ bs. list_of (map (item_within 239) bs)) none)
+inner_back b (c ∷ bs) e is some = refl
+
+end_back : (b : List ℕ) (r : Result (List ℕ) DecoderError) → read_string b ≡ r → shown_item (last_shown b r) ≡ item_within 240 b
+end_back b (Ok d) is = sym (string_within 240 b d is)
+end_back b (Err e) is = inner_back b (items b) e is refl
+
+-- how many lists an item may nest in all, if this number of them are shown item by item
+abbrev in_all : ℕ → ℕ
+in_all zero = 240
+in_all (suc most) = suc (in_all most)
+
+within_back : (most : ℕ) (is_node : Bool) (b : List ℕ) → shown_item (shown_within most is_node b) ≡ item_within (in_all most) b
 unfolding shown_within item_within
-within_back zero is_node b = refl
-within_back (suc most) is_node b = item_back (shown_within most) (item_within most) (within_back most) (string_within most) is_node b (read_string b)
+within_back zero is_node b = end_back b (read_string b) refl
+within_back (suc most) is_node b = item_back (shown_within most) (item_within (in_all most)) (within_back most) (string_within (in_all most)) is_node b (read_string b)
 
 -- items that are shown alike are equal
-pub raw_apart : (b c : List ℕ) → shown_within 256 false b ≡ shown_within 256 false c → raw_item_of b ≡ raw_item_of c
-raw_apart b c is = sym (within_back 256 false b) ∙ ap shown_item is ∙ within_back 256 false c
+pub raw_apart : (b c : List ℕ) → shown_within deepest_shown false b ≡ shown_within deepest_shown false c → raw_item_of b ≡ raw_item_of c
+raw_apart b c is = sym (within_back 16 false b) ∙ ap shown_item is ∙ within_back 16 false c
 
 told_back : (m : trie_node.reading.M) → shown_item (whole_node m) ≡ node_told m
 told_back (inl empty) = refl
 told_back (inr m) =
-    node_back (shown_within 256) raw_item_of (within_back 256) (string_within 256) (Some (keccak256 (written trie_node.reading (inr m)))) (items (written trie_node.reading (inr m)))
+    node_back (shown_within 16) raw_item_of (within_back 16) (string_within 256) (Some (keccak256 (written trie_node.reading (inr m)))) (items (written trie_node.reading (inr m)))
 
 pub node_apart : (m n : trie_node.reading.M) → whole_node m ≡ whole_node n → node_told m ≡ node_told n
 node_apart m n is = sym (told_back m) ∙ ap shown_item is ∙ told_back n
@@ -81,8 +96,8 @@ by_strings : (key other b c : List ℕ) (r s : Result (List ℕ) DecoderError) �
 unfolding shown_within
 by_strings key other b c (Ok d) (Ok e) first second is = ap inl (content_same is)
 by_strings key other b c (Err d) (Err e) first second is = ap inr (raw_apart b c is)
-by_strings key other b c (Ok d) (Err e) first second is = let items = ap (item_shown (shown_within 255) false c) second in absurd cc
-by_strings key other b c (Err d) (Ok e) first second is = let items = ap (item_shown (shown_within 255) false b) first in absurd cc
+by_strings key other b c (Ok d) (Err e) first second is = let items = ap (item_shown (shown_within 15) false c) second in absurd cc
+by_strings key other b c (Err d) (Ok e) first second is = let items = ap (item_shown (shown_within 15) false b) first in absurd cc
 
 pub key_apart : (p q : List ℕ × List ℕ) → key_value p.0 p.1 ≡ key_value q.0 q.1 → key_told_by p.0 p.1 (read_string p.1) ≡ key_told_by q.0 q.1 (read_string q.1)
 key_apart p q is = by_strings p.0 q.0 p.1 q.1 (read_string p.1) (read_string q.1) refl refl is

@@ -1,13 +1,13 @@
 -- What is shown of items of any kind, and of nodes of the trie.
-use Rattle.std.specs.Prelude.{ℕ, zero, suc, ◌==◌, if◌then◌else◌, not, Bool, true, false, List, [], ◌∷◌, codes, get_or, length, map, take, Option, Some, None, Result, Ok, Err}
+use Rattle.std.specs.Prelude.{ℕ, zero, suc, ◌-◌, ◌==◌, if◌then◌else◌, not, Bool, true, false, List, [], ◌∷◌, codes, get_or, length, map, take, Option, Some, None, Result, Ok, Err}
 use Rattle.std.proofs.Common.{inl, inr}
 use Rattle.rlp_records.specs.Keccak.{keccak256}
 use Rattle.rlp.specs.{Format.Encoding.{Item, Items, string, list, no_items, item_and, items_from}, Format.Framing.items, Views.View.View, Views.View.item_views, Views.View.view_of}
-use Rattle.rlp.specs.{Values.RawItem.{raw_item_of, string_or_none}, DecoderError.DecoderError, Format.Framing.read_string}
+use Rattle.rlp.specs.{Values.RawItem.{deepest_raw_item, item_within, raw_item_of, string_or_none}, DecoderError.DecoderError, Format.Framing.read_string}
 use Rattle.rlp_trie.specs.{HexPrefix.ends_in_leaf, TrieNodeLaws.trie_node}
 use Rattle.rlp_show.specs.Display.{a_string, bytes_as, content_bytes, derived, one_if, same, through}
 use Rattle.rlp_show.specs.Value.{Fields, Value, Entries, Values, content, object, array, bytes, text, nothing, both, entry, by_form, no_values, value_and, values_of}
-use Rattle.rlp_show.specs.{Lines.digits_text, Records.written, declared.sink.BytesKind.TheVariants.Any, declared.sink.BytesKind.TheVariants.Path}
+use Rattle.rlp_show.specs.{Lines.digits_text, Records.written, declared.sink.BytesKind.TheVariants.{Any, Encoding, Path}}
 
 -- ---- the parts of nodes
 
@@ -77,10 +77,25 @@ module _ (inside : Bool → List ℕ → Value) where
   item_shown true b (Err e) = node_shown None (item_views (view_of b))
   item_shown false b (Err e) = items_shown false (item_views (view_of b))
 
--- The item that bytes begin with, through at most this number of nested lists, as an item of any kind or as a node that is kept in its parent.
+-- A list that is shown without its items, by its encoding: a list that has items has the one field `encoding`.
+abbrev pub inner_shown : List ℕ → List View → Value
+inner_shown b [] = array no_values
+inner_shown b (v ∷ vs) = object (entry (codes "encoding") (codes "encoding") (content (bytes Encoding b)))
+
+-- An item that is in as many lists as are shown item by item.
+abbrev pub last_shown : List ℕ → Result (List ℕ) DecoderError → Value
+last_shown b (Ok d) = content (bytes Any d)
+last_shown b (Err e) = inner_shown b (item_views (view_of b))
+
+-- The item that bytes begin with, as an item of any kind or as a node that is kept in its parent: through at most this number of nested lists item by item, and a
+-- list that is in all of them as its encoding.
 unfoldable pub shown_within : ℕ → Bool → List ℕ → Value
-shown_within zero is_node b = content (bytes Any (string_at b))
+shown_within zero is_node b = last_shown b (read_string b)
 shown_within (suc most) is_node b = item_shown (shown_within most) is_node b (read_string b)
+
+-- the number of nested lists of an item that are shown item by item
+abbrev pub deepest_shown : ℕ
+deepest_shown = 16
 
 -- ---- what is shown of an item says what the item is
 
@@ -89,12 +104,13 @@ abbrev pub joined : Items → Items → Items
 joined no_items ys = ys
 joined (item_and x xs) ys = item_and x (joined xs ys)
 
--- The item that a value shows. A node shows a path and an item, or its children and an item; the empty trie shows only its kind.
+-- The item that a value shows. A node shows a path and an item, or its children and an item; the empty trie shows only its kind. One field is an encoding.
 abbrev mutual
   pub shown_item : Value → Item
   shown_item (content c) = string (content_bytes c)
   shown_item (array vs) = list (shown_items vs)
   shown_item (object (both kind (both first (entry name json v)))) = list (shown_first first (item_and (shown_item v) no_items))
+  shown_item (object (entry name json (content c))) = item_within (deepest_raw_item - deepest_shown) (content_bytes c)
   shown_item (object es) = string []
 
   shown_first : Entries → Items → Items
@@ -110,7 +126,7 @@ abbrev mutual
 
 -- the node whose encoding is these bytes, a list, with its hash
 abbrev pub hashed_node : List ℕ → Value
-hashed_node b = node_shown (shown_within 256) (Some (keccak256 b)) (item_views (view_of b))
+hashed_node b = node_shown (shown_within deepest_shown) (Some (keccak256 b)) (item_views (view_of b))
 
 -- A node is shown by its encoding. The empty trie is a string, of which only the hash and the kind are shown.
 abbrev pub whole_node : trie_node.reading.M → Value

@@ -23,12 +23,16 @@ abbrev pub number_json : NumberKind → ℕ → List ℕ
 number_json Place n = number_text n
 number_json _ n = quoted (hex_text n)
 
--- bytes of a kind
+-- bytes of a kind, without quotes
+abbrev pub bytes_unquoted : BytesKind → List ℕ → List ℕ
+bytes_unquoted Word b = word_text b
+bytes_unquoted Ip b = ip_text b
+bytes_unquoted _ b = bytes_text b
+
+-- bytes of a kind: in quotes, or `null`
 abbrev pub bytes_json : BytesKind → List ℕ → List ℕ
 bytes_json Null b = codes "null"
-bytes_json Word b = quoted (word_text b)
-bytes_json Ip b = quoted (ip_text b)
-bytes_json _ b = quoted (bytes_text b)
+bytes_json kind b = quoted (bytes_unquoted kind b)
 
 abbrev pub content_json : Content → List ℕ
 content_json (number kind n) = number_json kind n

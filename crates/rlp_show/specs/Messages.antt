@@ -3,7 +3,8 @@ use Rattle.std.proofs.Common.{inl, inr}
 use Rattle.std.specs.Prelude.{ℕ, ◌∷◌, List, None, Option, Some, [], codes, refl}
 use Rattle.rlp_messages.specs.Eth.Announcements.{block_range_update, new_block, new_block_hash, new_pooled_transaction_hashes}
 use Rattle.rlp_messages.specs.{Eth.HashOrNumberLaws.hash_or_number, Eth.Receipts.receipt69, Eth.Requests.get_block_headers}
-use Rattle.rlp_messages.specs.{Eth.Status.{fork_id, status68, status69}, P2p.Disconnect.disconnect, P2p.Hello.{capability, further_fields, hello}}
+use Rattle.rlp_messages.specs.Eth.Status.{fork_id, status68, status69}
+use Rattle.rlp_p2p.specs.{Disconnect.disconnect, Hello.{capability, further_fields, hello}}
 use Rattle.rlp_show.specs.{Blocks.{block_display}, declared.sink.BytesKind.TheVariants.{Any, Word}, declared.sink.NumberKind.TheVariants.Decimal}
 use Rattle.rlp_show.specs.Display.{a_bit, a_content, a_list, a_number, a_string, an_object, bytes_as, content_bytes, end, in_order, one, one_if, same, through}
 use Rattle.rlp_show.specs.{DisplayLaws.back_apart, ItemDisplays.raw_item_display, Records.{log_display, status_fields}, Value.{Content, Display, Fields, bytes, number}}

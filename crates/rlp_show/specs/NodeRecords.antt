@@ -2,7 +2,7 @@
 use Rattle.std.specs.{Prelude.{ℕ, ◌==◌, ◌&&◌, ◌||◌, ◌⊎◌, nat_lt, if◌then◌else◌, Bool, false, List, codes, length, Result, Ok, Err}, Int.Digits.number_from_digits, Str.bytes_eq}
 use Rattle.std.proofs.Common.{inl, inr}
 use Rattle.rlp.specs.{DecoderError.DecoderError, Form.begins_with_zero, Format.Encoding.Item, Format.Framing.read_string, Values.RawItem.raw_item_of}
-use Rattle.rlp_show.specs.{Value.{Content, Value, content, bytes, number}, Items.shown_within}
+use Rattle.rlp_show.specs.{Value.{Content, Value, content, bytes, number}, Items.{deepest_shown, shown_within}}
 use Rattle.rlp_show.specs.declared.{sink.NumberKind.TheVariants.Decimal, sink.BytesKind.TheVariants.Any, sink.BytesKind.TheVariants.Ip, sink.BytesKind.TheVariants.Word}
 
 -- ---- by the keys that EIP-778 defines
@@ -30,7 +30,7 @@ string_content key d =
 -- the value of a key, which is kept as these bytes, by the string that they begin with
 abbrev pub key_value_by : List ℕ → List ℕ → Result (List ℕ) DecoderError → Value
 key_value_by key b (Ok d) = content (string_content key d)
-key_value_by key b (Err e) = shown_within 256 false b
+key_value_by key b (Err e) = shown_within deepest_shown false b
 
 abbrev pub key_value : List ℕ → List ℕ → Value
 key_value key b = key_value_by key b (read_string b)

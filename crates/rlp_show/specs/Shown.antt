@@ -12,7 +12,8 @@ use Rattle.rlp_blocks.specs.Block.{block, body}
 use Rattle.rlp_messages.specs.Eth.Announcements.{block_range_update, new_block, new_block_hashes, new_pooled_transaction_hashes, transactions}
 use Rattle.rlp_messages.specs.Eth.Receipts.{receipts, receipts69}
 use Rattle.rlp_messages.specs.Eth.Requests.{block_bodies, block_headers, get_block_bodies, get_block_headers, get_pooled_transactions, get_receipts, pooled_transactions, with_request_id_reading}
-use Rattle.rlp_messages.specs.{Eth.Status.{status68, status69}, P2p.Disconnect.disconnect, P2p.Hello.hello, P2p.P2pMessage.{ping, pong}}
+use Rattle.rlp_messages.specs.Eth.Status.{status68, status69}
+use Rattle.rlp_p2p.specs.{Disconnect.disconnect, Hello.hello, P2pMessage.{ping, pong}}
 use Rattle.rlp_show.specs.{Blocks.{block_display, body_fields_display, header_display}, Display.{a_list, a_string, an_object, end}}
 use Rattle.rlp_show.specs.{ItemDisplays.{node_display, node_fields_display}, Value.Display}
 use Rattle.rlp_show.specs.Messages.{disconnect_display, get_block_headers_display, hello_display, new_block_display, new_block_hash_display, new_pooled_transaction_hashes_display, range_display, receipt69_display, status68_display, status69_display, with_request_id_display}

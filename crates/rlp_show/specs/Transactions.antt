@@ -5,11 +5,12 @@ use Rattle.rlp.specs.{Form.FieldsReading, Format.Encoding.{encoding, list_of}}
 use Rattle.rlp_records.specs.{Alone.bytes_alone, Keccak.keccak256}
 use Rattle.rlp_transactions.specs.{AccessListTransaction.{access_list, access_list_item, access_list_transaction_fields}, declared.signed.Signed.{Signed}}
 use Rattle.rlp_transactions.specs.BlobTransaction.{blob_transaction_fields, signed_blob_transaction}
-use Rattle.rlp_transactions.specs.{BlobWrapper.{pooled_blob_transaction, with_cell_proofs, with_proofs}, Eip155.said_by, FeeMarketTransaction.{fee_market_transaction_fields}}
+use Rattle.rlp_transactions.specs.{Eip155.said_by, FeeMarketTransaction.{fee_market_transaction_fields}}
 use Rattle.rlp_transactions.specs.LegacyTransaction.{chain_fields, legacy_transaction_fields, signed_legacy_transaction, unsigned_legacy_transaction}
-use Rattle.rlp_transactions.specs.{NonZeroScalar.scalar_value, PooledTransaction.{pooled_transaction, seen_consensus}, Recipient.recipient}
+use Rattle.rlp_transactions.specs.{NonZeroScalar.scalar_value, Recipient.recipient}
 use Rattle.rlp_transactions.specs.SetCodeTransaction.{authorization_fields, set_code_transaction_fields, signed_authorization}
 use Rattle.rlp_transactions.specs.{Transaction.{any_transaction, transaction}, UnsignedTransaction.unsigned_transaction, declared.eip155.Eip155.Eip155}
+use Rattle.rlp_pooled.specs.{BlobWrapper.{pooled_blob_transaction, with_cell_proofs, with_proofs}, PooledTransaction.{pooled_transaction, seen_consensus}}
 use Rattle.rlp_show.specs.Display.{a_bit, a_content, a_list, a_number, a_quantity, a_string, after_derived, an_object, and_type, bytes_as, content_bytes, derived, either, end, field, field_if, if_there, in_order, last_type, no_type_entries, number_as, of_type, one, one_if, same, through}
 use Rattle.rlp_show.specs.{DisplayLaws.{back_apart}, Records.{hash_entries, or_other, written}}
 use Rattle.rlp_show.specs.Value.{Content, Display, Entries, Fields, both, by_form, bytes, content, entries_if, entry, nothing, number}

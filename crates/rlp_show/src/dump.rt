@@ -2,7 +2,7 @@
 
 ghost use Rattle.std.specs.Prelude.{◌≡◌, ◌+◌, ◌≤◌, ◌++◌, [], length, string_bytes, IfOk, OnOk};
 ghost use Rattle.rlp.specs.Format.Framing.{framing};
-ghost use Rattle.rlp_show.specs.Dump.{Dump as DumpSeen, content_header, dump_of, dump_steps, encoded_bytes, enter, enter_envelope, enter_lists, header_before, part_text, row};
+ghost use Rattle.rlp_show.specs.Dump.{Dump as DumpSeen, come_next, content_header, dump_of, dump_steps, encoded_bytes, enter, enter_envelope, enter_lists, header_before, part_text, row};
 ghost use Rattle.rlp_show.specs.{Display.shown_of, Value.content_of};
 
 use crate::lines::put_line;
@@ -19,7 +19,7 @@ use std::marker::Model;
 /// header of a list that has items: the place of the first byte, counted from 0, the bytes of the
 /// header and of the payload, and the name and the text of the content. A dash is written for a
 /// part that isn't there. A content that isn't in the encoding, such as the hash of the encoding,
-/// has no place.
+/// has no place. A list that is shown as its encoding is one content.
 ///
 /// ```text
 /// 0 d7 - list
@@ -101,7 +101,9 @@ fn encoded_bytes(alloc: Global, shown: Shown<'_>) -> Result<BytesMut, AllocError
         Shown::Number(NumberKind::Place, _) | Shown::Text(_) => Ok(BytesMut::new(alloc)),
         Shown::Number(_, n) => rlp::encode(alloc, &n),
         Shown::TypeByte(n) => rlp::encode(alloc, &[n]),
-        Shown::Bytes(BytesKind::Payload, b) => BytesMut::copy_from_slice(alloc, b),
+        Shown::Bytes(BytesKind::Payload | BytesKind::Encoding, b) => {
+            BytesMut::copy_from_slice(alloc, b)
+        }
         Shown::Bytes(_, b) => rlp::encode(alloc, &b),
         Shown::EmptyList => BytesMut::copy_from_slice(alloc, &[0xc0]),
     }
@@ -147,13 +149,21 @@ impl<'a> Dump<'a> {
         self.rows.push_str(what)
     }
 
-    /// Appends rows for the headers of the lists that come next.
+    /// Returns whether these bytes, which aren't none, come next.
+    fn come_next(&self, bytes: &[u8]) -> bool
+        ensures { result ≡ come_next bytes.now self.now }
+    {
+        !bytes.is_empty() && self.rest.starts_with(bytes)
+    }
+
+    /// Appends rows for the headers of the lists that come next, until these bytes come next.
     #[tactic(auto, using(crate::proofs::TextLemmas::lists_entered))]
-    fn enter_lists(&mut self) -> Result<(), AllocError>
-        ensures { OnOk result (self.new ≡ enter_lists (length self.old.rest) self.old) }
+    fn enter_lists(&mut self, bytes: &[u8]) -> Result<(), AllocError>
+        ensures { OnOk result
+            (self.new ≡ enter_lists bytes.now (length self.old.rest) self.old) }
     {
         let mut most = self.rest.len();
-        while most > 0 {
+        while most > 0 && !self.come_next(bytes) {
             let header_len = header_before(self.rest, Rlp::new(self.rest).is_list(), 0);
             if header_len == 0 {
                 return Ok(());
@@ -175,17 +185,17 @@ impl<'a> Dump<'a> {
         self.put_header(header_len, "envelope\n")
     }
 
-    /// Appends rows for the headers in front of a content.
-    fn enter(&mut self, shown: Shown<'_>) -> Result<(), AllocError>
-        ensures { OnOk result (self.new ≡ enter (content_of shown.entry) self.old) }
+    /// Appends rows for the headers in front of a content, whose bytes are these.
+    fn enter(&mut self, shown: Shown<'_>, bytes: &[u8]) -> Result<(), AllocError>
+        ensures { OnOk result (self.new ≡ enter (content_of shown.entry) bytes.now self.old) }
     {
         match shown {
             Shown::Bytes(BytesKind::Payload, _) => Ok(()),
             Shown::TypeByte(_) => {
-                self.enter_lists()?;
+                self.enter_lists(bytes)?;
                 self.enter_envelope()
             }
-            _ => self.enter_lists(),
+            _ => self.enter_lists(bytes),
         }
     }
 }
@@ -206,10 +216,10 @@ impl Sink for Dump<'_> {
     }
 
     fn put(&mut self, name: &str, shown: Shown<'_>) -> Result<(), AllocError> {
-        self.enter(shown)?;
         let bytes = encoded_bytes(self.alloc, shown)?;
         let bytes = bytes.as_slice();
-        if !bytes.is_empty() && self.rest.starts_with(bytes) {
+        self.enter(shown, bytes)?;
+        if self.come_next(bytes) {
             let header_len = content_header(shown, bytes);
             self.begin_row(header_len, bytes.len() - header_len)?;
         } else {

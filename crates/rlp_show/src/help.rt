@@ -57,7 +57,7 @@ Without KIND the kind is guessed, and the names of the fields begin with its nam
   other list, by its number of items:
     2                    node
     4                    by the third item: account (of 32 bytes), withdrawal (of 20),
-                         receipt (of more than 55), else record
+                         receipt (of more than 55, or a list), else record
     6                    authorization if the second item has 20 bytes, else record
     9                    transaction
     15 to 23             header if the third item has 20 bytes, else node (17), record

@@ -1,9 +1,9 @@
 //! Items of any kind, and nodes of the trie.
 
 ghost use Rattle.std.specs.Prelude.{◌≡◌, IfOk, not, OnOk, true, false, option_map};
-ghost use Rattle.rlp.specs.{Codec.raw_item, Views.View.item_views};
+ghost use Rattle.rlp.specs.{Codec.raw_item, Views.View.{item_views, view_of}};
 ghost use Rattle.rlp_trie.specs.TrieNodeLaws.{trie_node};
-ghost use Rattle.rlp_show.specs.Items.{branch_entries, items_shown, key_of, kind_of, node_shown, pair_entries, shown_within, string_at};
+ghost use Rattle.rlp_show.specs.Items.{branch_entries, inner_shown, items_shown, key_of, kind_of, node_shown, pair_entries, shown_within, string_at};
 ghost use Rattle.rlp_show.specs.{ItemDisplays.{node_display, raw_item_display}, Display.seen_as, Value.after, Value.object, Value.values_of};
 
 use crate::records::written;
@@ -15,12 +15,15 @@ use rlp_records::{Hash, keccak256};
 use rlp_trie::{TrieNode, ends_in_leaf};
 use std::alloc::{AllocError, Global};
 
+/// The number of nested lists of an item that are shown item by item. A list in so many lists is
+/// shown as its encoding, so that a name has at most so many places more than the name of the item.
+const MOST_LISTS: usize = 16;
+
 impl Show for RawItem {
     ghost display = { seen_as raw_item.reading.seen raw_item_display };
 
     fn show<S: Sink>(&self, alloc: Global, name: &str, sink: &mut S) -> Result<(), AllocError> {
-        let most = RawItem::MAX_DEPTH;
-        show_item(alloc, name, self.as_bytes(), most, false, sink)
+        show_item(alloc, name, self.as_bytes(), MOST_LISTS, false, sink)
     }
 }
 
@@ -46,8 +49,27 @@ fn string_in(bytes: &[u8]) -> &[u8]
     }
 }
 
-/// Gives the item that bytes begin with to a sink, through at most this number of nested lists: as
-/// an item of any kind, or as a node that is kept in its parent.
+/// Gives a list to a sink as its encoding, which is these bytes, or as a list without items.
+fn show_inner<S: Sink>(
+    alloc: Global,
+    name: &str,
+    raw: &[u8],
+    sink: &mut S,
+) -> Result<(), AllocError>
+    ensures { OnOk result (S.seen sink.new ≡ after S.steps name.now
+        (inner_shown raw.now (item_views (view_of raw.now))) (S.seen sink.old)) }
+{
+    match Rlp::new(raw).iter().next() {
+        Some(_) => {
+            let encoding = Shown::Bytes(BytesKind::Encoding, raw);
+            show_fields!(alloc, name, sink; "encoding" encoding)
+        }
+        None => sink.put(name, Shown::EmptyList),
+    }
+}
+
+/// Gives the item that bytes begin with to a sink, as an item of any kind, or as a node that is kept
+/// in its parent. A list in `most` nested lists is given as its encoding.
 #[cycle(items)]
 #[tactic(auto, using(crate::proofs::ItemLemmas::items_by_bytes))]
 pub(crate) fn show_item<S: Sink>(
@@ -64,7 +86,7 @@ pub(crate) fn show_item<S: Sink>(
     let item = Rlp::new(raw);
     match item.decoder().string() {
         Ok(string) => return sink.put(name, bytes(string)),
-        Err(_) if most == 0 => return sink.put(name, bytes(&[])),
+        Err(_) if most == 0 => return show_inner(alloc, name, raw, sink),
         Err(_) => {}
     }
     let items = items_in(alloc, &item)?;
@@ -212,7 +234,6 @@ impl Show for TrieNode {
             return show_fields!(alloc, name, sink; "hash" ? &hash; "node" Shown::Text("empty"));
         }
         let items = items_in(alloc, &Rlp::new(bytes.as_slice()))?;
-        let most = RawItem::MAX_DEPTH;
-        show_node(alloc, name, hash, items.as_slice(), most, sink)
+        show_node(alloc, name, hash, items.as_slice(), MOST_LISTS, sink)
     }
 }

@@ -1,7 +1,7 @@
 //! JSON with the names of Ethereum's execution API.
 
-ghost use Rattle.std.specs.Prelude.{◌≡◌, ◌++◌, false, string_bytes, OnOk, IfOk};
-ghost use Rattle.rlp_show.specs.Json.{Json as JsonSeen, camel, comma, content_json, json_steps, json_of, letter_text};
+ghost use Rattle.std.specs.{Int.Digits.number_from_digits, Prelude.{◌≡◌, ◌++◌, false, string_bytes, OnOk, IfOk}};
+ghost use Rattle.rlp_show.specs.{Json.{Json as JsonSeen, bytes_unquoted, bytes_json, camel, comma, content_json, json_steps, json_of, letter_text, quoted}, Lines.hex_text};
 ghost use Rattle.rlp_show.specs.{Display.shown_of, Value.content_of};
 
 use crate::show::Show;
@@ -41,6 +41,39 @@ macro_rules! put_quoted {
     }};
 }
 
+/// Appends a number in hexadecimal, in quotes.
+fn put_quoted_hex(number: &Uint<32>, out: &mut String) -> Result<(), AllocError>
+    ensures { OnOk result (string_bytes out.new
+        ≡ string_bytes out.old ++ quoted (hex_text (number_from_digits 256 number.now.bytes))) }
+{
+    out.push('"')?;
+    put_hex(number, out)?;
+    out.push('"')
+}
+
+/// Appends bytes of a kind, without quotes.
+fn put_bytes_as(kind: BytesKind, bytes: &[u8], out: &mut String) -> Result<(), AllocError>
+    ensures { OnOk result (string_bytes out.new ≡ string_bytes out.old ++ bytes_unquoted kind bytes.now) }
+{
+    match kind {
+        BytesKind::Word => put_word_or_bytes(bytes, out),
+        BytesKind::Ip => put_ip(bytes, out),
+        _ => put_bytes(bytes, out),
+    }
+}
+
+/// Appends bytes of a kind.
+fn put_bytes_json(kind: BytesKind, bytes: &[u8], out: &mut String) -> Result<(), AllocError>
+    ensures { OnOk result (string_bytes out.new ≡ string_bytes out.old ++ bytes_json kind bytes.now) }
+{
+    if let BytesKind::Null = kind {
+        return out.push_str("null");
+    }
+    out.push('"')?;
+    put_bytes_as(kind, bytes, out)?;
+    out.push('"')
+}
+
 /// Appends a content.
 fn put_content(shown: Shown<'_>, out: &mut String) -> Result<(), AllocError>
     ensures { OnOk result
@@ -48,12 +81,9 @@ fn put_content(shown: Shown<'_>, out: &mut String) -> Result<(), AllocError>
 {
     match shown {
         Shown::Number(NumberKind::Place, n) => write!(out, "{n}"),
-        Shown::Number(_, n) => put_quoted!(out, put_hex(&n, out)),
-        Shown::TypeByte(n) => put_quoted!(out, put_hex(&Uint::from(u64::from(n)), out)),
-        Shown::Bytes(BytesKind::Null, _) => out.push_str("null"),
-        Shown::Bytes(BytesKind::Word, bytes) => put_quoted!(out, put_word_or_bytes(bytes, out)),
-        Shown::Bytes(BytesKind::Ip, bytes) => put_quoted!(out, put_ip(bytes, out)),
-        Shown::Bytes(_, bytes) => put_quoted!(out, put_bytes(bytes, out)),
+        Shown::Number(_, n) => put_quoted_hex(&n, out),
+        Shown::TypeByte(n) => put_quoted_hex(&Uint::from(u64::from(n)), out),
+        Shown::Bytes(kind, bytes) => put_bytes_json(kind, bytes, out),
         Shown::Text(text) => put_quoted!(out, out.push_str(text)),
         Shown::EmptyList => out.push_str("[]"),
     }

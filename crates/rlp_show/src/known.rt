@@ -15,14 +15,15 @@ use rlp::{Decodable, DecodePlaced, DecoderError, PlacedFault, Rlp, decode_placed
 use rlp_blocks::{Block, Body};
 use rlp_headers::{Account, Header, TypedReceipt, Withdrawal};
 use rlp_messages::{
-    BlockRangeUpdate, BlockReceipts, BlockReceipts69, Disconnect, GetBlockHeaders, Hello, NewBlock,
-    NewBlockHash, NewPooledTransactionHashes, Ping, Pong, Status68, Status69, WithRequestId,
+    BlockRangeUpdate, BlockReceipts, BlockReceipts69, GetBlockHeaders, NewBlock, NewBlockHash,
+    NewPooledTransactionHashes, Status68, Status69, WithRequestId,
 };
 use rlp_node_record::NodeRecord;
+use rlp_p2p::{Disconnect, Hello, Ping, Pong};
+use rlp_pooled::PooledTransaction;
 use rlp_records::{Eip2718, Hash, KnownOrOther};
 use rlp_transactions::{
-    AccessListItem, AnyTransaction, PooledTransaction, SignedAuthorization, Transaction,
-    UnsignedTransaction,
+    AccessListItem, AnyTransaction, SignedAuthorization, Transaction, UnsignedTransaction,
 };
 use rlp_trie::TrieNode;
 use std::alloc::{AllocError, Global};

@@ -1,13 +1,12 @@
 //! Laws about values that are shown and about the answers to lines, as public functions. The
 //! contract of each function is the law, and the functions do nothing but call another law.
 
-ghost use Rattle.std.specs.{Prelude.{◌≡◌, ◌<◌, ◌^◌, ◌⊎◌, ℕ, List, [], Some, Ok, Err, length}, Str.Lines.{strip_carriage_return}};
+ghost use Rattle.std.specs.{Prelude.{◌≡◌, ◌<◌, ◌^◌, ◌⊎◌, ℕ, List, [], Some, Ok, length}, Str.Lines.{strip_carriage_return}};
 ghost use Rattle.rlp.specs.Format.Encoding.{IsSized, encoding};
-ghost use Rattle.rlp_reading.specs.Form.{Fault};
 ghost use Rattle.rlp_lines.specs.Digits.{bytes_in};
 ghost use Rattle.rlp_headers.specs.{TypedReceipt.any_receipt, declared.typed_receipt.TypedReceipt.TypedReceipt};
-ghost use Rattle.rlp_records.specs.{Alone.bytes_alone, Eip2718.typed_alone, declared.known_or_other.KnownOrOther.KnownOrOther};
-ghost use Rattle.rlp_transactions.specs.{Transaction.any_transaction, UnsignedTransaction.unsigned_transaction, UnsignedTransaction.unsigned_types};
+ghost use Rattle.rlp_records.specs.{Alone.bytes_alone, declared.known_or_other.KnownOrOther.KnownOrOther};
+ghost use Rattle.rlp_transactions.specs.{Transaction.any_transaction, UnsignedTransaction.unsigned_transaction};
 ghost use Rattle.rlp_transactions.specs.{declared.transaction.Transaction.Transaction, declared.unsigned_transaction.UnsignedTransaction.UnsignedTransaction};
 ghost use Rattle.rlp_trie.specs.{TrieNode.IsTrieNode, TrieNode.node_item, TrieNode.seen_node, TrieNodeLaws.trie_node, declared.trie_node.TrieNode.TrieNode};
 ghost use Rattle.rlp_show.specs.{Answers.{IsAnswered, IsRead, answer_of}, Display.shown_of, Display.told_of, ItemDisplays.node_display, Json.json_of, Records.any_receipt_display};
@@ -61,12 +60,11 @@ pub fn only_encodings_are_shown<T: StrictRead>(line: &[u8])
 {}
 
 /// If the digits of a line are the bytes of a standalone transaction, as `to_bytes` of
-/// `AnyTransaction` of `rlp_transactions` returns them, and no unsigned transaction has these
-/// bytes, the answer is what is shown of the transaction.
+/// `AnyTransaction` of `rlp_transactions` returns them, the answer is what is shown of the
+/// transaction. No unsigned transaction has these bytes.
 pub fn transactions_are_shown(line: &[u8])
-    ensures { (t : KnownOrOther Transaction) (e : Fault) → any_transaction.Fits t
+    ensures { (t : KnownOrOther Transaction) → any_transaction.Fits t
         → length (bytes_alone (any_transaction.item t)) < 2 ^ 64
-        → (typed_alone unsigned_types (bytes_alone (any_transaction.item t))).result ≡ Err e
         → bytes_in (strip_carriage_return line.now) ≡ Some (bytes_alone (any_transaction.item t))
         → IsAnswered kind.Transaction line.now (bytes_alone (any_transaction.item t))
         (any_transaction_display.shown (any_transaction.reading.seen t)) }

@@ -2,18 +2,19 @@
 
 ghost use Rattle.std.specs.{Prelude.map, Vec.vec_items};
 ghost use Rattle.rlp_messages.specs.{Eth.Announcements.{block_range_update, new_block, new_block_hash, new_pooled_transaction_hashes}, Eth.HashOrNumberLaws.hash_or_number};
-ghost use Rattle.rlp_messages.specs.{Eth.Receipts.{block_receipts, block_receipts69, receipt69}, Eth.Requests.get_block_headers, Eth.Status.{fork_id, status68, status69}, P2p.Disconnect.disconnect};
-ghost use Rattle.rlp_messages.specs.P2p.Hello.{capability, further_fields, hello};
+ghost use Rattle.rlp_messages.specs.{Eth.Receipts.{block_receipts, block_receipts69, receipt69}, Eth.Requests.get_block_headers, Eth.Status.{fork_id, status68, status69}};
+ghost use Rattle.rlp_p2p.specs.{Disconnect.disconnect, Hello.{capability, further_fields, hello}};
 ghost use Rattle.rlp_show.specs.{Display.{a_list, an_object, end, seen_as}, Records.any_receipt_display};
 ghost use Rattle.rlp_show.specs.Messages as shown;
 
 use crate::show::{Items, Object, Show, ShowFields, give_fields, show_fields};
 use crate::sink::{BytesKind, Shown, Sink, bytes, number};
 use rlp_messages::{
-    BlockRangeUpdate, BlockReceipts, BlockReceipts69, Capability, Disconnect, ForkId, FurtherItem,
-    GetBlockHeaders, HashOrNumber, Hello, NewBlock, NewBlockHash, NewPooledTransactionHashes, Ping,
-    Pong, Receipt69, Status68, Status69, WithRequestId,
+    BlockRangeUpdate, BlockReceipts, BlockReceipts69, ForkId, GetBlockHeaders, HashOrNumber,
+    NewBlock, NewBlockHash, NewPooledTransactionHashes, Receipt69, Status68, Status69,
+    WithRequestId,
 };
+use rlp_p2p::{Capability, Disconnect, FurtherItem, Hello, Ping, Pong};
 use std::alloc::{AllocError, Global};
 
 impl Show for ForkId {

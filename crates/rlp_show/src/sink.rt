@@ -37,6 +37,8 @@ pub enum BytesKind {
     Ip,
     /// The bytes after the number of a type.
     Payload,
+    /// The encoding of a list, as it is.
+    Encoding,
 }
 
 /// What is shown as one text.

@@ -2,22 +2,26 @@
 //! blobs.
 
 ghost use Rattle.std.specs.Prelude.{◌≡◌, IfOk};
-ghost use Rattle.rlp_transactions.specs.{AccessListTransaction.{access_list_item, access_list_transaction_fields}, Blob.blob, BlobTransaction.{blob_transaction_fields, signed_blob_transaction}};
-ghost use Rattle.rlp_transactions.specs.{BlobWrapper.{pooled_blob_transaction, with_cell_proofs, with_proofs}, FeeMarketTransaction.fee_market_transaction_fields};
-ghost use Rattle.rlp_transactions.specs.{LegacyTransaction.{legacy_transaction_fields, signed_legacy_transaction, unsigned_legacy_transaction}, PooledTransaction.pooled_transaction, Recipient.recipient};
+ghost use Rattle.rlp_transactions.specs.{AccessListTransaction.{access_list_item, access_list_transaction_fields}, BlobTransaction.{blob_transaction_fields, signed_blob_transaction}};
+ghost use Rattle.rlp_transactions.specs.FeeMarketTransaction.{fee_market_transaction_fields};
+ghost use Rattle.rlp_transactions.specs.{LegacyTransaction.{legacy_transaction_fields, signed_legacy_transaction, unsigned_legacy_transaction}, Recipient.recipient};
 ghost use Rattle.rlp_transactions.specs.{SetCodeTransaction.{authorization_fields, set_code_transaction_fields, signed_authorization}, Transaction.{any_transaction, transaction}, UnsignedTransaction.unsigned_transaction};
+ghost use Rattle.rlp_pooled.specs.{Blob.blob, BlobWrapper.{pooled_blob_transaction, with_cell_proofs, with_proofs}, PooledTransaction.pooled_transaction};
 ghost use Rattle.rlp_show.specs.{Display.{bytes_as, seen_as}, declared.sink.BytesKind.TheVariants.Sparse};
 ghost use Rattle.rlp_show.specs.Transactions as shown;
 
 use crate::records::hash_of;
 use crate::show::{ByForm, Items, Show, ShowFields, fields, give_fields, show_fields};
 use crate::sink::{BytesKind, NumberKind, Shown, Sink, bytes, number};
+use rlp_pooled::{
+    Blob, BlobTransactionWithCellProofs, BlobTransactionWithProofs, PooledBlobTransaction,
+    PooledTransaction,
+};
 use rlp_records::{Hash, keccak256};
 use rlp_transactions::{
-    AccessListItem, AccessListTransaction, AnyTransaction, Authorization, Blob, BlobTransaction,
-    BlobTransactionWithCellProofs, BlobTransactionWithProofs, Eip155, FeeMarketTransaction,
-    LegacyTransaction, PooledBlobTransaction, PooledTransaction, Recipient, SetCodeTransaction,
-    Signed, SignedAuthorization, SignedLegacyTransaction, Tagged, Transaction, TypedTransaction,
+    AccessListItem, AccessListTransaction, AnyTransaction, Authorization, BlobTransaction, Eip155,
+    FeeMarketTransaction, LegacyTransaction, Recipient, SetCodeTransaction, Signed,
+    SignedAuthorization, SignedLegacyTransaction, Tagged, Transaction, TypedTransaction,
     UnsignedLegacyTransaction, UnsignedTransaction, signing_hash,
 };
 use std::alloc::{AllocError, Global};
@@ -146,9 +150,9 @@ impl Show for SignedAuthorization {
     fn show<S: Sink>(&self, alloc: Global, name: &str, sink: &mut S) -> Result<(), AllocError> {
         let hash = signing_hash_of(alloc, &self.payload)?;
         show_fields!(alloc, name, sink;
-            &self.payload; "y_parity" number(u64::from(self.v));
-            "r" Shown::Number(NumberKind::Quantity, self.r.number);
-            "s" Shown::Number(NumberKind::Quantity, self.s.number); "signing_hash" &hash
+            &self.payload; "y_parity" number(u64::from(self.y_parity));
+            "r" Shown::Number(NumberKind::Quantity, self.r);
+            "s" Shown::Number(NumberKind::Quantity, self.s); "signing_hash" &hash
         )
     }
 }

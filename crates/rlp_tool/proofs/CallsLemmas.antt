@@ -1,9 +1,8 @@
 -- Calls of a stream, one after another.
 use Rattle.std.proofs.Common.{◌≡◌, ℕ, zero, suc, ◌+◌, ◌^◌, ◌<◌, Bool, true, false, cond, List, [], ◌∷◌, ◌++◌, length, map, Option, Some, None, Result}
-use Rattle.std.proofs.Common.{Ok, Err, IfErr, OnOk, IsTrue, All, Vec, refl, sym, ap, ◌∙◌, nat_le, arith, subst, ◌-◌, ◌≤◌, replicate, append_assoc}
+use Rattle.std.proofs.Common.{Ok, Err, IfErr, OnOk, OnErr, IsTrue, All, Vec, refl, sym, ap, ◌∙◌, nat_le, arith, subst, ◌-◌, ◌≤◌, replicate, append_assoc}
 use Rattle.std.proofs.{Common.{append-nil, length-append}, lemmas.Bool.cond-true, lemmas.List.{replicate-append-replicate, length-replicate}}
 use Rattle.std.specs.declared.alloc.Global.{Global}
-use Rattle.rlp.proofs.Streams.Descriptions.{steps_anyhow}
 use Rattle.rlp.specs.{Format.Encoding.{Item, list_of, join, IsSized}, Streams.Stream.{begin_list, effect, is_admitted, after, unbounded_count, finalize_unbounded_list, finalized}}
 use Rattle.rlp.specs.Streams.Stream.{OpenList, empty_stack, has_room, awaited, State, initial_state, IsFinished, after_from, Call, append_raw}
 use Rattle.rlp.specs.{Streams.Described.{Step, brings, opens, finishes, clears, DescribesWhere, by_append, by_raw, by_empty_list, by_list, joined_list, joined_stack}}
@@ -11,7 +10,8 @@ use Rattle.rlp.specs.Streams.Described.{by_unbounded_list, by_finalize, by_clear
 use Rattle.rlp_tool.specs.{declared.building.Built.Built, declared.building.Built.TheVariants.{Finished, Open}, declared.building.BuildFault.{BuildFault}}
 use Rattle.rlp_tool.specs.{declared.building.BuildFault.TheVariants.{TooManyItems, NothingToFinish, RawNotItems, OutOfMemory}, declared.calls.StreamCall.{StreamCall}}
 use Rattle.rlp_tool.specs.{declared.calls.StreamCall.TheVariants.{Value, Values, Raw, Begin, BeginUnbounded, Finish, Clear}, RawItems.{AreRawItems, IsShallow}, StreamCalls.call_of}
-use Rattle.rlp_tool.specs.Building.{AreRefused, AreTaken, BringsItems, IsBuilt, IsJoined, IsRefusal, AreJoined, IsFinishedAs, IsSomeStep}
+use Rattle.rlp_tool.specs.Building.{AreRefused, AreTaken, BringsItems, IsBuilt, IsJoined, IsRefusal, IsRefusalWhere, AreJoined, IsFinishedAs, IsSomeStep, WantsMemory}
+use Rattle.rlp_tool.specs.{Building.takes_memory, Making.WantsMemoryInScript}
 use Rattle.rlp_tool.specs.{Making.{AreMade, IsHeld, Fails, Goes, IsStopped, IsTaken, MakesScript, MakesSome, NoneIsNext, StopsScript}, Script.{IsUnread, prepend, script}}
 use Rattle.rlp_tool.proofs.CutLemmas.{prepend-append, prepend-nil}
 
@@ -143,6 +143,10 @@ LeavesSteps front calls steps =
 abbrev pub Leaves : List ℕ → List Call → List Item → Type 0
 Leaves front calls items = (last : State) × (after front calls ≡ Ok last) × (last.front ≡ front) × (last.stack ≡ record { inner = join items; lists = [] })
 
+-- calls that are described if no raw item is too deep are described, as in the law
+abbrev pub Unrestricted : List ℕ → List Call → Type 0
+Unrestricted front calls = (steps : List Step) → AreDescribedWhere IsShallow (initial_state front) calls steps → AreDescribed (initial_state front) calls steps
+
 pub same_last : (r : Result State ℕ) (s t : State) → r ≡ Ok s → r ≡ Ok t → s ≡ t
 same_last r s t e f = cc
 
@@ -169,14 +173,14 @@ no_lists (l ∷ ls) e = absurd (let no : ⊥ = cc in no)
 
 -- the finished bytes are the join of the described items
 pub are_joined : (front : List ℕ) (calls : List Call) (s : State) (bytes : List ℕ) (taken : AreTaken front calls)
-    → (AreDescribed (initial_state front) calls taken.steps → LeavesSteps front calls taken.steps) → after front calls ≡ Ok s → IsFinished s
-    → bytes ≡ front ++ s.stack.inner
+    → Unrestricted front calls → (AreDescribed (initial_state front) calls taken.steps → LeavesSteps front calls taken.steps) → after front calls ≡ Ok s
+    → IsFinished s → bytes ≡ front ++ s.stack.inner
     → AreJoined front calls bytes
-are_joined front calls s bytes taken law made closed is = grind (arith, steps_anyhow, same_last, no_lists)
+are_joined front calls s bytes taken any law made closed is = grind (arith, any, same_last, no_lists)
 
 -- all calls were made, and what the stream holds is their result
 module _ (front : List ℕ) (calls : List Call) (s : State) (made : AreMade (initial_state front) calls s)
-    (law : (steps : List Step) → AreDescribed (initial_state front) calls steps → LeavesSteps front calls steps) where
+    (any : Unrestricted front calls) (law : (steps : List Step) → AreDescribed (initial_state front) calls steps → LeavesSteps front calls steps) where
   abbrev run : (steps : List Step) × AreDescribedWhere IsShallow (initial_state front) calls steps × (after front calls ≡ Ok s)
   run = made_steps 1 (initial_state front) calls s made
 
@@ -185,7 +189,7 @@ module _ (front : List ℕ) (calls : List Call) (s : State) (made : AreMade (ini
 
   same_front : s.front ≡ front
   same_front =
-      let (last, admitted, same, stack) = law run.0 (steps_anyhow IsShallow front calls run.0 run.1) in
+      let (last, admitted, same, stack) = law run.0 (any run.0 run.1) in
       ap (λ (u : State). u.front) (same_last (after front calls) s last run.2 admitted) ∙ same
 
   held_buffer : (bytes : List ℕ) → bytes ≡ s.front ++ s.stack.inner → bytes ≡ front ++ s.stack.inner
@@ -196,18 +200,40 @@ module _ (front : List ℕ) (calls : List Call) (s : State) (made : AreMade (ini
   built (Open size raw) (unfinished, closed, text) = record { last = s; admitted = run.2; unfinished = unfinished; closed = closed; text = text }
 
   pub joined_built : (b : Built) → IsHeld s b → IsJoined front calls b
-  joined_built (Finished bytes) (closed, is) = are_joined front calls s bytes.items all_taken (law run.0) run.2 closed (held_buffer bytes.items is)
+  joined_built (Finished bytes) (closed, is) = are_joined front calls s bytes.items all_taken any (law run.0) run.2 closed (held_buffer bytes.items is)
   joined_built (Open size raw) is = tt
 
 -- ---- through a result
 
-pub memory_refused : {T : Type 0} (front : List ℕ) (calls : List Call) (r : Result T BuildFault) → IfErr r (λ fault. fault ≡ OutOfMemory)
-    → IfErr r (IsRefusal front calls)
-memory_refused front calls r e = grind arith
-
 pub OnOk-all : {T E P : Type 0} (r : Result T E) → P → OnOk r P
 OnOk-all (Ok x) p = p
 OnOk-all (Err e) p = tt
+
+-- ---- memory that is refused in a script
+
+-- a call that lacks memory in a list of values may lack it in a script
+fails_in_script : (c : Call) (s : State) (place : ℕ) (fault : BuildFault) → Fails WantsMemory c s place fault → Fails WantsMemoryInScript c s place fault
+fails_in_script c s place (TooManyItems there) e = e
+fails_in_script c s place (NothingToFinish there) e = e
+fails_in_script c s place (RawNotItems there) e = e
+fails_in_script c s place OutOfMemory e = (e.0, e.2)
+
+pub refused_in_script : {T : Type 0} (c : Call) (s : State) (place : ℕ) (r : Result T BuildFault) → IfErr r (Fails WantsMemory c s place)
+    → IfErr r (Fails WantsMemoryInScript c s place)
+refused_in_script c s place (Ok x) e = tt
+refused_in_script c s place (Err fault) e = fails_in_script c s place fault e
+
+pub stopped_in_script : {s : State} {calls : List Call} {place : ℕ} {fault : BuildFault} → IsStopped WantsMemory s calls place fault
+    → IsStopped WantsMemoryInScript s calls place fault
+stopped_in_script {place = place} {fault} r = record {
+  before = r.before;
+  call = r.call;
+  later = r.later;
+  in_order = r.in_order;
+  met = r.met;
+  made = r.made;
+  fails = fails_in_script r.call r.met (place + length r.before) fault r.fails;
+}
 
 -- ---- calls that are made one after another
 
@@ -234,7 +260,7 @@ made_finishes in_turn made n s t u many is so_far =
 
 -- one of them fails
 pub finish_fails : (made count place : ℕ) (s t : State) (fault : BuildFault) → made < count → AreMade s (replicate made finalize_unbounded_list) t
-    → Fails finalize_unbounded_list t (place + made) fault → IsStopped s (replicate count finalize_unbounded_list) place fault
+    → Fails WantsMemory finalize_unbounded_list t (place + made) fault → IsStopped WantsMemory s (replicate count finalize_unbounded_list) place fault
 finish_fails made count place s t fault some so_far why =
     let f = finalize_unbounded_list in
     let number : made + suc (count - made - 1) ≡ count = omega (arith, some) in
@@ -245,29 +271,30 @@ finish_fails made count place s t fault some so_far why =
       in_order = sym (replicate-append-replicate made (suc (count - made - 1)) f ∙ ap (λ n. replicate n f) number);
       met = t;
       made = so_far;
-      fails = subst (λ n. Fails f t (place + n) fault) (sym (length-replicate made f)) why;
+      fails = subst (λ n. Fails WantsMemory f t (place + n) fault) (sym (length-replicate made f)) why;
     }
 
 -- ---- the next calls of a source
 
 -- there is none
-pub makes_none : {T : Type 0} (end : T) (left : Result (List Call) ℕ) (place : ℕ) (s : State) → MakesSome left left place place s s (Ok end)
-makes_none end left place s = record { made = []; parts = sym (prepend-nil left); counted = omega arith; goes = refl }
+pub makes_none : {T : Type 0} (lacks : Call → State → Type 0) (end : T) (left : Result (List Call) ℕ) (place : ℕ) (s : State)
+    → MakesSome lacks left left place place s s (Ok end)
+makes_none lacks end left place s = record { made = []; parts = sym (prepend-nil left); counted = omega arith; goes = refl }
 
 -- calls `Finish`
-pub makes_finishes : {T : Type 0} (old new : Result (List Call) ℕ) (place count : ℕ) (s t : State) (r : Result T BuildFault)
-    → old ≡ prepend (replicate count finalize_unbounded_list) new → Goes s (replicate count finalize_unbounded_list) place t r
-    → MakesSome old new place (place + count) s t r
-makes_finishes old new place count s t r parts goes = grind (arith, length-replicate)
+pub makes_finishes : {T : Type 0} (lacks : Call → State → Type 0) (old new : Result (List Call) ℕ) (place count : ℕ) (s t : State) (r : Result T BuildFault)
+    → old ≡ prepend (replicate count finalize_unbounded_list) new → Goes lacks s (replicate count finalize_unbounded_list) place t r
+    → MakesSome lacks old new place (place + count) s t r
+makes_finishes lacks old new place count s t r parts goes = grind (arith, length-replicate)
 
 -- another call
-pub makes_one : {T : Type 0} (end : T) (c : Call) (old new : Result (List Call) ℕ) (place : ℕ) (s t : State) → old ≡ prepend (c ∷ []) new
-    → IsTaken c s t → MakesSome old new place (place + 1) s t (Ok end)
-makes_one end c old new place s t parts taken = record { made = c ∷ []; parts = parts; counted = refl; goes = taken }
+pub makes_one : {T : Type 0} (lacks : Call → State → Type 0) (end : T) (c : Call) (old new : Result (List Call) ℕ) (place : ℕ) (s t : State) → old ≡ prepend (c ∷ []) new
+    → IsTaken c s t → MakesSome lacks old new place (place + 1) s t (Ok end)
+makes_one lacks end c old new place s t parts taken = record { made = c ∷ []; parts = parts; counted = refl; goes = taken }
 
-pub fails_at : (T : Type 0) (c : Call) (old new : Result (List Call) ℕ) (place : ℕ) (s t : State) (fault : BuildFault) → old ≡ prepend (c ∷ []) new
-    → Fails c s place fault → MakesSome {T = T} old new place (place + 1) s t (Err fault)
-fails_at T c old new place s t fault parts why = record {
+pub fails_at : (T : Type 0) (lacks : Call → State → Type 0) (c : Call) (old new : Result (List Call) ℕ) (place : ℕ) (s t : State) (fault : BuildFault) → old ≡ prepend (c ∷ []) new
+    → Fails lacks c s place fault → MakesSome {T = T} lacks old new place (place + 1) s t (Err fault)
+fails_at T lacks c old new place s t fault parts why = record {
   made = c ∷ [];
   parts = parts;
   counted = refl;
@@ -278,7 +305,7 @@ fails_at T c old new place s t fault parts why = record {
     in_order = refl;
     met = s;
     made = refl;
-    fails = subst (λ n. Fails c s n fault) (let same : place ≡ place + 0 = omega arith in same) why;
+    fails = subst (λ n. Fails lacks c s n fault) (let same : place ≡ place + 0 = omega arith in same) why;
   };
 }
 
@@ -294,16 +321,16 @@ skip_none old left count e f = grind (arith, prepend-nil)
 -- ---- all calls
 
 -- some calls are made, and then more
-pub makes_more : {U : Type 0} {end : U} {old new newer : Result (List Call) ℕ} {place next last : ℕ} {s t u : State}
-    → MakesSome {T = Unit {0}} old new place next s t (Ok tt) → MakesSome new newer next last t u (Ok end)
-    → MakesSome {T = Unit {0}} old newer place last s u (Ok tt)
+pub makes_more : {U : Type 0} {lacks : Call → State → Type 0} {end : U} {old new newer : Result (List Call) ℕ} {place next last : ℕ} {s t u : State}
+    → MakesSome {T = Unit {0}} lacks old new place next s t (Ok tt) → MakesSome lacks new newer next last t u (Ok end)
+    → MakesSome {T = Unit {0}} lacks old newer place last s u (Ok tt)
 makes_more {newer = newer} {s = s} {t = t} {u = u} m n = grind (arith, prepend-append, length-append, made-append)
 
 -- and then one fails
-pub fails_more : {U : Type 0} {old new newer : Result (List Call) ℕ} {place next last : ℕ} {s t u : State} {fault : BuildFault}
-    → MakesSome {T = Unit {0}} old new place next s t (Ok tt) → MakesSome {T = U} new newer next last t u (Err fault)
-    → MakesSome {T = Unit {0}} old newer place last s u (Err fault)
-fails_more {newer = newer} {place} {next} {s = s} {t = t} {fault = fault} m n =
+pub fails_more : {U : Type 0} {lacks : Call → State → Type 0} {old new newer : Result (List Call) ℕ} {place next last : ℕ} {s t u : State} {fault : BuildFault}
+    → MakesSome {T = Unit {0}} lacks old new place next s t (Ok tt) → MakesSome {T = U} lacks new newer next last t u (Err fault)
+    → MakesSome {T = Unit {0}} lacks old newer place last s u (Err fault)
+fails_more {lacks = lacks} {newer = newer} {place} {next} {s = s} {t = t} {fault = fault} m n =
     let r = n.goes in
     let same : next + length r.before ≡ place + length (m.made ++ r.before) = omega (arith, m.counted, length-append m.made r.before) in
     record {
@@ -317,13 +344,13 @@ fails_more {newer = newer} {place} {next} {s = s} {t = t} {fault = fault} m n =
         in_order = ap (λ cs. m.made ++ cs) r.in_order ∙ sym (append_assoc m.made r.before (r.call ∷ r.later));
         met = r.met;
         made = made-append s m.made r.before t r.met m.goes r.made;
-        fails = subst (λ k. Fails r.call r.met k fault) same r.fails;
+        fails = subst (λ k. Fails lacks r.call r.met k fault) same r.fails;
       };
     }
 
 -- a call that fails is the first that does, whatever calls follow
-refused_for : {reason : Call → State → Type 0} {fault : BuildFault} (front : List ℕ) (calls later : List Call) (place : ℕ)
-    (r : IsStopped (initial_state front) calls 1 fault) → place ≡ 1 + length r.before → reason r.call r.met → AreRefused reason front (calls ++ later) place
+refused_for : {lacks reason : Call → State → Type 0} {fault : BuildFault} (front : List ℕ) (calls later : List Call) (place : ℕ)
+    (r : IsStopped lacks (initial_state front) calls 1 fault) → place ≡ 1 + length r.before → reason r.call r.met → AreRefused reason front (calls ++ later) place
 refused_for front calls later place r at why =
     let (steps, described, admitted) = made_steps 1 (initial_state front) r.before r.met r.made in
     record {
@@ -338,31 +365,75 @@ refused_for front calls later place r at why =
       refused = why;
     }
 
-pub refused : (front : List ℕ) (calls later : List Call) (fault : BuildFault) → IsStopped (initial_state front) calls 1 fault
-    → IsRefusal front (calls ++ later) fault
+pub refused : {lacks : Call → State → Type 0} (front : List ℕ) (calls later : List Call) (fault : BuildFault)
+    → IsStopped lacks (initial_state front) calls 1 fault → IsRefusalWhere lacks front (calls ++ later) fault
 refused front calls later (TooManyItems place) r = refused_for front calls later place r r.fails.0 r.fails.1
 refused front calls later (NothingToFinish place) r = refused_for front calls later place r r.fails.0 r.fails.1
 refused front calls later (RawNotItems place) r = refused_for front calls later place r r.fails.0 r.fails.1
-refused front calls later OutOfMemory r = tt
+refused front calls later OutOfMemory r = (1 + length r.before, refused_for front calls later (1 + length r.before) r refl r.fails)
+
+-- ---- memory for the bytes of a list that is open at the end
+
+-- a call for which memory isn't refused leaves no list open
+clears_all : (c : Call) (s : State) → takes_memory c ≡ false → IsFinished (effect c s)
+clears_all c s none = grind arith
+
+-- if a list is open at the end, and none was at the beginning, memory may have been refused for one of the calls
+stopped_open : (place : ℕ) (s : State) (calls : List Call) (t : State) → AreMade s calls t → IsFinished s → ¬ IsFinished t
+    → IsStopped WantsMemory s calls place OutOfMemory
+stopped_open place s [] t made none unfinished = absurd (unfinished (ap (λ (u : State). u.stack.lists) made ∙ none))
+stopped_open place s (c ∷ calls) t (admitted, step, made) none unfinished =
+    elim (takes_memory c) as (λ test. takes_memory c ≡ test → IsStopped WantsMemory s (c ∷ calls) place OutOfMemory) [
+      | true ↦ λ takes. record {
+        before = [];
+        call = c;
+        later = calls;
+        in_order = refl;
+        met = s;
+        made = refl;
+        fails = (admitted, step_brings c step.0 s step.1, takes);
+      }
+      | false ↦ λ free.
+          let r = stopped_open place (effect c s) calls t made (clears_all c s free) unfinished in
+          record {
+            before = c ∷ r.before;
+            call = r.call;
+            later = r.later;
+            in_order = ap (λ (cs : List Call). c ∷ cs) r.in_order;
+            met = r.met;
+            made = (admitted, step, r.made);
+            fails = r.fails;
+          }
+    ] refl
+
+-- all calls were made, and memory was refused for the bytes of a list that is open
+pub refused_open : {T : Type 0} (front : List ℕ) (calls : List Call) (s : State) (r : Result T BuildFault) → AreMade (initial_state front) calls s
+    → IfErr r (λ fault. fault ≡ OutOfMemory) → OnErr r (¬ IsFinished s) → IfErr r (IsRefusal front calls)
+refused_open front calls s (Ok x) made is unfinished = tt
+refused_open front calls s (Err fault) made is unfinished =
+    let stopped = stopped_open 1 (initial_state front) calls s made refl unfinished in
+    subst (IsRefusal front calls) (sym is)
+    (subst (λ (cs : List Call). IsRefusal front cs OutOfMemory) (append-nil calls) (refused front calls [] OutOfMemory stopped))
 
 same_calls : (calls others : List Call) → ◌≡◌ {A = Result (List Call) ℕ} (Ok calls) (Ok others) → calls ≡ others
 same_calls calls others e = cc
 
 -- all calls that are values are made, or one of them fails
-pub all_made : (all : List Call) (left : Result (List Call) ℕ) (place next : ℕ) (s t : State)
-    → MakesSome {T = Unit {0}} (Ok all) left place next s t (Ok tt) → NoneIsNext left → AreMade s all t
-all_made all (Ok others) place next s t m ended = grind (arith, same_calls, append-nil)
-all_made all (Err at) place next s t m ended = absurd (let parts = m.parts in let no : ⊥ = cc in no)
+pub all_made : (lacks : Call → State → Type 0) (all : List Call) (left : Result (List Call) ℕ) (place next : ℕ) (s t : State)
+    → MakesSome {T = Unit {0}} lacks (Ok all) left place next s t (Ok tt) → NoneIsNext left → AreMade s all t
+all_made lacks all (Ok others) place next s t m ended = grind (arith, same_calls, append-nil)
+all_made lacks all (Err at) place next s t m ended = absurd (let parts = m.parts in let no : ⊥ = cc in no)
 
-pub one_fails : (front : List ℕ) (all : List Call) (left : Result (List Call) ℕ) (next : ℕ) (t : State) (fault : BuildFault)
-    → MakesSome {T = Unit {0}} (Ok all) left 1 next (initial_state front) t (Err fault) → IsRefusal front all fault
-one_fails front all (Ok others) next t fault m = grind (arith, same_calls, refused)
+pub one_fails : {lacks : Call → State → Type 0} (front : List ℕ) (all : List Call) (left : Result (List Call) ℕ) (next : ℕ) (t : State) (fault : BuildFault)
+    → MakesSome {T = Unit {0}} lacks (Ok all) left 1 next (initial_state front) t (Err fault) → IsRefusalWhere lacks front all fault
+one_fails {lacks} front all (Ok others) next t fault m =
+    subst (λ (cs : List Call). IsRefusalWhere lacks front cs fault) (sym (same_calls all (m.made ++ others) m.parts)) (refused front m.made others fault m.goes)
 one_fails front all (Err at) next t fault m = absurd (let parts = m.parts in let no : ⊥ = cc in no)
 
 -- ---- the calls of a script
 
 module _ (text : List ℕ) (old left : Result (List Call) ℕ) (place : ℕ) (t : State) (r : Result (Unit {0}) BuildFault) (whole : script text ≡ old)
-    (m : MakesSome old left 1 place (initial_state []) t r) where
+    (m : MakesSome WantsMemoryInScript old left 1 place (initial_state []) t r) where
   -- a piece isn't a call
   pub script_unread : (there : ℕ) → IsUnread place left (Some there) → script text ≡ Err there
   script_unread there (calls, is, at) = grind arith

@@ -1,6 +1,6 @@
 -- The result of calls over a front.
-use Rattle.std.specs.Prelude.{ℕ, suc, ◌≡◌, Bool, true, false, IsTrue, List, ◌∷◌, ◌++◌, length, Ok}
-use Rattle.rlp.specs.{Format.Encoding.{Item, join}, Streams.Stream.{Call, append_raw, append_raw_checked, finalize_unbounded_list, is_admitted, after}}
+use Rattle.std.specs.Prelude.{ℕ, suc, ◌≡◌, ◌<◌, ◌⊎◌, Bool, true, false, IsTrue, List, ◌∷◌, ◌++◌, length, Ok}
+use Rattle.rlp.specs.{Format.Encoding.{Item, join}, Streams.Stream.{Call, append_raw, append_raw_checked, clear, finalize_unbounded_list, is_admitted, after}}
 use Rattle.rlp.specs.Streams.Stream.{State, initial_state, IsFinished, closed_size, raw_text}
 use Rattle.rlp.specs.Streams.Described.{Step, DescribesWhere, AreDescribedWhere, IsDescribed, IsDescribedWhere, FinishAs}
 use Rattle.rlp_tool.specs.{declared.building.Built.Built, declared.building.Built.TheVariants.{Finished, Open}, declared.building.BuildFault.{BuildFault}}
@@ -63,17 +63,34 @@ HasNothingToFinish call s = (is_admitted call s ≡ false) × IsTrue (is_finish 
 abbrev pub BringsNoItems : Call → State → Type 0
 BringsNoItems call s = IsTrue (is_admitted call s) × (¬ BringsItems call)
 
+-- whether memory may be refused for a call: for each call but `clear`
+abbrev pub takes_memory : Call → Bool
+takes_memory clear = false
+takes_memory _ = true
+
+-- memory may be refused for a call: it passes its test, and it isn't `clear`
+abbrev pub WantsMemory : Call → State → Type 0
+WantsMemory call s = IsTrue (is_admitted call s) × BringsItems call × IsTrue (takes_memory call)
+
 -- the result of the calls over the front, if none fails
 abbrev pub IsBuilt : List ℕ → List Call → Built → Type 0
 IsBuilt front calls (Finished bytes) = FinishAs front calls bytes.items
 IsBuilt front calls (Open size raw) = StayOpen front calls size raw.items
 
--- why calls fail: one call fails its test, or memory was refused
+-- why calls fail: one call fails its test, or memory was refused for a call of which `lacks` holds; no call before it fails
+abbrev pub IsRefusalWhere : (Call → State → Type 0) → List ℕ → List Call → BuildFault → Type 0
+IsRefusalWhere lacks front calls (TooManyItems place) = AreRefused BringsTooMany front calls place
+IsRefusalWhere lacks front calls (NothingToFinish place) = AreRefused HasNothingToFinish front calls place
+IsRefusalWhere lacks front calls (RawNotItems place) = AreRefused BringsNoItems front calls place
+IsRefusalWhere lacks front calls OutOfMemory = (place : ℕ) × AreRefused lacks front calls place
+
+-- why calls fail: one call fails its test, or passes it and memory was refused; no call before it fails
 abbrev pub IsRefusal : List ℕ → List Call → BuildFault → Type 0
-IsRefusal front calls (TooManyItems place) = AreRefused BringsTooMany front calls place
-IsRefusal front calls (NothingToFinish place) = AreRefused HasNothingToFinish front calls place
-IsRefusal front calls (RawNotItems place) = AreRefused BringsNoItems front calls place
-IsRefusal front calls OutOfMemory = Unit
+IsRefusal front calls fault = IsRefusalWhere WantsMemory front calls fault
+
+-- why calls over a copy of the front fail: as `IsRefusal` says, or memory was refused for the copy, which has bytes
+abbrev pub IsRefusalOnCopy : List ℕ → List Call → BuildFault → Type 0
+IsRefusalOnCopy front calls fault = IsRefusal front calls fault ⊎ ((fault ≡ OutOfMemory) × (0 < length front))
 
 -- all calls over the front are admitted and leave a list open
 abbrev pub LeaveOpen : List ℕ → List Call → Type 0

@@ -4,14 +4,18 @@ use Rattle.rlp.specs.Streams.Stream.{State, initial_state, IsFinished, closed_si
 use Rattle.rlp_tool.specs.{declared.building.Built.Built, declared.building.Built.TheVariants.{Finished, Open}, declared.building.BuildFault.{BuildFault}}
 use Rattle.rlp_tool.specs.declared.building.BuildFault.TheVariants.{TooManyItems, NothingToFinish, RawNotItems, OutOfMemory}
 use Rattle.rlp_tool.specs.{declared.making.LineFault.LineFault, declared.making.LineFault.TheVariants.{Syntax, Failed}, Script.{prepend, script}}
-use Rattle.rlp_tool.specs.Building.{BringsTooMany, BringsNoItems, HasNothingToFinish, IsRefusal, IsSomeStep}
+use Rattle.rlp_tool.specs.Building.{BringsTooMany, BringsNoItems, HasNothingToFinish, IsRefusalWhere, IsSomeStep, takes_memory}
 
--- why a call fails, in this state and this place
-abbrev pub Fails : Call → State → ℕ → BuildFault → Type 0
-Fails call s place (TooManyItems there) = (there ≡ place) × BringsTooMany call s
-Fails call s place (NothingToFinish there) = (there ≡ place) × HasNothingToFinish call s
-Fails call s place (RawNotItems there) = (there ≡ place) × BringsNoItems call s
-Fails call s place OutOfMemory = Unit
+-- why a call fails, in this state and this place; memory is refused only for a call of which `lacks` holds
+abbrev pub Fails : (Call → State → Type 0) → Call → State → ℕ → BuildFault → Type 0
+Fails lacks call s place (TooManyItems there) = (there ≡ place) × BringsTooMany call s
+Fails lacks call s place (NothingToFinish there) = (there ≡ place) × HasNothingToFinish call s
+Fails lacks call s place (RawNotItems there) = (there ≡ place) × BringsNoItems call s
+Fails lacks call s place OutOfMemory = lacks call s
+
+-- memory may be refused for a call of a script: the call is admitted, and isn't `clear`. Raw bytes are tested only once they are decoded, which takes memory.
+abbrev pub WantsMemoryInScript : Call → State → Type 0
+WantsMemoryInScript call s = IsTrue (is_admitted call s) × IsTrue (takes_memory call)
 
 -- a call passes its test, and leads from one state to the other
 abbrev pub IsTaken : Call → State → State → Type 0
@@ -23,26 +27,27 @@ AreMade s [] t = t ≡ s
 AreMade s (call ∷ calls) t = IsTrue (is_admitted call s) × IsSomeStep call s × AreMade (effect call s) calls t
 
 -- one of the calls fails after those before it are made; `place` is the place of the first
-pub record IsStopped (s : State) (calls : List Call) (place : ℕ) (fault : BuildFault) : Type 0 where
+pub record IsStopped (lacks : Call → State → Type 0) (s : State) (calls : List Call) (place : ℕ) (fault : BuildFault) : Type 0 where
   pub before : List Call
   pub call : Call
   pub later : List Call
   pub in_order : calls ≡ before ++ call ∷ later
   pub met : State
   pub made : AreMade s before met
-  pub fails : Fails call met (place + length before) fault
+  pub fails : Fails lacks call met (place + length before) fault
 
 -- the calls are made, or one of them fails
-abbrev pub Goes : {T : Type 0} → State → List Call → ℕ → State → Result T BuildFault → Type 0
-Goes s calls place t (Ok end) = AreMade s calls t
-Goes s calls place t (Err fault) = IsStopped s calls place fault
+abbrev pub Goes : {T : Type 0} → (Call → State → Type 0) → State → List Call → ℕ → State → Result T BuildFault → Type 0
+Goes lacks s calls place t (Ok end) = AreMade s calls t
+Goes lacks s calls place t (Err fault) = IsStopped lacks s calls place fault
 
 -- Some of the calls that are left are made, up to the first call that fails. `place` and `next` are the places of the next call before and after.
-pub record MakesSome {T : Type 0} (old new : Result (List Call) ℕ) (place next : ℕ) (s t : State) (result : Result T BuildFault) : Type 0 where
+pub record MakesSome {T : Type 0} (lacks : Call → State → Type 0) (old new : Result (List Call) ℕ) (place next : ℕ) (s t : State) (result : Result T BuildFault)
+    : Type 0 where
   pub made : List Call
   pub parts : old ≡ prepend made new
   pub counted : next ≡ place + length made
-  pub goes : Goes s made place t result
+  pub goes : Goes lacks s made place t result
 
 -- no call comes next: no call is left, or the next piece isn't a call
 abbrev pub NoneIsNext : Result (List Call) ℕ → Type 0
@@ -64,7 +69,7 @@ pub record MakesScript (text : List ℕ) (last : State) : Type 0 where
 pub record StopsScript (text : List ℕ) (fault : BuildFault) : Type 0 where
   pub calls : List Call
   pub says : script text ≡ Ok calls
-  pub stops : IsRefusal [] calls fault
+  pub stops : IsRefusalWhere WantsMemoryInScript [] calls fault
 
 -- why a script has no result: a piece isn't a call, or a call fails
 abbrev pub IsLineFault : List ℕ → LineFault → Type 0

@@ -1,8 +1,8 @@
 //! Whether two lists of calls finish as the same bytes.
 
-ghost use Rattle.std.specs.Prelude.{◌≡◌, ◌↔◌, ◌⊎◌, List, IfOk, IfErr, IfSome, IsNone, IsSome, IsSomeAnd, IsTrue, OnOk};
+ghost use Rattle.std.specs.Prelude.{◌≡◌, ◌↔◌, ◌⊎◌, List, IfOk, IfErr, IfSome, IsNone, IsSome, IsSomeAnd, IsTrue, OnOk, OnErr, ◌<◌, length};
 ghost use Rattle.rlp.specs.{Format.Encoding.Item, Streams.Described.{IsDescribed, FinishAs}};
-ghost use Rattle.rlp_tool.specs.{Building.{AreJoined, AreTaken, DescribeItems, IsRefusal, LeaveOpen}, StreamCalls.calls_of};
+ghost use Rattle.rlp_tool.specs.{Building.{AreJoined, AreTaken, DescribeItems, IsRefusal, IsRefusalOnCopy, LeaveOpen}, StreamCalls.calls_of};
 
 use crate::building::{BuildFault, Built, build};
 use crate::calls::StreamCall;
@@ -13,7 +13,8 @@ use std::alloc::{AllocError, Global};
 
 /// Returns a buffer of these bytes.
 fn buffer_of(alloc: Global, bytes: &[u8]) -> Result<BytesMut, AllocError>
-    ensures { IfOk result (λ buffer. buffer.items ≡ bytes.now) }
+    ensures ok { IfOk result (λ buffer. buffer.items ≡ bytes.now) }
+    ensures some { OnErr result (0 < length bytes.now) }
 {
     let mut buffer = BytesMut::new(alloc);
     buffer.extend_from_slice(bytes)?;
@@ -67,7 +68,7 @@ pub fn finished_buffer<E: Encodable>(
     ensures taken { OnOk result (AreTaken front.now (calls_of E.item calls.now)) }
     ensures left_open { IfOk result
         (λ buffer. IsNone buffer ↔ LeaveOpen front.now (calls_of E.item calls.now)) }
-    ensures refused { IfErr result (IsRefusal front.now (calls_of E.item calls.now)) }
+    ensures refused { IfErr result (IsRefusalOnCopy front.now (calls_of E.item calls.now)) }
 {
     match buffer_of(alloc, front) {
         Ok(buffer) => finished_over(alloc, buffer, calls),
@@ -112,9 +113,9 @@ pub fn finish_alike<A: Encodable, B: Encodable>(
 
     // The calls of `other` fail only after the calls of `one` have finished.
     ensures refused { IfErr result
-        (λ fault. IsRefusal front.now (calls_of A.item one.now) fault
+        (λ fault. IsRefusalOnCopy front.now (calls_of A.item one.now) fault
         ⊎ (DescribeItems front.now (calls_of A.item one.now)
-        × IsRefusal front.now (calls_of B.item other.now) fault)) }
+        × IsRefusalOnCopy front.now (calls_of B.item other.now) fault)) }
 {
     let Some(first) = finished_buffer(alloc, front, one)? else {
         return Ok(None);

@@ -5,6 +5,7 @@ ghost use Rattle.rlp_lines.specs.Digits.{bytes_in};
 ghost use Rattle.rlp_tool.specs.{Answer.{answer_within, calls_answer, digits_answer, finished_answer, open_answer, state_answer, view_answer}, Making.AppendsFault, Script.script};
 
 use crate::building::BuildFault;
+use crate::laws::raw_items_pass_the_test;
 use crate::making::{LineFault, make_script};
 use rlp::{Rlp, RlpStream};
 use rlp_lines::{push_bytes, read_bytes, without_carriage_return};
@@ -119,6 +120,7 @@ fn script_answer(alloc: Global, text: &[u8], out: &mut String) -> Result<(), All
     ensures { OnOk result
         (string_bytes out.new ≡ string_bytes out.old ++ calls_answer (script text.now)) }
 {
+    raw_items_pass_the_test();
     match make_script(alloc, text) {
         Ok(stream) => put_result(stream, out),
         Err(fault) => put_script_fault(&fault, out),

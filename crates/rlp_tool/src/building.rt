@@ -1,9 +1,9 @@
 //! Makes calls of a stream over a front.
-ghost use Rattle.std.specs.Prelude.{◌≡◌, ◌++◌, ◌+◌, ◌^◌, ◌<◌, ◌↔◌, List, length, replicate, MatchOption, OnOk, IfOk, IfErr, IsTrue, Ok};
-ghost use Rattle.rlp.specs.{Format.Encoding.{Item, join}, Format.Framing.{IsFramed, frame}, Streams.Stream.{has_room, append_raw, effect, finalize_unbounded_list, is_admitted}};
+ghost use Rattle.std.specs.Prelude.{◌≡◌, ◌++◌, ◌+◌, ◌^◌, ◌<◌, ◌↔◌, List, length, replicate, MatchOption, OnOk, OnErr, IfOk, IfErr, IsTrue, Ok};
+ghost use Rattle.rlp.specs.{Format.Encoding.{Item, join}, Format.Framing.{IsFramed, frame}, Streams.Stream.{has_room, append_raw, effect, finalize_unbounded_list, is_admitted, IsFinished}};
 ghost use Rattle.rlp.specs.Streams.Described.{IsDescribed, IsDescribedWhere};
-ghost use Rattle.rlp_tool.specs.{Building.{AreTaken, IsBuilt, IsRefusal, IsJoined, IsFinishedAs, IsSomeStep}, StreamCalls.{call_of, calls_of}};
-ghost use Rattle.rlp_tool.specs.{Making.{Fails, Goes, IsHeld, IsTaken}, RawItems.{AreRawItems, IsShallow}, declared.building.BuildFault.BuildFault};
+ghost use Rattle.rlp_tool.specs.{Building.{AreTaken, IsBuilt, IsRefusal, IsJoined, IsFinishedAs, IsSomeStep, WantsMemory, takes_memory}, StreamCalls.{call_of, calls_of}};
+ghost use Rattle.rlp_tool.specs.{Making.{Fails, Goes, IsHeld}, RawItems.{AreRawItems, IsShallow}, declared.building.BuildFault.BuildFault};
 
 use crate::calls::{Calls, StreamCall, make_calls};
 use bytes::BytesMut;
@@ -48,7 +48,7 @@ pub enum BuildFault {
 
 /// Whether the innermost list awaits at least `count` items, is unbounded, or no list is open.
 #[tactic(auto, using(crate::proofs::CallsLemmas::room))]
-fn has_room(stream: &RlpStream, count: usize) -> bool
+pub(crate) fn has_room(stream: &RlpStream, count: usize) -> bool
     ensures { result ≡ has_room count stream.now.state.stack.lists }
 {
     match stream.items_awaited() {
@@ -72,7 +72,7 @@ fn first_item<'a>(bytes: &'a [u8]) -> Option<(&'a [u8], &'a [u8])>
 /// Whether raw bytes are the joined canonical encodings of `item_count` items, none deeper than
 /// 256.
 #[tactic(auto, using(crate::proofs::RawLemmas::walked))]
-fn raw_items_are_canonical(bytes: &[u8], item_count: usize) -> bool
+pub(crate) fn raw_items_are_canonical(bytes: &[u8], item_count: usize) -> bool
     ensures { IsTrue result ↔ AreRawItems bytes.now item_count }
 {
     let mut rest = bytes;
@@ -96,7 +96,8 @@ fn raw_items_are_canonical(bytes: &[u8], item_count: usize) -> bool
 fn admit_raw(stream: &RlpStream, bytes: &[u8], count: usize, place: usize) -> Result<(), BuildFault>
     ensures ok { OnOk result (IsTrue (has_room count stream.now.state.stack.lists)) }
     ensures brings { OnOk result (AreRawItems bytes.now count) }
-    ensures refused { IfErr result (Fails (append_raw bytes.now count) stream.now.state place) }
+    ensures refused { IfErr result
+        (Fails WantsMemory (append_raw bytes.now count) stream.now.state place) }
 {
     if !has_room(stream, count) {
         return Err(BuildFault::TooManyItems(place));
@@ -116,7 +117,8 @@ fn admit<E: Encodable>(
 ) -> Result<(), BuildFault>
     ensures ok { OnOk result (IsTrue (is_admitted (call_of E.item call.now) stream.now.state)) }
     ensures brings { OnOk result (IsSomeStep (call_of E.item call.now) stream.now.state) }
-    ensures refused { IfErr result (Fails (call_of E.item call.now) stream.now.state place) }
+    ensures refused { IfErr result
+        (Fails WantsMemory (call_of E.item call.now) stream.now.state place) }
 {
     parts_of_sized_are_sized();
     match call {
@@ -136,8 +138,9 @@ fn admit<E: Encodable>(
 #[inline(always)]
 fn make_call<E: Encodable>(stream: &mut RlpStream, call: &StreamCall<E>) -> Result<(), AllocError>
     requires { IsTrue (is_admitted (call_of E.item call.now) stream.old.state) }
-    ensures { OnOk result
+    ensures ok { OnOk result
         (stream.new.state ≡ effect (call_of E.item call.now) stream.old.state) }
+    ensures refused { OnErr result (IsTrue (takes_memory (call_of E.item call.now))) }
 {
     match call {
         StreamCall::Value(value) => {
@@ -173,30 +176,12 @@ pub(crate) fn take_call<E: Encodable>(
     ensures ok { OnOk result
         (stream.new.state ≡ effect (call_of E.item call.now) stream.old.state) }
     ensures brings { OnOk result (IsSomeStep (call_of E.item call.now) stream.old.state) }
-    ensures refused { IfErr result (Fails (call_of E.item call.now) stream.old.state place) }
+    ensures refused { IfErr result
+        (Fails WantsMemory (call_of E.item call.now) stream.old.state place) }
 {
     admit(stream, call, place)?;
     match make_call(stream, call) {
         Ok(()) => Ok(()),
-        Err(_) => Err(BuildFault::OutOfMemory),
-    }
-}
-
-/// Tests raw bytes and puts them. `place` is the place of the call.
-pub(crate) fn take_raw(
-    stream: &mut RlpStream,
-    bytes: &[u8],
-    count: usize,
-    place: usize,
-) -> Result<(), BuildFault>
-    ensures ok { OnOk result (IsTaken (append_raw bytes.now count) stream.old.state
-        stream.new.state) }
-    ensures refused { IfErr result (Fails (append_raw bytes.now count) stream.old.state place) }
-{
-    parts_of_sized_are_sized();
-    admit_raw(stream, bytes, count, place)?;
-    match stream.append_raw(bytes, count) {
-        Ok(_) => Ok(()),
         Err(_) => Err(BuildFault::OutOfMemory),
     }
 }
@@ -210,7 +195,7 @@ pub(crate) fn take_finishes(
     place: usize,
 ) -> Result<(), BuildFault>
     requires { place + count < 2 ^ 64 }
-    ensures { Goes stream.old.state (replicate count finalize_unbounded_list) place
+    ensures { Goes WantsMemory stream.old.state (replicate count finalize_unbounded_list) place
         stream.new.state result }
 {
     unbounded_lists_are_finalized_in_turn();
@@ -257,6 +242,8 @@ impl<E: Encodable> Calls for Values<'_, E> {
 
     ghost size = { λ s. length s.calls.now };
 
+    ghost lacks = { WantsMemory };
+
     #[inline(always)]
     fn make_next(
         &mut self,
@@ -285,6 +272,7 @@ impl<E: Encodable> Calls for Values<'_, E> {
 fn held(alloc: Global, stream: RlpStream) -> Result<Built, BuildFault>
     ensures ok { IfOk result (IsHeld stream.state) }
     ensures refused { IfErr result (λ fault. fault ≡ BuildFault.OutOfMemory) }
+    ensures unfinished { OnErr result (¬ IsFinished stream.state) }
 {
     if stream.is_finished() {
         return Ok(Built::Finished(stream.out()));
@@ -308,7 +296,8 @@ fn held(alloc: Global, stream: RlpStream) -> Result<Built, BuildFault>
 /// A `Raw` fails with `TooManyItems` or else `RawNotItems`, a `Finish` with `NothingToFinish`.
 ///
 /// Fails with `OutOfMemory` if memory is refused, or if a value's own `rlp_append` returns an
-/// error.
+/// error. Then there is a call other than `Clear` that passes its test, and each call before it
+/// passes its test too.
 ///
 /// ```rust
 /// let calls = [StreamCall::Begin(2), StreamCall::Value(1u64), StreamCall::Value(2u64)];

@@ -1,6 +1,6 @@
 //! Calls of a stream as values, and the loop that makes calls.
 ghost use Rattle.std.specs.Prelude.{ℕ, ◌≡◌, ◌+◌, ◌<◌, ◌≤◌, ◌^◌, false, true, List, IfOk, OnOk, Result};
-ghost use Rattle.rlp.specs.Streams.Stream.{Call};
+ghost use Rattle.rlp.specs.Streams.Stream.{Call, State};
 ghost use Rattle.rlp_tool.specs.Making.{MakesSome, NoneIsNext};
 
 use crate::building::BuildFault;
@@ -37,12 +37,15 @@ pub(crate) trait Calls {
     /// A number that is at least the number of calls that are left.
     ghost size: { Self → ℕ };
 
+    /// For which call, and in which state before it, memory may be refused.
+    ghost lacks: { Call → State → Type 0 };
+
     /// Makes the next call if it passes its test, or all `Finish` that come next. Returns whether
     /// there was a next call. It may use the room for the bytes of a value.
     fn make_next(&mut self, stream: &mut RlpStream, room: &mut Vec<u8>) -> Result<bool, BuildFault>
         requires { place self.old + size self.old < 2 ^ 64 }
-        ensures made { MakesSome (left self.old) (left self.new) (place self.old) (place self.new)
-            stream.old.state stream.new.state result }
+        ensures made { MakesSome lacks (left self.old) (left self.new) (place self.old)
+            (place self.new) stream.old.state stream.new.state result }
         ensures ended { IfOk result (λ more. more ≡ false → NoneIsNext (left self.new)) }
         ensures within { place self.new + size self.new ≤ place self.old + size self.old }
         ensures shorter { IfOk result (λ more. more ≡ true → size self.new < size self.old) };
@@ -57,7 +60,7 @@ pub(crate) fn make_calls<C: Calls>(
     room: &mut Vec<u8>,
 ) -> Result<(), BuildFault>
     requires { C.place calls.old + C.size calls.old < 2 ^ 64 }
-    ensures made { MakesSome (C.left calls.old) (C.left calls.new) (C.place calls.old)
+    ensures made { MakesSome C.lacks (C.left calls.old) (C.left calls.new) (C.place calls.old)
         (C.place calls.new) stream.old.state stream.new.state result }
     ensures ended { OnOk result (NoneIsNext (C.left calls.new)) }
     ensures within { C.place calls.new + C.size calls.new ≤ C.place calls.old + C.size calls.old }

@@ -1,13 +1,14 @@
 //! Makes the calls of a script on a stream, each as its piece is read.
 ghost use Rattle.std.specs.Prelude.{◌≡◌, ◌+◌, [], IfOk, IfErr, OnOk};
-ghost use Rattle.rlp.specs.Streams.Stream.{initial_state};
-ghost use Rattle.rlp_tool.specs.{Making.{Fails, IsLineFault, IsTaken, MakesScript}, Script.{calls_in, script}, Pieces.{HasPairs, left_len, piece_call, pieces_left}};
+ghost use Rattle.rlp.specs.Streams.Stream.{append_raw, initial_state};
+ghost use Rattle.rlp_tool.specs.{Making.{Fails, IsLineFault, IsTaken, MakesScript, WantsMemoryInScript}, Script.{calls_in, script}, Pieces.{ArePairs, HasPairs, bytes_of, left_len, piece_call, pieces_left}};
 
-use crate::building::{BuildFault, take_call, take_finishes, take_raw};
+use crate::building::{BuildFault, has_room, raw_items_are_canonical, take_call, take_finishes};
 use crate::calls::{Calls, StreamCall, make_calls};
 use crate::script::{Piece, decode, first_unread, leading_finishes, next_piece, pieces_of};
 use bytes::BytesMut;
 use rlp::RlpStream;
+use rlp::laws::parts_of_sized_are_sized;
 use std::alloc::Global;
 
 /// The number of bytes that a script can write without another allocation.
@@ -22,7 +23,39 @@ pub(crate) enum LineFault {
     Failed(BuildFault),
 }
 
+/// Decodes the digits of raw bytes, tests the bytes and puts them. The number of items is tested
+/// first, which takes no memory. `place` is the place of the call.
+fn take_raw(
+    stream: &mut RlpStream,
+    digits: &[u8],
+    count: usize,
+    room: &mut Vec<u8>,
+    place: usize,
+) -> Result<(), BuildFault>
+    requires { ArePairs digits.now }
+    ensures ok { OnOk result (IsTaken (append_raw (bytes_of digits.now) count) stream.old.state
+        stream.new.state) }
+    ensures refused { IfErr result (Fails WantsMemoryInScript
+        (append_raw (bytes_of digits.now) count) stream.old.state place) }
+{
+    parts_of_sized_are_sized();
+    if !has_room(stream, count) {
+        return Err(BuildFault::TooManyItems(place));
+    }
+    let Ok(bytes) = decode(digits, room) else {
+        return Err(BuildFault::OutOfMemory);
+    };
+    if !raw_items_are_canonical(bytes, count) {
+        return Err(BuildFault::RawNotItems(place));
+    }
+    match stream.append_raw(bytes, count) {
+        Ok(_) => Ok(()),
+        Err(_) => Err(BuildFault::OutOfMemory),
+    }
+}
+
 /// Makes the call of a piece, if the call passes its test. `place` is the place of the call.
+#[tactic(auto, using(crate::proofs::CallsLemmas::refused_in_script))]
 fn take_piece(
     stream: &mut RlpStream,
     piece: &Piece<'_>,
@@ -32,7 +65,8 @@ fn take_piece(
     requires { HasPairs piece.now }
     ensures ok { OnOk result
         (IsTaken (piece_call piece.now) stream.old.state stream.new.state) }
-    ensures refused { IfErr result (Fails (piece_call piece.now) stream.old.state place) }
+    ensures refused { IfErr result
+        (Fails WantsMemoryInScript (piece_call piece.now) stream.old.state place) }
 {
     match piece {
         Piece::Value(digits) => {
@@ -42,12 +76,7 @@ fn take_piece(
             take_call(stream, &StreamCall::Value(bytes), place)
         }
         Piece::Byte(byte) => take_call(stream, &StreamCall::Value([*byte]), place),
-        Piece::Raw(digits, count) => {
-            let Ok(bytes) = decode(digits, room) else {
-                return Err(BuildFault::OutOfMemory);
-            };
-            take_raw(stream, bytes, *count, place)
-        }
+        Piece::Raw(digits, count) => take_raw(stream, digits, *count, room, place),
         Piece::Begin(count) => take_call::<&[u8]>(stream, &StreamCall::Begin(*count), place),
         Piece::BeginUnbounded => take_call::<&[u8]>(stream, &StreamCall::BeginUnbounded, place),
         Piece::Finish => take_call::<&[u8]>(stream, &StreamCall::Finish, place),
@@ -69,6 +98,8 @@ impl Calls for Script<'_> {
     ghost place = { λ s. s.place };
 
     ghost size = { λ s. left_len s.left };
+
+    ghost lacks = { WantsMemoryInScript };
 
     #[inline(always)]
     fn make_next(

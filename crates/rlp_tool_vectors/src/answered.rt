@@ -4,8 +4,8 @@
 //! ways. What is given and the answer may have names and repeated parts between `<` and `>`. The answer
 //! `refused` is any fault.
 
-use crate::rows::Row;
 use rlp_ethereum_vectors::answer;
+use rlp_vectors::files::Row;
 use rlp_vectors::rows::{Line, at_length};
 use std::alloc::{AllocError, Global};
 

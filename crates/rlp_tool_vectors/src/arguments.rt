@@ -1,8 +1,8 @@
 //! What arguments of the program that shows records ask for. A row has the arguments, and what they ask
 //! for: `json` or `bytes`, `lines` or `record`, and the name of the kind.
 
-use crate::rows::Row;
 use rlp_show::{Answers, Form, Request};
+use rlp_vectors::files::Row;
 use rlp_vectors::rows::Line;
 use std::alloc::{AllocError, Global};
 

@@ -2,13 +2,13 @@
 //!
 //! In an answer `'` is a quote, and the ends of lines don't count.
 
-use crate::rows::Row;
 use crate::shown::{answered, line_of};
 use rlp::DecoderError;
 use rlp_headers::Log;
+use rlp_pooled::{BlobTransactionWithCellProofs as CellProofs, BlobTransactionWithProofs};
 use rlp_records::Enveloped;
 use rlp_show::{Form, Kind, json_of};
-use rlp_transactions::{BlobTransactionWithCellProofs as CellProofs, BlobTransactionWithProofs};
+use rlp_vectors::files::Row;
 use rlp_vectors::rows::{Line, at_length, cut, named};
 use serde_json::Value;
 use std::alloc::{AllocError, Global};

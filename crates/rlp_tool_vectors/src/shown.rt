@@ -10,8 +10,8 @@
 //! number, ` = `, and what replaces the field or the number: an item, several items, or no item.
 
 use crate::dumped::note_rows;
-use crate::rows::Row;
 use rlp_show::{Answers, Form, Kind, Noted, run};
+use rlp_vectors::files::Row;
 use rlp_vectors::rows::{Line, at_length, cut, named, number, with_item};
 use std::alloc::{AllocError, Global};
 

@@ -1,4 +1,4 @@
 pub mod Parities
-pub mod Pooled
+pub mod Refused
 pub mod Scalars
 pub mod Signing

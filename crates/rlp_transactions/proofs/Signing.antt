@@ -60,7 +60,7 @@ last_in (string d) = string d
 last_in (list xs) = last_of xs
 
 -- a number of a signature isn't zero
-some_digit : (x : NonZeroScalar) → big_endian (scalar_value x) ≢ []
+pub some_digit : (x : NonZeroScalar) → big_endian (scalar_value x) ≢ []
 some_digit x none =
     let zero : scalar_value x ≡ 0 = sym (big_endian_value (scalar_value x)) ∙ ap (number_from_digits 256) none in
     let both : true ≡ false = sym x.in_range ∙ ap is_scalar zero in

@@ -1,16 +1,10 @@
 pub mod AccessListTransaction
-pub mod Blob
-pub mod BlobCheck
 pub mod BlobTransaction
-pub mod BlobWrapper
 pub mod DepositTransaction
 pub mod Eip155
 pub mod FeeMarketTransaction
-pub mod ItemCountLaws
-pub mod ItemCounts
 pub mod LegacyTransaction
 pub mod NonZeroScalar
-pub mod PooledTransaction
 pub mod Recipient
 pub mod Secp256k1
 pub mod SetCodeTransaction

@@ -1,10 +1,10 @@
--- A string is a recipient or the version of a wrapper if and only if it is written for one, and a number of a signature is short.
-use Rattle.std.specs.{Prelude.{ℕ, ◌≡◌, ◌↔◌, Bool, true, false, List, [], ◌∷◌, length, Ok, Err, codes}, Str.bytes_eq}
-use Rattle.std.proofs.{Common.{refl, ap, ◌∙◌, ltb, ltb-false, arith}, lemmas.Bool.{cond-true, cond-false}, lemmas.Bool.Decides.nat_tests, lemmas.Slice.Eq.{bytes_eq-Decides}}
+-- A string is a recipient if and only if it is written for one, and a number of a signature is short.
+use Rattle.std.specs.Prelude.{ℕ, ◌≡◌, ◌↔◌, Bool, true, false, List, [], ◌∷◌, length, Ok, Err}
+use Rattle.std.proofs.{Common.{refl, ap, ◌∙◌, ltb, ltb-false, arith}, lemmas.Bool.{cond-true, cond-false}, lemmas.Bool.Decides.nat_tests}
 use Rattle.rlp.specs.Values.Value.{FitsBytes}
-use Rattle.rlp_reading.specs.Form.{custom, fixed_of, is_too_big, is_too_short, map_value}
+use Rattle.rlp_reading.specs.Form.{fixed_of, is_too_big, is_too_short, map_value}
 use Rattle.rlp_reading.proofs.StringLaws.{array_strings}
-use Rattle.rlp_transactions.specs.{Secp256k1.is_scalar, StringKinds.{IsRecipient, account_of, is_account, recipient_bytes, version_of}}
+use Rattle.rlp_transactions.specs.{Secp256k1.is_scalar, StringKinds.{IsRecipient, account_of, is_account, recipient_bytes}}
 use Rattle.rlp_transactions.specs.{declared.recipient.Recipient.Recipient, declared.recipient.Recipient.TheVariants.{Creation, Account}}
 
 account_back : (d : List ℕ) → length d ≡ 20 → fixed_of 20 d ≡ Ok d → account_of d ≡ Ok true
@@ -27,11 +27,6 @@ pub recipient_told : (r : Recipient) → IsRecipient r ↔ (account_of (recipien
 recipient_told Creation = (λ fit. refl, λ is. tt)
 recipient_told (Account address) =
     (λ fit. account_back address.0 fit ((array_strings 20).back address.0 fit (omega (arith, fit))), account_whole address.0)
-
-pub version_by : (d : List ℕ) (same : Bool) → bytes_eq d (1 ∷ []) ≡ same → version_of d ≡ Ok tt → d ≡ 1 ∷ []
-version_by d true same is = (bytes_eq-Decides d (1 ∷ [])).0 same
-version_by d false same is =
-    let r : version_of d ≡ Err (custom (codes "unknown wrapper version")) = cond-false (bytes_eq d (1 ∷ [])) _ _ same in absurd (let no : ⊥ = cc in no)
 
 -- the numbers of signatures have at most 32 bytes
 pub narrow : (n : ℕ) → is_scalar n ≡ true → FitsBytes 32 n

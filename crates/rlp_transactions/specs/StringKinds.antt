@@ -1,8 +1,7 @@
--- What strings are the recipients of transactions, and the versions of their wrappers.
-use Rattle.std.specs.{Prelude.{ℕ, ◌≡◌, ⊤, Bool, true, false, if◌then◌else◌, List, [], ◌∷◌, length, Result, Ok, Err, codes}, Str.bytes_eq}
-use Rattle.rlp_reading.specs.Form.{Fault, custom, fixed_of, map_value}
+-- What strings are the recipients of transactions.
+use Rattle.std.specs.Prelude.{ℕ, ◌≡◌, ⊤, Bool, true, false, List, [], ◌∷◌, length, Result, Ok}
+use Rattle.rlp_reading.specs.Form.{Fault, fixed_of, map_value}
 use Rattle.rlp_transactions.specs.{declared.recipient.Recipient.Recipient, declared.recipient.Recipient.TheVariants.{Creation, Account}}
-use Rattle.rlp_transactions.specs.declared.blob_wrapper.WrapperVersion.{WrapperVersion}
 
 -- the bytes of an account, or no bytes
 abbrev pub recipient_bytes : Recipient → List ℕ
@@ -23,11 +22,3 @@ is_account (Account address) = true
 abbrev pub account_of : List ℕ → Result Bool Fault
 account_of [] = Ok false
 account_of (byte ∷ rest) = map_value (λ d. true) (fixed_of 20 (byte ∷ rest))
-
--- EIP-7594: the version of the wrapper is 1
-abbrev pub version_bytes : WrapperVersion → List ℕ
-version_bytes version = 1 ∷ []
-
--- whether a string is the version
-abbrev pub version_of : List ℕ → Result ⊤ Fault
-version_of d = if bytes_eq d (1 ∷ []) then Ok tt else Err (custom (codes "unknown wrapper version"))

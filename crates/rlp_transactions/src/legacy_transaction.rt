@@ -35,6 +35,29 @@ pub struct LegacyTransaction {
     pub data: Vec<u8>,
 }
 
+impl LegacyTransaction {
+    /// Returns the transaction with this signature, which isn't checked. The number `v` says the
+    /// parity, and with EIP-155 also the chain: see [`Eip155::to_v`].
+    pub fn with_signature(
+        self,
+        v: Uint<32>,
+        r: NonZeroScalar,
+        s: NonZeroScalar,
+    ) -> SignedLegacyTransaction
+        ensures payload { result.payload ≡ self }
+        ensures v { result.v ≡ v }
+        ensures r { result.r ≡ r }
+        ensures s { result.s ≡ s }
+    {
+        Signed {
+            payload: self,
+            v,
+            r,
+            s,
+        }
+    }
+}
+
 impl Signed<LegacyTransaction, Uint<32>> {
     /// Returns what `v` says: the chain that is signed, if a chain is signed, and the parity.
     /// Returns `None` if [`Eip155::from_v`] does.

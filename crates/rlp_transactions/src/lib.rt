@@ -2,16 +2,12 @@
 #![tactic(auto)]
 
 mod access_list_transaction;
-mod blob;
-mod blob_check;
 mod blob_transaction;
-mod blob_wrapper;
 mod deposit_transaction;
 mod eip155;
 mod fee_market_transaction;
 pub mod laws;
 mod legacy_transaction;
-mod pooled_transaction;
 mod recipient;
 mod scalar;
 mod set_code_transaction;
@@ -20,19 +16,13 @@ mod transaction;
 mod unsigned_transaction;
 
 pub use access_list_transaction::{AccessList, AccessListItem, AccessListTransaction};
-pub use blob::{BLOB_LEN, Blob};
-pub use blob_check::{BlobFault, versioned_hash};
 pub use blob_transaction::BlobTransaction;
-pub use blob_wrapper::{
-    BlobTransactionWithCellProofs, BlobTransactionWithProofs, PooledBlobTransaction, WrapperVersion,
-};
 pub use deposit_transaction::DepositTransaction;
 pub use eip155::Eip155;
 pub use fee_market_transaction::FeeMarketTransaction;
 pub use legacy_transaction::{
     LegacyTransaction, SignedLegacyTransaction, UnsignedLegacyTransaction,
 };
-pub use pooled_transaction::PooledTransaction;
 pub use recipient::Recipient;
 pub use scalar::NonZeroScalar;
 pub use set_code_transaction::{Authorization, SetCodeTransaction, SignedAuthorization};

@@ -8,7 +8,9 @@ use rlp::{DecoderError, Encodable, Record, Rlp, RlpStream, Uint};
 use std::alloc::{AllocError, Global};
 
 /// A number of a signature on secp256k1: from 1 to below the order of the curve's group, which SEC 2
-/// calls n.
+/// calls n. A block is invalid if the signature of a transaction has a number outside of this range.
+/// The signature of an authorization may have one: see
+/// [`SignedAuthorization`](crate::SignedAuthorization).
 #[derive(Debug, Clone, Copy, PartialEq, Eq)]
 pub struct NonZeroScalar {
     /// The number.

@@ -1,12 +1,13 @@
 //! Transactions of type 4, and their authorizations.
 
-ghost use Rattle.std.specs.Prelude.{refl};
-ghost use Rattle.rlp_transactions.specs.SetCodeTransaction.{authorization_fields, set_code_transaction_fields};
+ghost use Rattle.std.specs.Prelude.{◌≡◌, IfNone, IfSome, refl};
+ghost use Rattle.rlp.specs.Values.Value.{bit};
+ghost use Rattle.rlp_transactions.specs.SetCodeTransaction.{HasSignature, authorization_fields, set_code_transaction_fields, signed_authorization};
 
-use crate::{AccessList, Payload, Signed, Tagged, TypedTransaction};
+use crate::{AccessList, NonZeroScalar, Payload, Tagged, TypedTransaction};
 use rlp::{
-    AppendFields, CountedFields, DecodeFields, DecodeFieldsPlaced, DecoderError, Fields,
-    FixedFields, ListField, ListOf, RlpStream, Uint,
+    AppendFields, CountedFields, DecodeFields, DecodeFieldsPlaced, DecoderError, Encodable, Fields,
+    FieldsOf, FixedFields, Joined, ListField, ListOf, Record, Rlp, RlpStream, Uint,
 };
 use rlp_records::{AUTHORIZATION_MAGIC, Address, SET_CODE_TYPE};
 use std::alloc::{AllocError, Global};
@@ -134,9 +135,77 @@ impl Tagged for SetCodeTransaction {
 
 impl TypedTransaction for SetCodeTransaction {}
 
-/// An authorization with its signature: the list of six fields. The parity of the signature's point
-/// is any number below 256, as in EIP-7702.
-pub type SignedAuthorization = Signed<Authorization, u8>;
+/// An authorization with its signature: the list of six fields, as in EIP-7702.
+///
+/// EIP-7702 bounds these fields by their widths alone. If the signature is wrong, the authorization
+/// is skipped, and its transaction stays valid. So this type reads any numbers `y_parity`, `r` and
+/// `s` of at most 8, 256 and 256 bits, and [`SignedAuthorization::signature`] tests their ranges.
+#[derive(Debug, Clone, Copy, PartialEq, Eq)]
+pub struct SignedAuthorization {
+    /// The three fields that are signed.
+    pub payload: Authorization,
+    /// The parity of the y value of the signature's point. A parity above 1 is no signature's.
+    pub y_parity: u8,
+    /// The first number of the signature.
+    pub r: Uint<32>,
+    /// The second number of the signature.
+    pub s: Uint<32>,
+}
+
+impl SignedAuthorization {
+    /// Returns the signature: the parity, `r` and `s`. Returns `None` if `y_parity` is above 1, if `r`
+    /// or `s` is 0 or not below the order of secp256k1's group, or if `s` is more than half of the
+    /// order. EIP-7702 then skips the authorization.
+    ///
+    /// The signature isn't checked: EIP-7702 also skips an authorization if no key can be recovered.
+    pub fn signature(&self) -> Option<(bool, NonZeroScalar, NonZeroScalar)>
+        ensures some { IfSome result (λ x. HasSignature self.now × ((bit x.0 ≡ self.now.y_parity)
+            × ((x.1.number ≡ self.now.r) × (x.2.number ≡ self.now.s)))) }
+        ensures none { IfNone result (¬ HasSignature self.now) }
+    {
+        let r = NonZeroScalar::new(self.r)?;
+        let s = NonZeroScalar::new(self.s)?;
+        if self.y_parity > 1 || !s.is_low() {
+            return None;
+        }
+        Some((self.y_parity == 1, r, s))
+    }
+}
+
+impl Encodable for SignedAuthorization {
+    ghost item = { signed_authorization.item };
+
+    ghost fits = { signed_authorization.Fits };
+
+    fn rlp_append(&self, s: &mut RlpStream) -> Result<(), AllocError> {
+        rlp::append_fields!(s, FieldsOf(&self.payload), &self.y_parity, &self.r, &self.s)
+    }
+}
+
+impl Record for SignedAuthorization {
+    ghost reading = { signed_authorization.reading };
+
+    fn decode(alloc: Global, rlp: &Rlp<'_>) -> Result<SignedAuthorization, DecoderError> {
+        rlp::decode_fields!(
+            alloc,
+            rlp,
+            SignedAuthorization {
+                payload: (..),
+                y_parity,
+                r,
+                s
+            }
+        )
+    }
+
+    fn put_path(alloc: Global, rlp: &Rlp<'_>, path: &mut Vec<usize>) -> Result<(), AllocError> {
+        rlp::put_path_of::<Joined<Authorization, rlp::field_types!(u8, Uint<32>, Uint<32>)>>(
+            alloc, rlp, path,
+        )
+    }
+
+    ghost lawful = { signed_authorization.reads_strictly };
+}
 
 /// An authorization without its signature: an account allows the code of an address to run as its
 /// own. The list of the three fields is signed after the byte 5, as in EIP-7702.
@@ -148,6 +217,31 @@ pub struct Authorization {
     pub address: Address,
     /// The number of transactions that the account has sent before.
     pub nonce: u64,
+}
+
+impl Authorization {
+    /// Returns the authorization with this signature, which isn't checked. The parity is the parity
+    /// of the y value of the signature's point.
+    ///
+    /// EIP-7702 skips an authorization whose `s` isn't low: see [`NonZeroScalar::is_low`].
+    pub fn with_signature(
+        self,
+        y_parity: bool,
+        r: NonZeroScalar,
+        s: NonZeroScalar,
+    ) -> SignedAuthorization
+        ensures payload { result.payload ≡ self }
+        ensures y_parity { result.y_parity ≡ bit y_parity }
+        ensures r { result.r ≡ r.number }
+        ensures s { result.s ≡ s.number }
+    {
+        SignedAuthorization {
+            payload: self,
+            y_parity: y_parity as u8,
+            r: r.number,
+            s: s.number,
+        }
+    }
 }
 
 impl AppendFields for Authorization {

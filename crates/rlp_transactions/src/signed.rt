@@ -16,29 +16,14 @@ use rlp_records::{from_envelope, to_envelope, typed_list};
 use std::alloc::{AllocError, Global};
 
 /// The fields of a record before its signature. A type with this trait is the record before it is
-/// signed, and [`Signed`] is the record with its signature.
+/// signed. [`Signed`] is a transaction with its signature, and
+/// [`SignedAuthorization`](crate::SignedAuthorization) is an authorization with its signature.
 pub trait Payload: AppendFields + FixedFields + Drop {
     /// What is known of the fields, so that a list that begins with them is read back.
     ghost laws: { AreLawful (fields_of Self.fit Self.items Self.reading) };
 
     /// The fields are always the same number of items.
     ghost fixed: { Self.reading.is_fixed ≡ true };
-
-    /// Returns the record with this signature, which isn't checked. The number `v` says which of two
-    /// points belongs to the signature, as in [`Signed`].
-    final fn with_signature<V>(self, v: V, r: NonZeroScalar, s: NonZeroScalar) -> Signed<Self, V>
-        ensures payload { result.payload ≡ self }
-        ensures v { result.v ≡ v }
-        ensures r { result.r ≡ r }
-        ensures s { result.s ≡ s }
-    {
-        Signed {
-            payload: self,
-            v,
-            r,
-            s,
-        }
-    }
 }
 
 /// A payload that is signed as a byte, which says what the payload is, and then the list of its
@@ -86,10 +71,31 @@ pub trait Tagged: Payload {
 
 /// A payload whose byte is a type of EIP-2718, which is also the first byte of the signed
 /// transaction.
-pub trait TypedTransaction: Tagged {}
+pub trait TypedTransaction: Tagged {
+    /// Returns the transaction with this signature, which isn't checked. The parity is the parity of
+    /// the y value of the signature's point.
+    final fn with_signature(
+        self,
+        y_parity: bool,
+        r: NonZeroScalar,
+        s: NonZeroScalar,
+    ) -> Signed<Self, bool>
+        ensures payload { result.payload ≡ self }
+        ensures v { result.v ≡ y_parity }
+        ensures r { result.r ≡ r }
+        ensures s { result.s ≡ s }
+    {
+        Signed {
+            payload: self,
+            v: y_parity,
+            r,
+            s,
+        }
+    }
+}
 
-/// A payload with its signature: the list of its fields and then of the three numbers of the
-/// signature.
+/// The payload of a transaction with its signature: the list of its fields and then of the three
+/// numbers of the signature.
 ///
 /// The signature isn't checked.
 #[derive(Debug, Clone, PartialEq, Eq, Drop)]
@@ -97,9 +103,9 @@ pub struct Signed<T, V = bool> {
     /// The fields that are signed.
     pub payload: T,
     /// Which of two points belongs to the signature. In transactions of types 1 to 4 this is the
-    /// parity `y_parity`: 0 is `false` and 1 is `true`, and reading fails for other numbers. In an
-    /// authorization it is a parity of one byte. In a transaction without a type it is 27 or 28, or
-    /// with EIP-155 twice the number of the chain plus 35 or 36.
+    /// parity `y_parity`: 0 is `false` and 1 is `true`, and reading fails for other numbers. In a
+    /// transaction without a type it is 27 or 28, or with EIP-155 twice the number of the chain plus
+    /// 35 or 36.
     pub v: V,
     /// The first number of the signature.
     pub r: NonZeroScalar,

@@ -3,7 +3,7 @@
 ghost use Rattle.std.specs.Prelude.{◌≡◌};
 ghost use Rattle.rlp_transactions.specs.{TransactionParts.{Signs, r_of, s_of}, UnsignedTransaction.unsigned_types};
 
-use crate::signed::{Listed, Payload};
+use crate::signed::{Listed, TypedTransaction};
 use crate::{
     AccessListTransaction, BlobTransaction, FeeMarketTransaction, NonZeroScalar,
     SetCodeTransaction, Transaction, UnsignedLegacyTransaction,

@@ -4,7 +4,6 @@ use crate::items::{
     tell_fields, tell_first, tell_items, tell_payload, tell_split, tell_taken, tell_third,
     tell_tree,
 };
-use crate::rows::{Hex, Line, bytes_in, bytes_of, cut, number};
 use crate::script::tell_script;
 use crate::typed::{
     tell_again, tell_first_byte, tell_invalid, tell_number, tell_place, tell_raw, tell_typed,
@@ -12,7 +11,9 @@ use crate::typed::{
 use crate::views::{tell_fault, tell_flagged, tell_header, tell_view};
 use crate::written::{tell_listed, tell_value};
 use rlp::{DecoderError, Rlp};
-use std::alloc::Global;
+use rlp_rows::codec::view_of;
+use rlp_rows::rows::{Hex, Line, bytes_in, bytes_of, cut, number};
+use std::alloc::{AllocError, Global};
 use std::fmt;
 use std::fmt::Write;
 
@@ -54,30 +55,25 @@ impl<'a> Asked<'a> {
         }
     }
 
-    /// Tells bytes: as the wanted answer if they are its bytes, or if they are as many as a number
-    /// in front of `begins` and begin with the bytes behind it. Else as digits.
-    pub(crate) fn tell_bytes(&self, bytes: &[u8], out: &mut Line) -> fmt::Result {
+    /// Returns whether bytes are the wanted ones, or are as many as a number in front of `begins` and
+    /// begin with the bytes behind it.
+    fn wants(&self, bytes: &[u8]) -> Result<bool, AllocError> {
         let (len, front) = self.want.split_once(" begins ").unwrap_or(("", self.want));
         let front = bytes_of(self.alloc, if front == "none" { "" } else { front })?;
-        let is_wanted = if len.is_empty() {
+        Ok(if len.is_empty() {
             bytes == front.as_slice()
         } else {
             bytes.len() == number(len) && bytes.starts_with(front.as_slice())
-        };
-        if is_wanted {
+        })
+    }
+
+    /// Tells bytes: as the wanted answer if they are wanted, and else as digits.
+    pub(crate) fn tell_bytes(&self, bytes: &[u8], out: &mut Line) -> fmt::Result {
+        if self.wants(bytes)? {
             out.write_str(self.want)
         } else {
             out.debug(Hex(bytes.get(..100).unwrap_or(bytes)))
         }
-    }
-}
-
-/// Returns a view of bytes, which is strict or lenient.
-pub(crate) fn view_of<'a>(bytes: &'a [u8], strict: bool) -> Rlp<'a> {
-    if strict {
-        Rlp::new_strict(bytes)
-    } else {
-        Rlp::new(bytes)
     }
 }
 

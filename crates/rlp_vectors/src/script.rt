@@ -15,11 +15,12 @@
 
 use crate::answers::Asked;
 use crate::appended::{Counted, Wrapper};
-use crate::guarded::{estimates, finalize, is_as, put_raw, put_undotted, takes_items};
-use crate::rows::{Line, bytes_of, cut, number};
 use bytes::BytesMut;
 use rlp::{Encodable, RawItem, RlpStream};
-use rlp_examples::{Nonce, Pair, Refusing, Trio};
+use rlp_examples::{Refusing, Trio};
+use rlp_hand_written::{Nonce, Pair};
+use rlp_rows::guarded::{estimates, finalize, is_as, put_raw, put_undotted, takes_items};
+use rlp_rows::rows::{Line, bytes_of, cut, number};
 use std::alloc::{AllocError, Global};
 use std::cell::Cell;
 use std::fmt;
@@ -30,28 +31,17 @@ fn make(alloc: Global, s: &mut RlpStream, call: &str) -> Result<bool, AllocError
     let (name, arguments) = cut(call);
     let (first, second) = cut(arguments);
     match name {
-        "list" | "over" | "list_over" => {
-            *s = begun(alloc, name, first, second)?;
-            Ok(true)
-        }
+        "list" | "over" | "list_over" => begin_anew(alloc, s, name, first, second),
         "is" => stands(alloc, s, number(first), second),
         "size" => Ok(s.len() == number(first) && estimates(s, 0, Some(number(first)))),
         "estimate" => Ok(estimates(s, number(first), second.parse::<usize>().ok())),
-        "text" => s.append(&arguments).and(Ok(true)),
-        "raw" => put_raw(s, bytes_of(alloc, second)?.as_slice(), number(first), None),
-        "within" => put_raw(
-            s,
-            bytes_of(alloc, second)?.as_slice(),
-            1,
-            Some(number(first)),
-        ),
+        "text" => added(s, &arguments),
+        "raw" => raw_added(alloc, s, second, number(first), None),
+        "within" => raw_added(alloc, s, second, 1, Some(number(first))),
         "refused" | "refused_internal" | "refused_list" => {
             Ok(!refuse(s, name, &[Trio(1, Refusing, 3)]))
         }
-        "counted" | "counted_internal" | "counted_list" => {
-            let calls = Cell::new(0usize);
-            Ok(!(refuse(s, name, &[Counted(&calls)]) && calls.get() == 1))
-        }
+        "counted" | "counted_internal" | "counted_list" => Ok(!is_written_once(s, name)),
         "direct" => Ok(Trio(1, Refusing, 3).rlp_append(s).is_err()),
         "small"
         | "smalls"
@@ -61,7 +51,7 @@ fn make(alloc: Global, s: &mut RlpStream, call: &str) -> Result<bool, AllocError
         | "encode"
         | "encode_undotted"
         | "item"
-        | "chain" => put(alloc, s, name, bytes_of(alloc, first)?.as_slice()),
+        | "chain" => put_text(alloc, s, name, first),
         _ => append(s, name, number(first), number(second)),
     }
 }
@@ -78,6 +68,47 @@ fn begun(alloc: Global, name: &str, first: &str, second: &str) -> Result<RlpStre
     }
 }
 
+/// Puts a new stream into the place of a stream.
+fn begin_anew(
+    alloc: Global,
+    s: &mut RlpStream,
+    name: &str,
+    first: &str,
+    second: &str,
+) -> Result<bool, AllocError> {
+    *s = begun(alloc, name, first, second)?;
+    Ok(true)
+}
+
+/// Appends the bytes of a text as raw items.
+fn raw_added(
+    alloc: Global,
+    s: &mut RlpStream,
+    text: &str,
+    count: usize,
+    limit: Option<usize>,
+) -> Result<bool, AllocError> {
+    put_raw(s, bytes_of(alloc, text)?.as_slice(), count, limit)
+}
+
+/// Appends a value.
+fn added<E: Encodable>(s: &mut RlpStream, value: &E) -> Result<bool, AllocError> {
+    s.append(value)?;
+    Ok(true)
+}
+
+/// Appends a value by `append_internal`.
+fn added_inside<E: Encodable>(s: &mut RlpStream, value: &E) -> Result<bool, AllocError> {
+    s.append_internal(value)?;
+    Ok(true)
+}
+
+/// Appends a list of values.
+fn added_list<E: Encodable>(s: &mut RlpStream, values: &[E]) -> Result<bool, AllocError> {
+    s.append_list(values)?;
+    Ok(true)
+}
+
 /// Makes a call that begins or closes lists, clears the stream, or appends values.
 fn append(s: &mut RlpStream, name: &str, first: usize, second: usize) -> Result<bool, AllocError> {
     let (number, next) = (first as u64, second as u64);
@@ -91,17 +122,17 @@ fn append(s: &mut RlpStream, name: &str, first: usize, second: usize) -> Result<
             Ok(true)
         }
         "empty" => s.append_empty_data().and(Ok(true)),
-        "number" => s.append(&number).and(Ok(true)),
-        "nonce" => s.append(&Nonce(number)).and(Ok(true)),
-        "pair" => s.append(&Pair(number, next)).and(Ok(true)),
-        "internal" => s.append_internal(&number).and(Ok(true)),
-        "internal_pair" => s.append_internal(&Pair(number, next)).and(Ok(true)),
-        "wrapper" => s.append(&Wrapper(number)).and(Ok(true)),
-        "none" => s.append_internal(&None::<u8>).and(Ok(true)),
-        "no_numbers" => s.append_list::<u64>(&[]).and(Ok(true)),
-        "no_u32s" => s.append_list::<u32>(&[]).and(Ok(true)),
-        "u32" => s.append(&u32::try_from(first).unwrap_or(0)).and(Ok(true)),
-        "pairs" => s.append_list(&[Pair(1, 2), Pair(3, 4)]).and(Ok(true)),
+        "number" => added(s, &number),
+        "nonce" => added(s, &Nonce(number)),
+        "pair" => added(s, &Pair(number, next)),
+        "internal" => added_inside(s, &number),
+        "internal_pair" => added_inside(s, &Pair(number, next)),
+        "wrapper" => added(s, &Wrapper(number)),
+        "none" => added_inside(s, &None::<u8>),
+        "no_numbers" => added_list::<u64>(s, &[]),
+        "no_u32s" => added_list::<u32>(s, &[]),
+        "u32" => added(s, &u32::try_from(first).unwrap_or(0)),
+        "pairs" => added_list(s, &[Pair(1, 2), Pair(3, 4)]),
         _ => Ok(false),
     }
 }
@@ -135,26 +166,38 @@ fn refuse<E: Encodable>(s: &mut RlpStream, name: &str, values: &[E; 1]) -> bool 
     }
 }
 
+/// Returns whether the call that appends a value whose writing fails is refused, and writes the
+/// value once.
+fn is_written_once(s: &mut RlpStream, name: &str) -> bool {
+    let calls = Cell::new(0usize);
+    refuse(s, name, &[Counted(&calls)]) && calls.get() == 1
+}
+
+/// Makes a call that puts the bytes of a text.
+fn put_text(alloc: Global, s: &mut RlpStream, name: &str, text: &str) -> Result<bool, AllocError> {
+    put(alloc, s, name, bytes_of(alloc, text)?.as_slice())
+}
+
 /// Makes a call that puts bytes. Returns `false` if they are to be a raw item, and aren't.
 fn put(alloc: Global, s: &mut RlpStream, name: &str, bytes: &[u8]) -> Result<bool, AllocError> {
     match name {
         "undotted" => put_undotted(s, bytes, true),
         "encode_undotted" => put_undotted(s, bytes, false),
-        "string" => s.append(&bytes).and(Ok(true)),
-        "small" => s.append(bytes.first().unwrap_or(&0)).and(Ok(true)),
-        "smalls" => s.append_list(bytes).and(Ok(true)),
+        "string" => added(s, &bytes),
+        "small" => added(s, bytes.first().unwrap_or(&0)),
+        "smalls" => added_list(s, bytes),
         "iter" => s.append_iter(bytes.iter().copied()).and(Ok(true)),
         "encode" => s.encoder().encode_value(bytes).and(Ok(true)),
         "chain" => chain(s, bytes),
         _ => match RawItem::new(alloc, bytes) {
-            Ok(item) => s.append(&item).and(Ok(true)),
+            Ok(item) => added(s, &item),
             Err(_) => Ok(false),
         },
     }
 }
 
 /// Returns a buffer that holds these bytes.
-pub(crate) fn buffer_of(alloc: Global, text: &str) -> Result<BytesMut, AllocError> {
+pub fn buffer_of(alloc: Global, text: &str) -> Result<BytesMut, AllocError> {
     BytesMut::copy_from_slice(alloc, bytes_of(alloc, text)?.as_slice())
 }
 
@@ -219,10 +262,10 @@ fn repeat(
 
 /// Makes the calls of a script on a stream, and tells the finished bytes. Fails if a call was refused
 /// memory, and the answer is as wanted.
-fn tell_on(asked: &Asked<'_>, mut s: RlpStream, out: &mut Line) -> fmt::Result {
+fn tell_on(asked: &Asked<'_>, s: &mut RlpStream, out: &mut Line) -> fmt::Result {
     let mut refused = false;
     for call in asked.given.split("; ") {
-        if !repeat(asked.alloc, &mut s, call, &mut refused)? {
+        if !repeat(asked.alloc, s, call, &mut refused)? {
             return write!(out, "stops at {call}");
         }
     }
@@ -238,14 +281,20 @@ fn tell_on(asked: &Asked<'_>, mut s: RlpStream, out: &mut Line) -> fmt::Result {
     }
 }
 
+/// Tells the finished bytes of a script on a stream without room.
+fn tell_narrow(asked: &Asked<'_>, out: &mut Line) -> fmt::Result {
+    let mut narrow = RlpStream::new_with_buffer(asked.alloc, BytesMut::new(asked.alloc));
+    tell_on(asked, &mut narrow, out)
+}
+
 /// Tells the finished bytes of a script on a new stream, or on a stream without room if they aren't
 /// as wanted.
 pub(crate) fn tell_script(asked: &Asked<'_>, out: &mut Line) -> fmt::Result {
-    let narrow = RlpStream::new_with_buffer(asked.alloc, BytesMut::new(asked.alloc));
-    tell_on(asked, narrow, out)?;
+    tell_narrow(asked, out)?;
     if out.as_str() != asked.want {
         return out.write_str(" without room");
     }
     *out = Line::new();
-    tell_on(asked, RlpStream::new(asked.alloc)?, out)
+    let mut s = RlpStream::new(asked.alloc)?;
+    tell_on(asked, &mut s, out)
 }

@@ -2,11 +2,13 @@
 //! custom types are written again.
 
 use crate::answers::Asked;
-use crate::rows::{Line, bytes_of, cut, number};
 use crate::written::tell_written;
 use bytes::{Bytes, BytesMut};
 use rlp::{BasicDecoder, Decodable, DecodePlaced, DecoderError, Encodable, RawItem, Rlp, Uint};
-use rlp_examples::{Inner, Message, Nest, Nonce, Odd, Pair, Parcel, Row};
+use rlp_examples::{Inner, Message, Nest, Odd, Parcel, Row};
+use rlp_hand_written::{Nonce, Pair};
+use rlp_rows::codec::goes_both_ways;
+use rlp_rows::rows::{Line, bytes_of, cut, number};
 use std::alloc::{AllocError, Global};
 use std::fmt;
 use std::fmt::Write;
@@ -125,7 +127,7 @@ pub(crate) fn tell_place(asked: &Asked<'_>, out: &mut Line) -> fmt::Result {
         "Pair" => tell_place_as::<Pair>(asked, out),
         "Nest<Parcel>" => tell_place_as::<Nest<Parcel>>(asked, out),
         _ => match read::<Row>(asked) {
-            Ok(row) => write!(out, "{} {:?}", row.column_29, row.column_32),
+            Ok(row) => write!(out, "{} {:?}", row.column_17, row.column_20),
             Err(fault) => out.debug(fault),
         },
     }
@@ -177,28 +179,6 @@ pub(crate) fn tell_raw(asked: &Asked<'_>, out: &mut Line) -> fmt::Result {
         return out.write_str("no raw item");
     }
     tell_again_as::<RawItem>(asked, out)
-}
-
-/// Returns whether an item of these bytes shows them, and is read from them strictly, and from a
-/// longer input but not strictly. It is written as the bytes.
-pub(crate) fn goes_both_ways(alloc: Global, bytes: &[u8]) -> Result<bool, AllocError> {
-    let mut longer = Vec::from_slice(alloc, bytes)?;
-    longer.push(0xff)?;
-    let too_long = rlp::decode_strict::<RawItem>(alloc, longer.as_slice());
-    let (Ok(new), Ok(strict), Ok(lenient)) = (
-        RawItem::new(alloc, bytes),
-        rlp::decode_strict::<RawItem>(alloc, bytes),
-        rlp::decode::<RawItem>(alloc, longer.as_slice()),
-    ) else {
-        return Ok(false);
-    };
-    Ok(
-        new.as_bytes() == bytes
-            && new.rlp().as_raw() == bytes
-            && rlp::encode(alloc, &strict)?.as_slice() == bytes
-            && rlp::encode(alloc, &lenient)?.as_slice() == bytes
-            && too_long.err() == Some(DecoderError::RlpIsTooBig),
-    )
 }
 
 /// A number that prints in hexadecimal.

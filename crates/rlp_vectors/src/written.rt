@@ -2,11 +2,12 @@
 
 use crate::answers::Asked;
 use crate::appended::{Columns, LastField, Tagged};
-use crate::guarded::finishes_as;
-use crate::rows::{Line, cut, number};
 use bytes::{Bytes, BytesMut};
 use rlp::{Decodable, Encodable, RlpStream};
-use rlp_examples::{Inner, Nest, Nonce, Pair};
+use rlp_examples::{Inner, Nest};
+use rlp_hand_written::{Nonce, Pair};
+use rlp_rows::guarded::finishes_as;
+use rlp_rows::rows::{Line, cut, number};
 use std::alloc::{AllocError, Global};
 use std::fmt;
 use std::fmt::Write;

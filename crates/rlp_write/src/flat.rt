@@ -184,13 +184,10 @@ impl RlpStream {
         ensures refused { OnErr result (IsAsBefore self.old self.new) }
         ensures moved { MovesWithin self.old self.new }
     {
-        self.buffer.extend_from_slice(bytes)?;
-        let end = self.buffer.len();
+        let end = self.buffer.len_with(bytes.len())?;
         let plan = plan_count(&self.lists, end, items);
-        if let Err(refused) = self.buffer.reserve(plan.growth) {
-            self.buffer.truncate(end - bytes.len());
-            return Err(refused);
-        }
+        self.buffer.reserve(bytes.len() + plan.growth)?;
+        self.buffer.extend_reserved(bytes);
         self.buffer.advance_mut(plan.growth);
         close_lists(&mut self.buffer, &mut self.lists, plan.closing, end);
         self.lists.count_innermost(1);

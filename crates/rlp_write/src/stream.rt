@@ -216,6 +216,7 @@ impl RlpStream {
         ensures ok { IfOk result
             (λ c. c.stream.now.state ≡ effect begin_unbounded_list self.old.state) }
         ensures moved { IfOk result (λ c. MovesWithin self.old c.stream.now) }
+        ensures not_moved { IfOk result (λ c. c.stream.now.moved ≡ self.old.moved) }
         ensures same_stream { HoldsStream self.entry result }
     {
         self.open(None)?;

@@ -23,4 +23,4 @@ returns-clause-alike g c = λ vs all whole.
 
 pub returns-clause-memory : goal.returns-clause-memory
 returns-clause-memory g c = λ vs all whole.
-    list_memory (form_of _ _ _) (g.met.T.StrictRead.strict.back true) _ vs (omega arith) all whole _ c.decode_list_strict.ensures.fault
+    list_memory (form_of _ _ _) (g.met.T.StrictRead.strict.back true) _ vs (omega arith) all whole _ _ c.decode_list_strict.ensures.fault

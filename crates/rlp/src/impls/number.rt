@@ -284,7 +284,7 @@ impl<const N: usize> RoundTrip for Uint<N> {
 }
 
 impl<const N: usize> Scalar for Uint<N> {
-    ghost exact = { value_only (plain (number N)) (λ (n : Self). number_from_digits 256 n.bytes) false false
+    ghost exact = { value_only (plain (number N)) (λ (n : Self). number_from_digits 256 n.bytes) false (number N).reading.Allocates false
         (number_scalar N) };
 }
 

@@ -3,7 +3,7 @@
 
 ghost use Rattle.std.specs.{Prelude.{false, true}, Box.box_value};
 ghost use Rattle.rlp_reading.proofs.ListLaws.{option_lawful, option_read_back, value_lawful, value_only, value_read_back};
-ghost use Rattle.rlp_reading.specs.{Form.{held_reading, option_reading}, Laws.form_of};
+ghost use Rattle.rlp_reading.specs.{Form.{BoxAllocates, boxed_reading, option_reading}, Laws.form_of};
 
 use crate::rlpin::{Fields, Rlp};
 use crate::traits::{Decodable, RoundTrip, Scalar, StrictRead};
@@ -48,7 +48,7 @@ impl<T: StrictRead> StrictRead for Option<T> {
 
 /// Reads a value of type `T`, and puts it into a box.
 impl<T: Decodable> Decodable for Box<T> {
-    ghost reading = { held_reading true box_value T.reading };
+    ghost reading = { boxed_reading box_value T.reading };
 
     fn decode(alloc: Global, rlp: &Rlp<'_>) -> Result<Box<T>, DecoderError> {
         let value = T::decode(alloc, rlp)?;
@@ -57,13 +57,13 @@ impl<T: Decodable> Decodable for Box<T> {
 }
 
 impl<T: RoundTrip> RoundTrip for Box<T> {
-    ghost round_trip = { value_read_back (form_of T.fits T.item T.reading) box_value true T.round_trip };
+    ghost round_trip = { value_read_back (form_of T.fits T.item T.reading) box_value true (BoxAllocates T.reading) T.round_trip };
 }
 
 impl<T: Scalar> Scalar for Box<T> {
-    ghost exact = { value_only (form_of T.fits T.item T.reading) box_value true false T.exact };
+    ghost exact = { value_only (form_of T.fits T.item T.reading) box_value true (BoxAllocates T.reading) false T.exact };
 }
 
 impl<T: StrictRead> StrictRead for Box<T> {
-    ghost strict = { value_lawful (form_of T.fits T.item T.reading) box_value true T.strict };
+    ghost strict = { value_lawful (form_of T.fits T.item T.reading) box_value true (BoxAllocates T.reading) T.strict };
 }

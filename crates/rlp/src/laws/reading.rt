@@ -1,7 +1,7 @@
 //! What is read from the beginning of bytes: strings, numbers, byte strings and text.
 
 ghost use Rattle.std.specs.Prelude.{◌≡◌, ◌<◌, ◌≤◌, ◌^◌, ℕ, List, Ok, length};
-ghost use Rattle.rlp_format.specs.{Format.Encoding.{encoding, Item, item_depth, string, AreBytes}, Values.Value.{bit, number_item, option_item}};
+ghost use Rattle.rlp_format.specs.{Format.Encoding.{encoding, Item, item_depth, string, AreBytes, IsSized}, Values.Value.{bit, number_item, option_item}};
 ghost use Rattle.rlp_reading.specs.{Format.Framing.{IsString, ReadsString, read_string}, Values.RawItem.{deepest_raw_item, raw_item_of}, Laws.{HasOneAnswer}};
 ghost use Rattle.rlp_reading.specs.{Values.StructReading.HoldsOrHasOneFault, Values.ValueReading.HasOneReading, Views.View.{View, strict_view_of, view_of}};
 ghost use Rattle.rlp_reading.specs.Form.{Faults, Gives, byte_array, byte_string, number, option, option_reading, raw_item, reading_at, struct_reading, text, truth_value};
@@ -130,4 +130,12 @@ pub fn struct_is_read<F: DecodeFields>(rlp: &Rlp<'_>)
 pub fn encodings_are_raw_items(bytes: &[u8])
     ensures { (x : Item) → bytes.now ≡ encoding x → item_depth x ≤ deepest_raw_item
         → raw_item_of bytes.now ≡ x }
+{}
+
+/// If an item has depth at most 256, its encoding is the raw item of this item. Whatever bytes are
+/// read as a raw item, the item has depth at most 256.
+pub fn raw_items_are_shallow()
+    ensures encoded { (x : Item) → IsSized x → item_depth x ≤ deepest_raw_item
+        → raw_item_of (encoding x) ≡ x }
+    ensures depth { (bytes : List ℕ) → item_depth (raw_item_of bytes) ≤ deepest_raw_item }
 {}

@@ -1,7 +1,7 @@
 //! Encodings are read back, for every type with the law of `RoundTrip`.
 
 ghost use Rattle.std.specs.Prelude.{◌≡◌, ◌↔◌, ◌++◌, ◌∷◌, ℕ, List, All, IfErr, IfOk, IsOkAnd, IsTrue, length, map};
-ghost use Rattle.rlp_reading.specs.{declared.error.DecoderError.TheVariants.OutOfMemory, Values.RoundTrip.ReadsBack, Values.ValueReading.GivesValue};
+ghost use Rattle.rlp_reading.specs.{declared.error.DecoderError.{DecoderError}, declared.error.DecoderError.TheVariants.OutOfMemory, Values.RoundTrip.ReadsBack, Values.ValueReading.GivesValue};
 ghost use Rattle.rlp_reading.specs.{Format.Framing.items, Views.View.{HoldsItem, view_of}, Form.{Faults, Gives, list_reading, reading_at}};
 ghost use Rattle.rlp_format.specs.{Format.Encoding.{BeginsWith, encoding, list_of}, Values.Value.AreAlike};
 
@@ -18,11 +18,13 @@ pub fn encoding_is_read_back<T: RoundTrip>(bytes: &[u8])
 {}
 
 /// Bytes give a value of a type with [`Scalar`] if and only if the value fits and the bytes begin with
-/// its encoding.
-#[tactic(auto, using(rlp_format::proofs::Lemmas::Digits::bytes_held, rlp_reading::proofs::Corollaries::gives_exactly))]
+/// its encoding. If they do, the bytes have no fault.
+#[tactic(auto, using(rlp_format::proofs::Lemmas::Digits::bytes_held, rlp_reading::proofs::Corollaries::gives_exactly, rlp_reading::proofs::Corollaries::gives_soundly))]
 pub fn scalar_is_read<T: Scalar>(bytes: &[u8])
-    ensures { (v : T) → Gives T.reading (view_of bytes.now) v
+    ensures exact { (v : T) → Gives T.reading (view_of bytes.now) v
         ↔ GivesValue T.fits T.item (view_of bytes.now) v }
+    ensures sound { (v : T) → GivesValue T.fits T.item (view_of bytes.now) v
+        → (e : DecoderError) → ¬ Faults T.reading (view_of bytes.now) e }
 {}
 
 /// If bytes begin with the encoding of a list of values, the items are the encodings of the values,

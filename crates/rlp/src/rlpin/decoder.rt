@@ -1,13 +1,12 @@
 //! A decoder of one string.
 
-ghost use Rattle.std.specs.{Prelude.{◌≡◌, ◌+◌, ◌-◌, length, IsTrue, None, Ok, Err, IfOk, IfErr, IfSome, IsErrAnd, MatchResult}, Fn.FnReturnsAt};
-ghost use Rattle.rlp_reading.specs.{Format.Framing.{strict_fault, value}, Views.View.{HoldsNoString, HoldsString, view_of, view_string, View}};
+ghost use Rattle.std.specs.{Prelude.{◌≡◌, ◌+◌, ◌-◌, length, IsTrue, Ok, Err, IfOk, IfErr, IfSome, IsErrAnd, MatchResult}, Fn.FnReturnsAt};
+ghost use Rattle.rlp_reading.specs.{Views.View.{HoldsNoString, HoldsString, view_of, view_string, View}};
 
 use crate::rlpin::rlp::Rlp;
 use rlp_reading::error::DecoderError;
-use rlp_reading::framed::{begins_as_list, is_followed};
+use rlp_reading::framed::is_followed;
 use rlp_reading::string_reading::string_in;
-use rlp_reading::walking::is_needless;
 use std::marker::Model;
 
 /// A decoder of the string that bytes begin with. Contracts see it as the record `View` of its
@@ -89,10 +88,7 @@ impl<'a> BasicDecoder<'a> {
         ensures held { MatchResult (view_string self.now) (λ d. HoldsString self.now d)
             (λ _. HoldsNoString self.now) }
     {
-        match self.rlp.known_string() {
-            Some(string) => Ok(string),
-            None => self.read_string(),
-        }
+        self.string_in_line()
     }
 
     /// The same as [`BasicDecoder::string`]. A string with a header of one byte is read in line.
@@ -103,9 +99,6 @@ impl<'a> BasicDecoder<'a> {
         ensures held { MatchResult (view_string self.now) (λ d. HoldsString self.now d)
             (λ _. HoldsNoString self.now) }
     {
-        if let Some(string) = self.rlp.known_string() {
-            return Ok(string);
-        }
         let (bytes, is_strict) = (self.rlp.as_raw(), self.rlp.is_strict());
         match short_string(bytes, is_strict) {
             Some(string) => Ok(string),
@@ -146,24 +139,6 @@ fn any_string(bytes: &[u8], strict: bool) -> Result<&[u8], DecoderError>
         (λ _. HoldsNoString (record { bytes = bytes.now; is_strict = strict })) }
 {
     Rlp::of_kind(bytes, strict).decoder().read_string()
-}
-
-/// The string whose encoding the bytes are. The caller knows that the bytes are exactly one item,
-/// with this content. Returns `None` for a list and for a byte that has a needless header.
-#[inline(always)]
-#[tactic(auto, using(rlp_format::proofs::Lemmas::Digits::bytes_held, rlp_reading::proofs::Trees::Needless::item_held))]
-pub(crate) fn item_string<'a>(bytes: &[u8], strict: bool, content: &'a [u8]) -> Option<&'a [u8]>
-    requires whole { strict_fault bytes.now ≡ None }
-    requires content { value bytes.now ≡ Ok content.now }
-    ensures held { IfSome result
-        (λ d. HoldsString (record { bytes = bytes.now; is_strict = strict }) d.now) }
-    ensures exact { IfSome result
-        (λ d. view_string (record { bytes = bytes.now; is_strict = strict }) ≡ Ok d.now) }
-{
-    if begins_as_list(bytes) || is_needless(bytes) {
-        return None;
-    }
-    Some(content)
 }
 
 /// Whether an item may end at `len`: nothing follows it if it is read strictly.

@@ -1,7 +1,7 @@
 //! Strings that hold a tag and the encoding of a payload.
 
-ghost use Rattle.std.specs.Prelude.{◌≡◌, ◌∷◌, ◌⊎◌, [], Err, IfErr, IfOk, IsTrue, Ok};
-ghost use Rattle.rlp_reading.specs.{declared.error.DecoderError.TheVariants.{OutOfMemory, RlpIsTooShort}, Views.View.strict_view_of, Form.{Faults, fault_of, string_of}};
+ghost use Rattle.std.specs.Prelude.{◌≡◌, ◌∷◌, ◌⊎◌, [], Err, IfErr, IfOk, Ok};
+ghost use Rattle.rlp_reading.specs.{declared.error.DecoderError.TheVariants.{OutOfMemory, RlpIsTooShort}, Views.View.strict_view_of, Form.{Faults, MayLackMemory, fault_of, string_of}};
 ghost use Rattle.rlp_format.specs.Format.Encoding.{encoding};
 
 use crate::decode_whole;
@@ -52,7 +52,8 @@ impl<'a> Envelope<'a> {
             (λ v. T.fits v × (self.now.payload.now ≡ encoding (T.item v))) }
         ensures fault { IfErr result (λ e.
             Faults T.reading (strict_view_of self.now.payload.now) e
-            ⊎ ((e ≡ OutOfMemory) × IsTrue T.reading.takes_memory)) }
+            ⊎ ((e ≡ OutOfMemory)
+            × MayLackMemory T.reading (strict_view_of self.now.payload.now))) }
     {
         decode_whole(alloc, self.payload)
     }

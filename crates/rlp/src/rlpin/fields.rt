@@ -1,9 +1,9 @@
 //! The items of a list, read in order as values.
 
 ghost use Rattle.std.specs.Prelude.{◌≡◌, ◌≢◌, ◌≤◌, ◌<◌, ◌^◌, ◌∷◌, ◌⊎◌, ◌↔◌, [], ℕ, length, map, None, Ok, Err, Some, IfOk, IfErr, IsOkAnd, IsTrue, MatchOption, MatchResult, OnOk};
-ghost use Rattle.rlp_reading.specs.{declared.error.DecoderError.TheVariants.{OutOfMemory, RlpIncorrectListLen}, Format.Framing.{fault, split, after_items}};
-ghost use Rattle.rlp_reading.specs.{Views.View.{View, item_at, item_count, item_views, items_fault}, Form.{and_then, fault_of, items_of, list_of_views, list_reading, seen_fault}};
-ghost use Rattle.rlp.specs.Left.{ItemsLeft, after_next, next_item};
+ghost use Rattle.rlp_reading.specs.{declared.error.DecoderError.TheVariants.{OutOfMemory, RlpIncorrectListLen}, Format.Framing.{split, after_items}};
+ghost use Rattle.rlp_reading.specs.{Views.View.{View, item_at, item_count, item_views, items_fault}, Form.{MayLackMemory, and_then, fault_of, items_of, list_of_views, list_reading, seen_fault}};
+ghost use Rattle.rlp.specs.Left.{ItemsLeft, after_next, next_item, past_fault};
 
 use crate::rlpin::rlp::Rlp;
 use crate::traits::Decodable;
@@ -14,8 +14,7 @@ use std::alloc::Global;
 use std::marker::Model;
 
 /// A reader of the items of a list, one after another. Contracts see it as the record `ItemsLeft` of
-/// the views of the items that are left, of the error past the last item, and of the bytes that
-/// follow the items in the list.
+/// the views of the items that are left and of the bytes that follow the items in the list.
 ///
 /// It keeps its place, so it reads the header of each item once. [`Rlp::val_at`] begins at the
 /// start of the list each time. Each call returns what [`Rlp::val_at`], [`Rlp::list_at`] or
@@ -38,7 +37,6 @@ impl<'a> Model for Fields<'a> {
 
     ghost view = { λ f. record {
       views = map (λ b. record { bytes = b; is_strict = f.strict }) (split f.items.rest);
-      past = fault (after_items f.items.rest);
       after = after_items f.items.rest;
     } };
 }
@@ -51,7 +49,7 @@ impl<'a> Rlp<'a> {
     pub fn fields(&self) -> Result<Fields<'a>, DecoderError>
         ensures items { IfOk result (λ f. items_of self.now ≡ Ok f.views) }
         ensures past { IfOk result (λ f. (i : ℕ) → length f.views ≤ i
-            → item_at self.now i ≡ Err f.past) }
+            → item_at self.now i ≡ Err (past_fault f)) }
         ensures fault { IfErr result (λ e. items_fault self.now ≡ Some e) }
     {
         self.check_items()?;
@@ -64,7 +62,7 @@ impl<'a> Rlp<'a> {
     pub fn fields_of(&self, len: usize) -> Result<Fields<'a>, DecoderError>
         ensures items { IfOk result (λ f. items_of self.now ≡ Ok f.views) }
         ensures past { IfOk result (λ f. (i : ℕ) → length f.views ≤ i
-            → item_at self.now i ≡ Err f.past) }
+            → item_at self.now i ≡ Err (past_fault f)) }
         ensures count { OnOk result (item_count self.now ≡ Ok len) }
         ensures fault { IfErr result (λ e. (item_count self.now ≡ Err e)
             ⊎ ((e ≡ RlpIncorrectListLen) × IsOkAnd (item_count self.now) (λ n. n ≢ len))) }
@@ -84,6 +82,8 @@ impl<'a> Fields<'a> {
     pub fn of(rlp: &Rlp<'a>) -> Result<Fields<'a>, DecoderError>
         ensures items { MatchResult result (λ f. items_of rlp.now ≡ Ok f.views)
             (λ e. items_of rlp.now ≡ Err (fault_of e)) }
+        ensures past { IfOk result (λ f. (i : ℕ) → length f.views ≤ i
+            → item_at rlp.now i ≡ Err (past_fault f)) }
         ensures few { IfOk result (λ f. length f.views < 2 ^ 64) }
     {
         rlp.check_items()?;
@@ -95,6 +95,8 @@ impl<'a> Fields<'a> {
     pub fn of_list(rlp: &Rlp<'a>) -> Result<Fields<'a>, DecoderError>
         ensures items { MatchResult result (λ f. list_of_views rlp.now ≡ Ok f.views)
             (λ e. list_of_views rlp.now ≡ Err (fault_of e)) }
+        ensures past { IfOk result (λ f. items_fault rlp.now ≡ None → (i : ℕ)
+            → length f.views ≤ i → item_at rlp.now i ≡ Err (past_fault f)) }
         ensures few { IfOk result (λ f. length f.views < 2 ^ 64) }
     {
         if rlp.is_strict() {
@@ -148,7 +150,7 @@ impl<'a> Fields<'a> {
     pub(crate) fn over(rlp: &Rlp<'a>) -> Fields<'a>
         ensures views { result.views ≡ item_views rlp.now }
         ensures past { items_fault rlp.now ≡ None → (i : ℕ) → length result.views ≤ i
-            → item_at rlp.now i ≡ Err result.past }
+            → item_at rlp.now i ≡ Err (past_fault result) }
         ensures few { length result.views < 2 ^ 64 }
     {
         Fields::over_items(rlp.items(), rlp.is_strict())
@@ -159,7 +161,6 @@ impl<'a> Fields<'a> {
     fn over_items(bytes: &'a [u8], strict: bool) -> Fields<'a>
         ensures exact { result ≡ record {
           views = map (λ b. record { bytes = b; is_strict = strict }) (split bytes.now);
-          past = fault (after_items bytes.now);
           after = after_items bytes.now;
         } }
         ensures few { length result.views < 2 ^ 64 }
@@ -187,7 +188,7 @@ impl<'a> Fields<'a> {
         ensures after { self.new.after ≡ self.old.after }
     {
         match self.items.next_framed() {
-            Ok(framed) => Some(Rlp::of_item(&framed, self.strict)),
+            Ok(framed) => Some(Rlp::of_kind(framed.item, self.strict)),
             Err(_) => None,
         }
     }
@@ -201,7 +202,7 @@ impl<'a> Fields<'a> {
         ensures next { self.new ≡ after_next self.old }
     {
         let framed = self.items.next_framed()?;
-        Ok(Rlp::of_item(&framed, self.strict))
+        Ok(Rlp::of_kind(framed.item, self.strict))
     }
 
     /// The value of the next item, as [`Rlp::val_at`] reads it.
@@ -210,7 +211,8 @@ impl<'a> Fields<'a> {
             (λ item. (T.reading.read item).result) ≡ Ok (T.reading.seen x)) }
         ensures fault { IfErr result (λ e. (and_then (seen_fault (next_item self.old))
             (λ item. (T.reading.read item).result) ≡ Err (fault_of e))
-            ⊎ ((e ≡ OutOfMemory) × IsTrue T.reading.takes_memory)) }
+            ⊎ ((e ≡ OutOfMemory)
+            × IsOkAnd (next_item self.old) (MayLackMemory T.reading))) }
         ensures none { IfErr (next_item self.old) (λ e. result ≡ Err e) }
         ensures next { self.new ≡ after_next self.old }
     {
@@ -225,7 +227,8 @@ impl<'a> Fields<'a> {
             ≡ Ok (map T.reading.seen values.items)) }
         ensures fault { IfErr result (λ e. (and_then (seen_fault (next_item self.old))
             (λ item. ((list_reading (λ xs. xs) T.reading).read item).result) ≡ Err (fault_of e))
-            ⊎ (e ≡ OutOfMemory)) }
+            ⊎ ((e ≡ OutOfMemory) × IsOkAnd (next_item self.old)
+            (MayLackMemory (list_reading (λ xs. xs) T.reading)))) }
         ensures none { IfErr (next_item self.old) (λ e. result ≡ Err e) }
         ensures next { self.new ≡ after_next self.old }
     {

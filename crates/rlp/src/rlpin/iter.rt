@@ -47,7 +47,7 @@ impl<'a, 'view> Iterator for RlpIterator<'a, 'view> {
             return None;
         }
         match self.items.next_framed() {
-            Ok(framed) => Some(Rlp::of_item(&framed, self.rlp.is_strict())),
+            Ok(framed) => Some(Rlp::of_kind(framed.item, self.rlp.is_strict())),
             Err(_) => {
                 self.has_ended = true;
                 None

@@ -6,10 +6,9 @@ ghost use Rattle.rlp_reading.specs.{declared.error.DecoderError.TheVariants.OutO
 ghost use Rattle.rlp_reading.specs.Format.Framing.{begins_as_list, items, split, fault, framing, total_len, value, IsCanonicalWithin, after_items, strict_fault, strict_list_fault};
 ghost use Rattle.rlp_reading.specs.{Format.TreeFaults.IsFlatFault, Values.RawItem.view_frame, Views.Depth.depth};
 ghost use Rattle.rlp_reading.specs.Views.View.{begins_as_data, begins_as_empty, begins_as_int, data_size, has_nonzero_at, item_at, item_count, item_views, item_with_place, items_fault, list_fault, prototype_of, strict_view_of, view_header, view_of, view_string, view_value, Holds, HoldsString, View};
-ghost use Rattle.rlp_reading.specs.Form.{Faults, Gives, list_reading, reading_at};
-ghost use Rattle.rlp.specs.Left.{HasValueAfter};
+ghost use Rattle.rlp_reading.specs.Form.{Faults, Gives, MayLackMemory, list_reading, reading_at};
 
-use crate::rlpin::decoder::{BasicDecoder, item_string};
+use crate::rlpin::decoder::BasicDecoder;
 use crate::rlpin::fields::Fields;
 use crate::rlpin::iter::RlpIterator;
 use crate::traits::Decodable;
@@ -28,23 +27,18 @@ use std::marker::Model;
 /// A view of bytes that may begin with an item.
 ///
 /// The same call always returns the same result. Contracts see a view as the record `View` of its
-/// bytes and its kind. A lenient view ignores the bytes after the first item. A strict view has a
-/// fault if bytes follow the first item. The view of an item of a list knows where the value of the
-/// item begins, so that the header isn't read again.
+/// bytes and its kind, and a view holds nothing else. A lenient view ignores the bytes after the
+/// first item. A strict view has a fault if bytes follow the first item.
 #[derive(Debug, Drop)]
 pub struct Rlp<'a> {
     bytes: &'a [u8],
     strict: bool,
-    // The number of bytes of the header, if the bytes are known to be exactly one item.
-    header_len: Option<u8>,
 }
 
 impl<'a> Model for Rlp<'a> {
     ghost Value = { View };
 
     ghost view = { λ r. record { bytes = r.bytes.now; is_strict = r.strict } };
-
-    ghost invariant = { λ r. IfSome r.header_len (HasValueAfter r.bytes.now) };
 }
 
 impl<'a> Rlp<'a> {
@@ -85,7 +79,6 @@ impl<'a> Rlp<'a> {
         Rlp {
             bytes: self.bytes,
             strict: self.strict,
-            header_len: self.header_len,
         }
     }
 
@@ -181,9 +174,8 @@ impl<'a> Rlp<'a> {
     /// - past the last item, the fault of the bytes in the list that follow the last item, which is
     ///   `RlpIsTooShort` if no bytes follow.
     ///
-    /// It reads the list's header and at most `index + 1` headers of items. For a strict view it
-    /// fails first as [`Rlp::item_count`] does, and reads the header of each item to find that
-    /// fault.
+    /// It reads the list's header and goes over at most `index + 1` items. For a strict view it
+    /// fails first as [`Rlp::item_count`] does, and goes over all items to find that fault.
     ///
     /// ```rust
     /// let list = rlp::Rlp::new(&[0xc4, 0x83, b'c', b'a', b't']);
@@ -200,7 +192,7 @@ impl<'a> Rlp<'a> {
 
     /// The item at `index`, counted from 0, and its place, counted from the view's first byte.
     ///
-    /// Fails as [`Rlp::at`] does, and reads the same headers.
+    /// Fails as [`Rlp::at`] does, and goes over the same items.
     #[inline(always)]
     #[tactic(auto, using(crate::proofs::Readers::walks))]
     pub fn at_with_offset(&self, index: usize) -> Result<(Rlp<'a>, usize), DecoderError>
@@ -299,7 +291,7 @@ impl<'a> Rlp<'a> {
     pub fn as_val<T: Decodable>(&self, alloc: Global) -> Result<T, DecoderError>
         ensures value { IfOk result (λ x. Gives T.reading self.now x) }
         ensures fault { IfErr result (λ e. Faults T.reading self.now e
-            ⊎ ((e ≡ OutOfMemory) × IsTrue T.reading.takes_memory)) }
+            ⊎ ((e ≡ OutOfMemory) × MayLackMemory T.reading self.now)) }
     {
         T::decode(alloc, self)
     }
@@ -309,24 +301,29 @@ impl<'a> Rlp<'a> {
     /// Fails with the fault of an item if all items before it give values. Fails with `OutOfMemory`
     /// if memory is refused for the value of an item, or for room in the vector. A lenient view
     /// that doesn't begin with a framed list gives an empty vector. A strict view that isn't
-    /// exactly one list fails as [`Rlp::item_count`] does.
+    /// exactly one list fails as [`Rlp::item_count`] does, also if memory is refused.
     ///
     /// ```rust
     /// let list = rlp::Rlp::new(&[0xc2, 0x05, 0x06]);
     /// assert_eq!(rt; list.as_list::<u64>(alloc)?.as_slice(), [5, 6].as_slice());
     /// ```
-    #[tactic(auto, using(rlp_reading::proofs::ListLaws::pushed, rlp_reading::proofs::ListLaws::all_pushed, crate::proofs::Readers::list_told, crate::proofs::Readers::list_faulty))]
+    #[tactic(auto, using(rlp_reading::proofs::ListLaws::pushed, rlp_reading::proofs::ListLaws::all_pushed, crate::proofs::Readers::list_told, crate::proofs::Readers::list_faulty, crate::proofs::Readers::some_listed))]
     pub fn as_list<T: Decodable>(&self, alloc: Global) -> Result<Vec<T>, DecoderError>
         ensures value { IfOk result
             (λ values. Gives (list_reading vec_items T.reading) self.now values) }
         ensures fault { IfErr result (λ e. Faults (list_reading (λ xs. xs) T.reading) self.now e
-            ⊎ (e ≡ OutOfMemory)) }
+            ⊎ ((e ≡ OutOfMemory) × MayLackMemory (list_reading (λ xs. xs) T.reading) self.now)) }
     {
         let mut items = Fields::framed_list(self)?;
         let mut values = Vec::new(alloc);
         while let Some(item) = items.next() {
             match T::decode(alloc, &item) {
-                Ok(value) => values.push(value)?,
+                Ok(value) => {
+                    if values.push(value).is_err() {
+                        self.check_list()?;
+                        return Err(DecoderError::OutOfMemory);
+                    }
+                }
                 Err(fault) => {
                     self.check_list()?;
                     return Err(fault);
@@ -345,7 +342,7 @@ impl<'a> Rlp<'a> {
     pub fn val_at<T: Decodable>(&self, alloc: Global, index: usize) -> Result<T, DecoderError>
         ensures value { IfOk result (λ x. Gives (reading_at index T.reading) self.now x) }
         ensures fault { IfErr result (λ e. Faults (reading_at index T.reading) self.now e
-            ⊎ ((e ≡ OutOfMemory) × IsTrue T.reading.takes_memory)) }
+            ⊎ ((e ≡ OutOfMemory) × MayLackMemory (reading_at index T.reading) self.now)) }
         ensures none { IfErr (item_at self.now index) (λ e. result ≡ Err e) }
     {
         let item = self.at(index)?;
@@ -361,7 +358,8 @@ impl<'a> Rlp<'a> {
             Gives (reading_at index (list_reading vec_items T.reading)) self.now values) }
         ensures fault { IfErr result (λ e.
             Faults (reading_at index (list_reading (λ xs. xs) T.reading)) self.now e
-            ⊎ (e ≡ OutOfMemory)) }
+            ⊎ ((e ≡ OutOfMemory)
+            × MayLackMemory (reading_at index (list_reading (λ xs. xs) T.reading)) self.now)) }
         ensures none { IfErr (item_at self.now index) (λ e. result ≡ Err e) }
     {
         let item = self.at(index)?;
@@ -395,7 +393,7 @@ impl<'a> Rlp<'a> {
         if self.is_strict() && !rest.is_empty() {
             return Err(DecoderError::RlpIsTooBig);
         }
-        Ok((Rlp::of_item(&framed, self.is_strict()), rest))
+        Ok((Rlp::of_kind(framed.item, self.is_strict()), rest))
     }
 
     /// A decoder of the view's bytes, of the same kind. A strict decoder fails with `RlpIsTooBig`
@@ -469,46 +467,11 @@ impl<'a> Rlp<'a> {
     }
 
     /// A view of these bytes, lenient or strict.
+    #[inline(always)]
     pub(crate) fn of_kind(bytes: &'a [u8], strict: bool) -> Rlp<'a>
         ensures { result ≡ record { bytes = bytes.now; is_strict = strict } }
     {
-        Rlp {
-            bytes,
-            strict,
-            header_len: None,
-        }
-    }
-
-    /// A view of an item whose header was read, lenient or strict.
-    #[inline(always)]
-    pub(crate) fn of_item(item: &Framed<'a>, strict: bool) -> Rlp<'a>
-        ensures { result ≡ record { bytes = item.now.item.now; is_strict = strict } }
-    {
-        Rlp {
-            bytes: item.item,
-            strict,
-            header_len: u8::try_from(item.header.header_len).ok(),
-        }
-    }
-
-    /// The value of the item, if the bytes are known to be exactly one item.
-    #[inline(always)]
-    fn known_content(&self) -> Option<&'a [u8]>
-        ensures whole { IfSome result (λ _. strict_fault self.now.bytes ≡ None) }
-        ensures content { IfSome result (λ d. value self.now.bytes ≡ Ok d.now) }
-    {
-        let header_len = self.header_len? as usize;
-        Some(&self.bytes[header_len..])
-    }
-
-    /// The string whose encoding the bytes are, if the bytes are known to be exactly one item.
-    /// `None` says nothing about the bytes.
-    #[inline(always)]
-    pub(crate) fn known_string(&self) -> Option<&'a [u8]>
-        ensures held { IfSome result (λ d. HoldsString self.now d.now) }
-        ensures exact { IfSome result (λ d. view_string self.now ≡ Ok d.now) }
-    {
-        item_string(self.bytes, self.strict, self.known_content()?)
+        Rlp { bytes, strict }
     }
 
     /// The bytes that begin with the items of the view: the value of a framed list. For a list that
@@ -544,9 +507,6 @@ impl<'a> Rlp<'a> {
     {
         if !self.is_list() {
             return Err(DecoderError::RlpExpectedToBeList);
-        }
-        if let Some(content) = self.known_content() {
-            return Ok(content);
         }
         if !self.strict {
             return Ok(self.items());

@@ -1,7 +1,7 @@
 //! Types whose values are read.
 
-ghost use Rattle.std.specs.Prelude.{◌≡◌, ◌⊎◌, IfOk, IfErr, IsTrue};
-ghost use Rattle.rlp_reading.specs.{declared.error.DecoderError.TheVariants.OutOfMemory, Form.{Faults, Gives, Reading}};
+ghost use Rattle.std.specs.Prelude.{◌≡◌, ◌⊎◌, IfOk, IfErr};
+ghost use Rattle.rlp_reading.specs.{declared.error.DecoderError.TheVariants.OutOfMemory, Form.{Faults, Gives, MayLackMemory, Reading}};
 
 use crate::rlpin::Rlp;
 use rlp_reading::error::DecoderError;
@@ -28,16 +28,17 @@ use std::alloc::Global;
 /// }
 /// ```
 pub trait Decodable: Sized + Drop {
-    /// What contracts see of a value, what each view gives, and whether reading allocates.
+    /// What contracts see of a value, what each view gives, and for which views reading
+    /// allocates.
     ghost reading: { Reading Self };
 
     /// Reads the value that the view begins with. The types of this crate ignore bytes that follow
     /// the item of the value.
     ///
-    /// Fails with the fault that the view gives, or with `OutOfMemory` if reading allocates and
-    /// memory is refused.
+    /// Fails with the fault that the view gives, or with `OutOfMemory` if reading allocates for this
+    /// view and memory is refused.
     fn decode(alloc: Global, rlp: &Rlp<'_>) -> Result<Self, DecoderError>
         ensures value { IfOk result (λ x. Gives reading rlp.now x) }
         ensures fault { IfErr result (λ e. Faults reading rlp.now e
-            ⊎ ((e ≡ OutOfMemory) × IsTrue reading.takes_memory)) };
+            ⊎ ((e ≡ OutOfMemory) × MayLackMemory reading rlp.now)) };
 }

@@ -2,19 +2,21 @@
 use Rattle.std.proofs.Common.{inl, inr}
 use Rattle.std.specs.Prelude.{◌⊎◌, refl}
 use Rattle.rlp_messages.specs.{Eth.EthMessage.{EthBody, eth_bodies}, Eth.Receipts.receipts, Eth.Requests.with_request_id, Eth.Status.status68}
-use Rattle.rlp_messages.specs.{Message.{Bodies, Table, and_message}, declared.eth.eth68_message.Eth68Message.Eth68Message}
+use Rattle.rlp_messages.specs.declared.eth.eth68_message.Eth68Message.{Eth68Message}
 use Rattle.rlp_messages.specs.{declared.eth.receipts.Receipts.Receipts, declared.eth.requests.WithRequestId.WithRequestId, declared.eth.status.Status68.{Status68}}
 use Rattle.rlp_messages.specs.declared.eth.eth68_message.Eth68Message.TheVariants as message
+use Rattle.rlp_p2p.specs.Message.{Bodies, Table, and_enveloped, and_message}
 
 -- the types of the bodies
 abbrev pub Eth68Body : Type 0
 Eth68Body = Status68 ⊎ (WithRequestId Receipts ⊎ EthBody)
 
--- the bodies with their numbers: Status (0x00) and Receipts (0x10) of eth/68, and the messages of both versions
+-- The bodies with their numbers: Status (0x00) and Receipts (0x10) of eth/68, and the messages of both versions. A receipt stands inside 3 lists, in
+-- [request-id, [[receipt₁, receipt₂, ...], ...]].
 abbrev pub eth68_bodies : Bodies Eth68Body
 eth68_bodies =
     and_message 0x00 refl status68 (
-    and_message 0x10 refl (with_request_id receipts) eth_bodies)
+    and_enveloped 0x10 refl 3 (with_request_id receipts) eth_bodies)
 
 -- the body of a message
 abbrev pub eth68_body : Eth68Message → Eth68Body

@@ -2,7 +2,7 @@
 use Rattle.std.specs.Vec.{vec_items}
 use Rattle.rlp.specs.{Codec.{Codec, Fields, end, field, list_type, number, struct_of, truth_value}, Form.{Reading, group_before, no_fields, one_field, struct_reading}}
 use Rattle.rlp_records.specs.Hash.{hash}
-use Rattle.rlp_transactions.specs.PooledTransaction.{pooled_transaction}
+use Rattle.rlp_pooled.specs.PooledTransaction.{pooled_transaction}
 use Rattle.rlp_headers.specs.Header.{header}
 use Rattle.rlp_blocks.specs.Block.{body}
 use Rattle.rlp_messages.specs.{Eth.HashOrNumberLaws.hash_or_number, declared.eth.requests.BlockBodies.BlockBodies, declared.eth.requests.WithRequestId.{WithRequestId}}

@@ -79,7 +79,9 @@ impl Record for NewBlockHashes {
 pub struct NewPooledTransactionHashes {
     /// The types of the transactions, a byte each, and 0 for legacy transactions.
     pub types: Vec<u8>,
-    /// The lengths of the encodings of the transactions, in bytes.
+    /// The lengths of the transactions in bytes, each as `to_bytes` of its
+    /// [`PooledTransaction`](rlp_transactions::PooledTransaction) writes it: the type and the
+    /// payload without a header, and a blob transaction with its blobs.
     pub sizes: Vec<u64>,
     /// The hashes of the transactions.
     pub hashes: Vec<Hash>,

@@ -4,10 +4,11 @@ ghost use Rattle.rlp_messages.specs.Eth.Eth68Message.{eth68};
 
 use crate::{
     BlockBodies, BlockHeaders, GetBlockBodies, GetBlockHeaders, GetPooledTransactions, GetReceipts,
-    Message, NewBlock, NewBlockHashes, NewPooledTransactionHashes, Numbered, PooledTransactions,
-    Protocol, Receipts, Status68, Transactions, WithRequestId,
+    NewBlock, NewBlockHashes, NewPooledTransactionHashes, PooledTransactions, Receipts, Status68,
+    Transactions, WithRequestId,
 };
 use rlp::{DecoderError, Encodable, RlpStream};
+use rlp_p2p::{Message, Numbered, Protocol};
 use std::alloc::{AllocError, Global};
 
 /// The capability `eth/68`, whose messages have the ids from 0x00 to 0x10.
@@ -94,23 +95,23 @@ impl Message for Eth68Message {
         message: &Numbered<'_>,
         most: Option<usize>,
     ) -> Result<Eth68Message, DecoderError> {
-        crate::decode_numbered!(
+        rlp_p2p::decode_numbered!(
             alloc,
             message,
             most,
             0x00 => Eth68Message::Status,
             0x01 => Eth68Message::NewBlockHashes,
-            0x02 => Eth68Message::Transactions,
+            0x02 with envelopes inside 1 => Eth68Message::Transactions,
             0x03 => Eth68Message::GetBlockHeaders,
             0x04 => Eth68Message::BlockHeaders,
             0x05 => Eth68Message::GetBlockBodies,
-            0x06 => Eth68Message::BlockBodies,
-            0x07 => Eth68Message::NewBlock,
+            0x06 with envelopes inside 4 => Eth68Message::BlockBodies,
+            0x07 with envelopes inside 3 => Eth68Message::NewBlock,
             0x08 => Eth68Message::NewPooledTransactionHashes,
             0x09 => Eth68Message::GetPooledTransactions,
-            0x0a => Eth68Message::PooledTransactions,
+            0x0a with envelopes inside 2 => Eth68Message::PooledTransactions,
             0x0f => Eth68Message::GetReceipts,
-            0x10 => Eth68Message::Receipts,
+            0x10 with envelopes inside 3 => Eth68Message::Receipts,
         )
     }
 }

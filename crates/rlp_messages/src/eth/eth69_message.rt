@@ -4,11 +4,11 @@ ghost use Rattle.rlp_messages.specs.Eth.Eth69Message.{eth69};
 
 use crate::{
     BlockBodies, BlockHeaders, BlockRangeUpdate, GetBlockBodies, GetBlockHeaders,
-    GetPooledTransactions, GetReceipts, Message, NewBlock, NewBlockHashes,
-    NewPooledTransactionHashes, Numbered, PooledTransactions, Protocol, Receipts69, Status69,
-    Transactions, WithRequestId,
+    GetPooledTransactions, GetReceipts, NewBlock, NewBlockHashes, NewPooledTransactionHashes,
+    PooledTransactions, Receipts69, Status69, Transactions, WithRequestId,
 };
 use rlp::{DecoderError, Encodable, RlpStream};
+use rlp_p2p::{Message, Numbered, Protocol};
 use std::alloc::{AllocError, Global};
 
 /// The capability `eth/69`, whose messages have the ids from 0x00 to 0x11.
@@ -99,21 +99,21 @@ impl Message for Eth69Message {
         message: &Numbered<'_>,
         most: Option<usize>,
     ) -> Result<Eth69Message, DecoderError> {
-        crate::decode_numbered!(
+        rlp_p2p::decode_numbered!(
             alloc,
             message,
             most,
             0x00 => Eth69Message::Status,
             0x01 => Eth69Message::NewBlockHashes,
-            0x02 => Eth69Message::Transactions,
+            0x02 with envelopes inside 1 => Eth69Message::Transactions,
             0x03 => Eth69Message::GetBlockHeaders,
             0x04 => Eth69Message::BlockHeaders,
             0x05 => Eth69Message::GetBlockBodies,
-            0x06 => Eth69Message::BlockBodies,
-            0x07 => Eth69Message::NewBlock,
+            0x06 with envelopes inside 4 => Eth69Message::BlockBodies,
+            0x07 with envelopes inside 3 => Eth69Message::NewBlock,
             0x08 => Eth69Message::NewPooledTransactionHashes,
             0x09 => Eth69Message::GetPooledTransactions,
-            0x0a => Eth69Message::PooledTransactions,
+            0x0a with envelopes inside 2 => Eth69Message::PooledTransactions,
             0x0f => Eth69Message::GetReceipts,
             0x10 => Eth69Message::Receipts,
             0x11 => Eth69Message::BlockRangeUpdate,

@@ -11,8 +11,8 @@ use rlp::{
 };
 use rlp_blocks::Body;
 use rlp_headers::Header;
+use rlp_pooled::PooledTransaction;
 use rlp_records::Hash;
-use rlp_transactions::PooledTransaction;
 use std::alloc::{AllocError, Global};
 
 /// Asks for headers, in message 0x03 of `eth`: the list of its four fields.

@@ -117,14 +117,6 @@ strict_whole b h n has whole = ap (strict_fault_in b) (framing_is b h n has (ome
 pub item_whole : (b : List ℕ) → IsFramedItem b → strict_fault b ≡ None
 item_whole b framed = strict_whole b framed.header_len framed.value_len framed.has_header framed.whole
 
-whole_by : (b : List ℕ) (r : Result PayloadInfo DecoderError) → Frames b r → strict_fault_in b r ≡ None → IsFramedItem b
-whole_by b r frames none = grind arith
-
--- only a framed item has no strict fault
-pub whole_item : (b : List ℕ) → AreBytes b → strict_fault b ≡ None → IsFramedItem b
-unfolding strict_fault
-whole_item b bytes none = whole_by b (framing b) (framing_reads b bytes) none
-
 pub strict_followed : (b : List ℕ) (h n : ℕ) → HasHeader b h n → h + n < length b → strict_fault b ≡ Some RlpIsTooBig
 unfolding strict_fault
 strict_followed b h n has more = ap (strict_fault_in b) (framing_is b h n has (omega arith)) ∙ cond-true (ltb (h + n) (length b)) _ _ (lt-ltb _ _ more)

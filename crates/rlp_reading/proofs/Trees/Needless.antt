@@ -1,14 +1,13 @@
 -- Strings with and without a needless header.
 use Rattle.std.proofs.Common.{◌≡◌, ℕ, ◌+◌, ◌^◌, ◌<◌, ◌≤◌, List, ◌++◌, length, take, drop, refl, sym, ap, ◌∙◌, Ok, Result, append_assoc, take_at}
-use Rattle.std.proofs.{Common.{drop_at, length-append, arith, true, false, None, append-nil, lt-ltb}, lemmas.Bool.{cases_Bool, cond-false, cond-true, lt-leb}}
+use Rattle.std.proofs.{Common.{drop_at, length-append, arith, true, false, lt-ltb}, lemmas.Bool.{cases_Bool, cond-false, cond-true, lt-leb}}
 use Rattle.std.proofs.{lemmas.List.{nil_from_length}, lemmas.Grind.{common_steps}}
-use Rattle.rlp_format.specs.Format.Encoding.{string, encoding, written_header, AreBytes, is_low_byte}
+use Rattle.rlp_format.specs.Format.Encoding.{string, encoding, written_header, is_low_byte}
 use Rattle.rlp_format.proofs.{Lemmas.Encodings.{IsLone, IsWritten}, Lemmas.Headers.{shape, written_header_short}}
 use Rattle.rlp_reading.specs.{declared.error.DecoderError.DecoderError, declared.header.PayloadInfo.PayloadInfo}
 use Rattle.rlp_reading.specs.Format.Framing.{lone, written, header, payload_info, IsString, HasHeader, IsFramedItem, framing, value, begins_as_list}
-use Rattle.rlp_reading.specs.{Format.Framing.{strict_fault}, Views.View.{View, HoldsString, view_string}, Format.TreeFaults.{is_needless}}
-use Rattle.rlp_reading.proofs.{Lemmas.Reading.read, Lemmas.Frames.{framing_is, value_is}, Lemmas.StringsHeld.held_only}
-use Rattle.rlp_reading.proofs.Lemmas.Fronts as fronts
+use Rattle.rlp_reading.specs.Format.TreeFaults.{is_needless}
+use Rattle.rlp_reading.proofs.{Lemmas.Reading.read, Lemmas.Frames.{framing_is, value_is}}
 use Rattle.rlp_reading.proofs.Lemmas.Views.{after_header, list_header_first}
 use Rattle.rlp_format.specs.Format.Encoding.{IsBase}
 
@@ -92,23 +91,3 @@ list_form (written base n rest is_base small) kind = let s = shape base n small 
 -- the header of a list has a byte
 pub list_header : {b : List ℕ} {p : PayloadInfo} {c : List ℕ} → IsWhole b p c → true ≡ begins_as_list b → 0 < p.header_len
 list_header w kind = list_form w.has kind
-
--- ---- a view that is exactly one item
-
--- such a string is the encoding of its value, unless the header is needless
-pub string_of_item : (b c : List ℕ) → AreBytes b → strict_fault b ≡ None → value b ≡ Ok c → begins_as_list b ≡ false → is_needless b ≡ false → b ≡ encoding (string c)
-string_of_item b c bytes none is kind plain =
-    let framed = fronts.whole_item b bytes none in
-    let p = payload_info framed.header_len framed.value_len in
-    let w = whole_item framed (framing_is b framed.header_len framed.value_len framed.has_header (omega (arith, framed.whole))) is in
-    (string_whole w (sym kind) plain).0
-
--- a view of such a string holds the value
-pub item_held : (v : View) (c : List ℕ) → AreBytes v.bytes → strict_fault v.bytes ≡ None → value v.bytes ≡ Ok c → begins_as_list v.bytes ≡ false
-    → is_needless v.bytes ≡ false → HoldsString v c
-item_held v c bytes none is kind plain = grind (arith, string_of_item, append-nil)
-
--- the value is the string that is read
-pub item_string : (v : View) (c : List ℕ) → length v.bytes < 2 ^ 64 → AreBytes v.bytes → strict_fault v.bytes ≡ None → value v.bytes ≡ Ok c
-    → begins_as_list v.bytes ≡ false → is_needless v.bytes ≡ false → view_string v ≡ Ok c
-item_string v c fits bytes none is kind plain = held_only v c fits (item_held v c bytes none is kind plain)

@@ -1,6 +1,6 @@
 //! A buffer, and the number of its bytes that were moved to a later place.
 
-ghost use Rattle.std.specs.Prelude.{◌≡◌, ◌<◌, ◌≤◌, ◌+◌, ◌-◌, ◌^◌, ◌++◌, ◌↔◌, IsTrue, length, take, drop, OnOk, OnErr};
+ghost use Rattle.std.specs.Prelude.{◌≡◌, ◌<◌, ◌≤◌, ◌+◌, ◌-◌, ◌^◌, ◌++◌, ◌↔◌, IsTrue, length, take, drop, IfOk, OnOk, OnErr};
 ghost use Rattle.bytes.specs.Filled.{MakesSpare};
 ghost use Rattle.rlp_format.specs.Format.Encoding.{written_header};
 ghost use Rattle.rlp_write.specs.Streams.Closing.{header_len};
@@ -133,6 +133,21 @@ impl Buffer {
         let all = len.saturating_mul(parts).saturating_add(LONGEST_GROWTH);
         let ahead = AHEAD_UP_TO.saturating_sub(self.bytes.len());
         self.bytes.reserve(len.max(all.min(ahead)))
+    }
+
+    /// The number of bytes if `more` bytes are appended. Fails if that is more than a buffer can
+    /// have.
+    #[inline]
+    pub(crate) fn len_with(&self, more: usize) -> Result<usize, AllocError>
+        requires { more < 2 ^ 63 }
+        ensures value { IfOk result (λ n. n ≡ length self.now.items + more) }
+        ensures bound { IfOk result (λ n. n < 2 ^ 63) }
+    {
+        let len = self.bytes.len() + more;
+        if len > isize::MAX as usize {
+            return Err(AllocError);
+        }
+        Ok(len)
     }
 
     /// Appends `more` bytes of any value. There must be room for them.

@@ -129,6 +129,8 @@ impl<'a> Chain<'a> {
         ensures ok { IfOk result
             (λ c. c.stream.now.state ≡ effect begin_unbounded_list self.entry.stream.now.state) }
         ensures moved { IfOk result (λ c. MovesWithin self.entry.stream.now c.stream.now) }
+        ensures not_moved { IfOk result
+            (λ c. c.stream.now.moved ≡ self.entry.stream.now.moved) }
         ensures same_stream { HoldsStream self.entry.stream result }
     {
         let Chain { stream } = self;

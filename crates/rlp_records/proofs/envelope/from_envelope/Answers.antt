@@ -12,7 +12,7 @@ returns-in-len1-up-clause-value g c =
 pub returns-in-len1-up-clause-fault : goal.returns-in-len1-up-clause-fault
 returns-in-len1-up-clause-fault g c =
     rest_fails c.args.kind c.args.bytes.now _ (with_first c.args.kind c.args.bytes.now c.in-len1-up.len_at_least c.if-first-kind.true) another_type
-    (form_of g.T.Encodable.fits g.T.Encodable.item g.T.Decodable.reading) _ c.decode_whole.result c.decode_whole.ensures.fault
+    (form_of g.T.Encodable.fits g.T.Encodable.item g.T.Decodable.reading) _ _ c.decode_whole.result c.decode_whole.ensures.fault
 
 pub returns-in-len1-up-clause-whole : goal.returns-in-len1-up-clause-whole
 returns-in-len1-up-clause-whole g c =

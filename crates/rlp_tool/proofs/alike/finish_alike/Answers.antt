@@ -1,6 +1,6 @@
 use Rattle.std.proofs.{Common.{rules, ◌≡◌, ◌↔◌, ◌⊎◌, inl, inr, refl, true, false, ⊎_elim, ℕ, List, Option, Some, None, IsNone, IsSome, subst, sym, Result, Ok, Err, IfErr}}
 use Rattle.rlp.specs.{Streams.Stream.Call, Streams.Described.FinishAs}
-use Rattle.rlp_tool.specs.{declared.building.BuildFault.BuildFault, Building.{AreJoined, DescribeItems, IsRefusal}, StreamCalls.calls_of}
+use Rattle.rlp_tool.specs.{declared.building.BuildFault.BuildFault, Building.{AreJoined, DescribeItems, IsRefusalOnCopy}, StreamCalls.calls_of}
 use Rattle.rlp_tool.proofs.alike.finish_alike.Goals as goal
 
 -- ---- an option that is `None` if and only if P holds
@@ -17,7 +17,7 @@ some_fails (Some y) x e told = λ p. let wrong : true ≡ false = told.1 p in le
 
 -- the first calls describe items, and the second have a fault
 second_refused : {T : Type 0} (front : List ℕ) (ones others : List Call) (r : Result T BuildFault) → DescribeItems front ones
-    → IfErr r (IsRefusal front others) → IfErr r (λ fault. IsRefusal front ones fault ⊎ (DescribeItems front ones × IsRefusal front others fault))
+    → IfErr r (IsRefusalOnCopy front others) → IfErr r (λ fault. IsRefusalOnCopy front ones fault ⊎ (DescribeItems front ones × IsRefusalOnCopy front others fault))
 second_refused front ones others (Ok x) described told = tt
 second_refused front ones others (Err fault) described told = inr (described, told)
 

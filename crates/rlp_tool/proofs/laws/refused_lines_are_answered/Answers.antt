@@ -3,8 +3,8 @@ use Rattle.rlp_tool.proofs.AnswerLemmas.{answer-calls, answer-no_items, answer-n
 use Rattle.rlp_tool.proofs.laws.refused_lines_are_answered.Goals as goal
 
 pub returns : goal.returns
-returns c = record {
-  too_many = λ calls place says r. answer-calls c.args.line.now calls says ∙ answer-too_many calls place r;
-  nothing_to_finish = λ calls place says r. answer-calls c.args.line.now calls says ∙ answer-nothing calls place r;
-  raw_not_items = λ calls place says r. answer-calls c.args.line.now calls says ∙ answer-no_items calls place r;
+returns c = let test = c.raw_items_pass_the_test.ensures in record {
+  too_many = λ calls place says r. answer-calls test.pass test.only c.args.line.now calls says ∙ answer-too_many test.pass test.only calls place r;
+  nothing_to_finish = λ calls place says r. answer-calls test.pass test.only c.args.line.now calls says ∙ answer-nothing test.pass test.only calls place r;
+  raw_not_items = λ calls place says r. answer-calls test.pass test.only c.args.line.now calls says ∙ answer-no_items test.pass test.only calls place r;
 }

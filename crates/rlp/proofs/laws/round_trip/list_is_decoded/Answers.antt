@@ -11,4 +11,4 @@ returns-clause-alike g c = λ vs all begins.
 
 pub returns-clause-memory : goal.returns-clause-memory
 returns-clause-memory g c = λ vs all begins.
-    list_memory (form_of _ _ _) g.met.T.RoundTrip.round_trip.back _ vs (omega arith) all begins _ c.decode_list.ensures.fault
+    list_memory (form_of _ _ _) g.met.T.RoundTrip.round_trip.back _ vs (omega arith) all begins _ _ c.decode_list.ensures.fault

@@ -1,0 +1,3 @@
+pub mod Complements
+pub mod RoundConstants
+pub mod Sponge

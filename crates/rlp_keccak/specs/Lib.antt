@@ -1,0 +1,2 @@
+pub mod Complements
+pub mod Keccak

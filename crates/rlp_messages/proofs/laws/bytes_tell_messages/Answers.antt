@@ -1,5 +1,0 @@
-use Rattle.rlp_messages.proofs.Messages.{message_told}
-use Rattle.rlp_messages.proofs.laws.bytes_tell_messages.Goals as goal
-
-pub returns : goal.returns
-returns g c = message_told g.M.Message.table

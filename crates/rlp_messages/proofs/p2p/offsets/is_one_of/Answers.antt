@@ -1,8 +1,0 @@
-use Rattle.rlp_messages.proofs.BothEnds.{none_of_ours}
-use Rattle.rlp_messages.specs.P2p.Offsets.{is_named, known_of}
-use Rattle.rlp_messages.proofs.p2p.offsets.is_one_of.Goals as goal
-
-pub returns : goal.returns
-returns c =
-    none_of_ours (is_named c.args.protocol.now.name.now c.args.protocol.now.version) known_of c.args.ours.now c.loop-other.other-index
-    c.loop-other-test.false c.loop-other.invariant

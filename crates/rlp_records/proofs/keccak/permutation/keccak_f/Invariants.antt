@@ -1,6 +1,0 @@
-use Rattle.std.proofs.Common.{◌≡◌, ◌*◌}
-use Rattle.rlp_records.specs.{Complements.{masked}, Keccak.{rounds}}
-use Rattle.rlp_records.proofs.keccak.permutation.keccak_f.Given as goal
-
-abbrev pub invariant-rounds : goal.invariant-rounds
-invariant-rounds l = masked l.state ≡ rounds (masked l.initial.state) (2 * l.i)
