@@ -9,9 +9,9 @@ def classes(records):
     wrong, record, fields, list_of, types = records.Wrong, records.Record, records.fields, records.ListOf, dict(records.TYPES)
 
     class Disconnect:
-        """The number of a reason: in a list, or alone."""
+        """The number of a reason: in a list, which may have none, or alone."""
 
-        listed = record([("reason", types["u8"])])
+        listed = record([("reason", types["u8"])], (0, 1))
 
         def lines(self, name, data):
             if data and data[0] >= 0xC0:

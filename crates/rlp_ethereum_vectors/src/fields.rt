@@ -26,8 +26,10 @@ pub(crate) fn answer(alloc: Global, name: &str, bytes: &[u8]) -> Result<String, 
         "deposit receipt" => text(alloc, DepositReceipt::from_bytes(alloc, bytes)?),
         "disconnect" => {
             let message = rlp::decode_strict::<Disconnect>(alloc, bytes)?;
-            let number = message.reason().number();
-            Ok(format!(in alloc; "{message:?} {number}")?)
+            match message.reason() {
+                Some(reason) => Ok(format!(in alloc; "{message:?} {}", reason.number())?),
+                None => Ok(format!(in alloc; "{message:?} none")?),
+            }
         }
         _ => text(alloc, P2pMessage::from_message(alloc, 0, bytes)?),
     }

@@ -1,7 +1,7 @@
 -- How the end of a connection is written and read.
-use Rattle.std.specs.Prelude.{ℕ, ◌≢◌, ◌<◌, ⊤, ◌⊎◌, refl}
+use Rattle.std.specs.Prelude.{ℕ, ◌≢◌, ◌<◌, ⊤, ◌⊎◌, Option, Some, refl}
 use Rattle.std.proofs.Common.{inl, inr}
-use Rattle.rlp.specs.{Codec.{Codec, Fields, end, field, newtype, number, struct_of}, Codec.list_or_string}
+use Rattle.rlp.specs.{Codec.{Codec, Fields, newtype, number, optional, struct_of}, Codec.list_or_string}
 use Rattle.rlp_p2p.specs.{declared.disconnect.Disconnect.Disconnect, declared.disconnect.Disconnect.TheVariants.{Bare, Listed}}
 use Rattle.rlp_p2p.specs.declared.disconnect.DisconnectReason.{DisconnectReason}
 use Rattle.rlp_p2p.specs.declared.disconnect.DisconnectReason.TheVariants.{AlreadyConnected, ClientQuitting, IncompatibleVersion, NullIdentity, Other, OwnIdentity, PingTimeout, ProtocolBreach, Requested, SubprotocolError, TcpError, TooManyPeers, UnexpectedIdentity, UselessPeer}
@@ -32,20 +32,20 @@ NamedIfPossible reason = ⊤
 abbrev pub reason : Codec DisconnectReason
 reason = newtype reason_number (number 1)
 
--- [reason: P] of RLPx: the one field
-abbrev pub listed_fields : Fields DisconnectReason
-listed_fields = field (λ (r : DisconnectReason). r) reason end
+-- [reason: P] of RLPx: the one field, which is optional
+abbrev pub listed_fields : Fields (Option DisconnectReason)
+listed_fields = optional (λ (r : Option DisconnectReason). r) reason
 
 -- the reason in the list, or the reason alone
-abbrev pub form : Disconnect → DisconnectReason ⊎ DisconnectReason
+abbrev pub form : Disconnect → Option DisconnectReason ⊎ DisconnectReason
 form (Listed r) = inl r
 form (Bare r) = inr r
 
--- the reason of a disconnect, in a list or alone
-abbrev pub told_reason : Disconnect → DisconnectReason
+-- the reason of a disconnect, in a list or alone; an empty list has none
+abbrev pub told_reason : Disconnect → Option DisconnectReason
 told_reason (Listed r) = r
-told_reason (Bare r) = r
+told_reason (Bare r) = Some r
 
--- the list of the reason, or its string
+-- the list of the reason or of nothing, or the string of the reason
 abbrev pub disconnect : Codec Disconnect
 disconnect = newtype form (list_or_string (struct_of listed_fields) reason (λ r. refl) (λ r. refl))

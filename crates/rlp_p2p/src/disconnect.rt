@@ -3,7 +3,7 @@
 ghost use Rattle.std.specs.Prelude.{◌≡◌};
 ghost use Rattle.rlp_p2p.specs.Disconnect.{NamedIfPossible, disconnect, reason, reason_number, told_reason};
 
-use rlp::{DecoderError, Encodable, Record, Rlp, RlpStream};
+use rlp::{DecoderError, Encodable, Optional, OptionalField, Record, Rlp, RlpStream};
 use std::alloc::{AllocError, Global};
 
 /// Why a client ends a connection: a number of one byte. The variants are the names of the numbers
@@ -115,27 +115,29 @@ impl Record for DisconnectReason {
 
 /// The last message of a connection, 0x01 of `p2p`, in one of two forms.
 ///
-/// RLPx says that the message is the list of the reason. Some clients send the reason alone.
+/// RLPx says that the message is a list, and that the reason in it is optional. Some clients send
+/// the reason alone.
 ///
 /// The reason 0 is the empty string, `80`. Reading fails for the string of the byte 0, `00`, alone
 /// or in a list (`c100`), and for a list with items after the reason, though some clients read
 /// these messages.
 #[derive(Debug, Clone, Copy, PartialEq, Eq)]
 pub enum Disconnect {
-    /// The list of the reason.
-    Listed(DisconnectReason),
+    /// The list of the reason, or the empty list.
+    Listed(Option<DisconnectReason>),
     /// The reason alone.
     Bare(DisconnectReason),
 }
 
 impl Disconnect {
-    /// Returns the reason, whichever form the message has.
-    pub fn reason(self) -> DisconnectReason
+    /// Returns the reason, whichever form the message has, or `None` if the message is the empty
+    /// list.
+    pub fn reason(self) -> Option<DisconnectReason>
         ensures { result ≡ told_reason self }
     {
         match self {
             Disconnect::Listed(reason) => reason,
-            Disconnect::Bare(reason) => reason,
+            Disconnect::Bare(reason) => Some(reason),
         }
     }
 }
@@ -147,13 +149,14 @@ impl Encodable for Disconnect {
 
     fn rlp_append(&self, s: &mut RlpStream) -> Result<(), AllocError> {
         match self {
-            Disconnect::Listed(reason) => rlp::append_fields!(s, reason),
+            Disconnect::Listed(reason) => rlp::append_fields!(s, Optional(reason)),
             Disconnect::Bare(reason) => reason.rlp_append(s),
         }
     }
 }
 
-/// Reading a list fails as reading a struct of one field does, and else as reading a number does.
+/// Reading a list fails as reading a struct of one optional field does, and else as reading a number
+/// does.
 impl Record for Disconnect {
     ghost reading = { disconnect.reading };
 
@@ -161,8 +164,7 @@ impl Record for Disconnect {
         if rlp.is_list() {
             return match rlp::decode_struct(alloc, rlp) {
                 Ok(fields) => {
-                    let (reason, no_more) = fields;
-                    let () = no_more;
+                    let OptionalField(reason) = fields;
                     Ok(Disconnect::Listed(reason))
                 }
                 Err(fault) => Err(fault.fault),
@@ -173,7 +175,7 @@ impl Record for Disconnect {
 
     fn put_path(alloc: Global, rlp: &Rlp<'_>, path: &mut Vec<usize>) -> Result<(), AllocError> {
         if rlp.is_list() {
-            return rlp::put_struct_path!(alloc, rlp, path, DisconnectReason);
+            return rlp::put_path_of::<OptionalField<DisconnectReason>>(alloc, rlp, path);
         }
         DisconnectReason::put_path(alloc, rlp, path)
     }

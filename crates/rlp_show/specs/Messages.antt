@@ -9,13 +9,13 @@ use Rattle.rlp_show.specs.{Blocks.{block_display}, declared.sink.BytesKind.TheVa
 use Rattle.rlp_show.specs.Display.{a_bit, a_content, a_list, a_number, a_string, an_object, bytes_as, content_bytes, end, in_order, one, one_if, same, through}
 use Rattle.rlp_show.specs.{DisplayLaws.back_apart, ItemDisplays.raw_item_display, Records.{log_display, status_fields}, Value.{Content, Display, Fields, bytes, number}}
 
--- the reason in a list, or the reason alone, which are shown alike
-abbrev pub reason_of : disconnect.reading.M → ℕ
-reason_of (inl listed) = listed.0
-reason_of (inr reason) = reason
+-- the reason in a list, or the reason alone, which are shown alike; an empty list has none
+abbrev pub reason_of : disconnect.reading.M → Option ℕ
+reason_of (inl listed) = listed
+reason_of (inr reason) = Some reason
 
 unfoldable pub disconnect_display : Display disconnect.reading.M
-disconnect_display = an_object (through reason_of (one (codes "reason") a_number))
+disconnect_display = an_object (through reason_of (one_if (codes "reason") a_number))
 
 abbrev pub capability_display : Display capability.reading.M
 capability_display = an_object (same (codes "name") (bytes_as Word) (same (codes "version") a_number end))

@@ -167,18 +167,17 @@ impl Show for Pong {
     }
 }
 
-/// The reason, whichever form the message has.
+/// The reason, if there is one, whichever form the message has.
 impl Show for Disconnect {
     ghost display = { seen_as disconnect.reading.seen shown.disconnect_display };
 
     #[tactic(auto, unfolding(crate::specs::Messages::disconnect_display))]
     fn show<S: Sink>(&self, alloc: Global, name: &str, sink: &mut S) -> Result<(), AllocError> {
-        match self {
-            Disconnect::Listed(reason) | Disconnect::Bare(reason) => {
-                let number = number(u64::from(reason.number()));
-                show_fields!(alloc, name, sink; "reason" number)
-            }
-        }
+        let reason = match self.reason() {
+            Some(reason) => Some(number(u64::from(reason.number()))),
+            None => None,
+        };
+        show_fields!(alloc, name, sink; "reason" ? &reason)
     }
 }
 
