@@ -7,8 +7,8 @@ from tree import ROOT, below, crates, measured
 WIDTH, HEIGHT, STEP, GAP, MARGIN = 150, 34, 64, 14, 12
 # Where the picture has a crate from left to right, in boxes: no line crosses a box. Another crate stands at the left.
 COLUMNS = {
-    "rlp_keccak": 0, "rlp_format": 1.5, "rlp_write": 1, "rlp_reading": 2, "rlp_lines": 5.6, "rlp": 1.5, "rlp_records": 0.9, "rlp_tool": 3.4,
-    "rlp_node_record": 0, "rlp_transactions": 1, "rlp_headers": 2, "rlp_p2p": 3, "rlp_trie": 4, "rlp_blocks": 0.4, "rlp_pooled": 1.48, "rlp_c": 3.05,
+    "rlp_keccak": 0, "rlp_format": 1.5, "rlp_stream": 3, "rlp_write": 1, "rlp_reading": 2, "rlp_lines": 5.6, "rlp": 1.5, "rlp_records": 0.9, "rlp_tool": 3.4,
+    "rlp_node_record": 0, "rlp_transactions": 1, "rlp_headers": 2, "rlp_p2p": 3, "rlp_trie": 4, "rlp_blocks": 0.4, "rlp_pooled": 1.48, "rlp_c": 2.6, "rlp_state": 3.7,
     "rlp_messages": 1.5, "rlp_show": 3.6,
 }
 # Crates that the picture leaves out: tests, examples, measurements, and `main` functions.

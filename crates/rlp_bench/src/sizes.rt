@@ -4,6 +4,8 @@ use crate::reading::by_iter;
 use crate::summed;
 use crate::writing::closed_at_once;
 use rlp::{RlpStream, decode, decode_list, encode};
+use rlp_records::{Hash, keccak256};
+use rlp_trie::ordered_root;
 use std::alloc::Global;
 
 /// A number of eight bytes, the item of lists.
@@ -48,6 +50,14 @@ pub(crate) fn run(alloc: Global, operation: &str, size: usize, times: usize) -> 
             // The shift is 0. It keeps the compiler from reading the list once for all turns.
             summed(times, |turn| by_iter(stream.as_raw().get(turn >> 60..)?))
         }
+        "list_root" => {
+            let values = values(alloc, size)?;
+            summed(times, |_| list_root(alloc, values.as_slice()))
+        }
+        "value_hashes" => {
+            let values = values(alloc, size)?;
+            summed(times, |_| Some(value_hashes(values.as_slice())))
+        }
         "close_at_once" => summed(times, |_| Some(closed_at_once(alloc, size)?.as_raw().len())),
         "close_one_by_one" => summed(times, |_| closed_one_by_one(alloc, size)),
         _ => None,
@@ -78,4 +88,40 @@ fn closed_one_by_one(alloc: Global, size: usize) -> Option<usize> {
         stream.finalize_unbounded_list().ok()?;
     }
     Some(stream.as_raw().len())
+}
+
+/// The number of bytes of a value of an ordered list, as of a transaction that pays.
+const VALUE_LEN: usize = 110;
+
+/// This many values, each of which begins with its place.
+fn values(alloc: Global, size: usize) -> Option<Vec<Vec<u8>>> {
+    let mut values = Vec::new(alloc);
+    for place in 0..size {
+        let mut value = vec![in alloc; 0x5au8; VALUE_LEN].ok()?;
+        let [low, high, ..] = place.to_le_bytes();
+        value[0] = low;
+        value[1] = high;
+        values.push(value).ok()?;
+    }
+    Some(values)
+}
+
+/// The first byte of the root of the trie of a list.
+fn list_root(alloc: Global, values: &[Vec<u8>]) -> Option<usize> {
+    let mut slices = Vec::with_capacity(alloc, values.len()).ok()?;
+    for value in values {
+        slices.push(value.as_slice()).ok()?;
+    }
+    let Hash([first, ..]) = ordered_root(alloc, slices.as_slice()).ok()?;
+    Some(usize::from(first))
+}
+
+/// The sum of the first bytes of the hashes of the values.
+fn value_hashes(values: &[Vec<u8>]) -> usize {
+    let mut sum: usize = 0;
+    for value in values {
+        let [first, ..] = keccak256(value.as_slice());
+        sum = sum.wrapping_add(usize::from(first));
+    }
+    sum
 }

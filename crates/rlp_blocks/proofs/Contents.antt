@@ -1,16 +1,16 @@
 -- What a key signs for one purpose is not signed for another.
-use Rattle.std.proofs.Common.{ℕ, ⊎_elim, ◌&&◌, ◌*◌, ◌++◌, ◌+◌, ◌<◌, ◌^◌, ◌∙◌, ◌∷◌, ◌≡◌, ◌≢◌, ◌≤◌, ◌⊎◌, Bool, IsTrue, List, None, Option, Some, [], ap, arith, false, inl, inr, length, ltb-true, nat_lt, refl, sym, true}
+use Rattle.std.proofs.Common.{ℕ, ⊎_elim, ◌&&◌, ◌*◌, ◌++◌, ◌<◌, ◌^◌, ◌∙◌, ◌∷◌, ◌≡◌, ◌≢◌, ◌⊎◌, Bool, IsTrue, List, None, Option, Some, [], ap, arith, false, inl, inr, length, refl, sym, true}
 use Rattle.std.proofs.{lemmas.Bool.Decides.nat_tests, lemmas.Slice.Eq.bytes_eq-Decides}
 use Rattle.std.specs.{Cmp.Lexicographic.slice_cmp, Ordering.{is_lt, nat_cmp}, Str.bytes_eq, Vec.vec_items}
 use Rattle.rlp_format.proofs.Lemmas.Encodings.{first_of_header, list_written, listed_from}
 use Rattle.rlp_reading.proofs.{Lemmas.Items.{encoding_same}, GroupLaws.{groups_counted}}
-use Rattle.rlp.specs.{Format.Encoding.{IsSized, Item, Items, encoding, items_from, list, list_of, listed, string}, Values.Value.{all_items, items_if, number_item}}
-use Rattle.rlp_records.specs.{Keccak.keccak256, OtherEnvelope.{IsOther, authorization_magic, is_other_type, other_type}}
+use Rattle.rlp.specs.{Format.Encoding.{IsSized, Item, encoding, items_from, list_of, listed, string}, Values.Value.{all_items, items_if, number_item}}
+use Rattle.rlp_records.specs.{Keccak.keccak256, OtherEnvelope.{IsOther, is_other_type, other_type}}
 use Rattle.rlp_transactions.proofs.Signing.{one_meaning}
-use Rattle.rlp_transactions.specs.{LegacyTransaction.{chain_fields, legacy_transaction_fields}, Signing.{FitsSigning, Signable, a_transaction, an_authorization, signed_bytes}}
+use Rattle.rlp_transactions.specs.{LegacyTransaction.{chain_fields, legacy_transaction_fields}, Signing.{Signable, a_transaction, an_authorization, signed_bytes}}
 use Rattle.rlp_transactions.specs.declared.legacy_transaction.LegacyTransaction.{LegacyTransaction}
 use Rattle.rlp_transactions.specs.declared.unsigned_transaction.UnsignedTransaction.TheVariants.{AccessList, Blob, FeeMarket, Legacy, SetCode}
-use Rattle.rlp_node_record.specs.{NodeFields.{pair_fields, signed_item}, NodeRecord.{AreInOrder, IsNodeRecord, keys_of, keys_rise}}
+use Rattle.rlp_node_record.specs.{NodeFields.{pair_fields, signed_item}, NodeRecord.{AreInOrder, IsNodeRecord}}
 use Rattle.rlp_node_record.specs.{declared.node_fields.NodeFields.NodeFields, declared.node_fields.NodePair.NodePair}
 use Rattle.rlp_blocks.specs.SignedContent.{AreCollision, FitsContent, MeanTheSame, SignedContent, content_bytes, of_account, of_message, of_node, of_other}
 
@@ -153,7 +153,8 @@ one_content (of_message m) (of_message n) fit fits short same = cc
 
 -- ---- by hashes
 
-bytes_same_or_not : (a b : List ℕ) → (a ≡ b) ⊎ (a ≢ b)
+-- two byte strings are equal or not
+pub bytes_same_or_not : (a b : List ℕ) → (a ≡ b) ⊎ (a ≢ b)
 bytes_same_or_not a b = decided (bytes_eq a b) refl
   where
     decided : (t : Bool) → bytes_eq a b ≡ t → (a ≡ b) ⊎ (a ≢ b)

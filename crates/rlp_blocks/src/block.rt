@@ -6,7 +6,7 @@ ghost use Rattle.rlp_reading.specs.Form.{Faults};
 ghost use Rattle.rlp_records.specs.{Alone.{bytes_alone}, Hashing.{AreHashesOf, IsHashOf}};
 ghost use Rattle.rlp_headers.specs.Header.{header};
 ghost use Rattle.rlp_transactions.specs.Transaction.{any_transaction};
-ghost use Rattle.rlp_blocks.specs.{Block.{block, body}, declared.block.Block.Block, declared.block.Body.Body};
+ghost use Rattle.rlp_blocks.specs.{Block.{block, block_of, body}, declared.block.Block.Block, declared.block.Body.Body};
 
 use crate::hashes::{hash_at, hashes_at};
 use rlp::{
@@ -110,6 +110,18 @@ impl Block {
             transactions,
         };
         Ok((block, hashes))
+    }
+
+    /// Returns the header and the body.
+    pub fn into_parts(self) -> (Header, Body)
+        ensures { block_of result.0 result.1 ≡ self }
+    {
+        let body = Body {
+            transactions: self.transactions,
+            ommers: self.ommers,
+            withdrawals: self.withdrawals,
+        };
+        (self.header, body)
     }
 }
 

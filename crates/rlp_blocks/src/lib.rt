@@ -2,7 +2,11 @@
 #![tactic(auto)]
 
 mod block;
+mod bound;
 mod hashes;
 pub mod laws;
+mod roots;
 
 pub use block::{Block, BlockHashes, Body};
+pub use bound::{BlockFault, BoundBlock};
+pub use roots::{BodyFault, BodyRoots};

@@ -2,8 +2,8 @@
 
 use crate::kinds::both_ways;
 use crate::{
-    direct, fields, hashes, messages, node_records, nodes, places, read_hashes, reading,
-    transactions, uses,
+    bound, direct, fields, hashes, light, messages, node_records, nodes, places, read_hashes,
+    reading, roots, transactions, uses,
 };
 use rlp::DecoderError;
 use std::alloc::Global;
@@ -15,6 +15,11 @@ use std::alloc::Global;
 pub fn answer(alloc: Global, call: &str, given: &str) -> Result<String, DecoderError> {
     match call.split_once(": ") {
         None if call == "proof" => nodes::proof(alloc, given),
+        None if call == "item" => roots::item(alloc, given),
+        None if call == "balance" => light::tell_balance(alloc, given),
+        None if call == "state" => light::tell_state(alloc, given),
+        None if call == "state account" => light::tell_proved(alloc, given),
+        None if call == "state slot" => light::tell_slot(alloc, given),
         Some(("node record", "of the text")) => node_records::of_text(alloc, given),
         Some(("offset", name)) => messages::offset(alloc, name, given),
         _ => about_bytes(alloc, call, bytes_of(alloc, given)?.as_slice()),
@@ -36,9 +41,11 @@ fn about_bytes(alloc: Global, call: &str, bytes: &[u8]) -> Result<String, Decode
         "account" => uses::tell_account(alloc, bytes),
         "address" => hashes::address(alloc, name, bytes),
         "at most" => reading::bounded(alloc, name, bytes),
+        "bound" => bound::answer(alloc, name, bytes),
         "direct" => direct::answer(alloc, name, bytes),
         "fields" => fields::answer(alloc, name, bytes),
         "hash" => hashes::answer(alloc, name, bytes),
+        "index" => light::tell_index(alloc, bytes),
         "number" => messages::number(alloc, name, bytes),
         "node" => nodes::answer(alloc, name, bytes),
         "node record" => node_records::answer(alloc, name, bytes),
@@ -48,6 +55,7 @@ fn about_bytes(alloc: Global, call: &str, bytes: &[u8]) -> Result<String, Decode
         "payment" => transactions::made(alloc),
         "headers from" => messages::headers_from(alloc, bytes),
         "read hash" => read_hashes::answer(alloc, name, bytes),
+        "root" => roots::answer(alloc, name, bytes),
         "signing" => transactions::signing(alloc, name, bytes),
         _ => both_ways(alloc, call, bytes),
     }

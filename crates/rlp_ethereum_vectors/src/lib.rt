@@ -4,16 +4,19 @@
 #![tactic(auto)]
 
 mod answers;
+mod bound;
 mod direct;
 mod fields;
 mod hashes;
 mod kinds;
+mod light;
 mod messages;
 mod node_records;
 mod nodes;
 mod places;
 mod read_hashes;
 mod reading;
+mod roots;
 mod transactions;
 mod uses;
 

@@ -3,6 +3,7 @@
 use crate::answers::bytes_of;
 use crate::fields::text;
 use crate::reading::item;
+use crate::roots::told;
 use rlp::{DecoderError, Encodable, RawItem};
 use rlp_records::Hash;
 use rlp_trie::{
@@ -114,9 +115,8 @@ pub(crate) fn proof(alloc: Global, given: &str) -> Result<String, DecoderError> 
     let Ok(root) = <[u8; 32]>::try_from(root.as_slice()) else {
         return Err(DecoderError::Custom("no root"));
     };
-    match verify_proof(alloc, &Hash(root), key.as_slice(), nodes) {
-        Ok(Some(value)) => Ok(format!(in alloc; "= {:?}", Hex(value.as_slice()))?),
-        Ok(None) => Ok(String::from_str(alloc, "none")?),
-        Err(fault) => Ok(format!(in alloc; "{fault}")?),
-    }
+    told(
+        alloc,
+        verify_proof(alloc, &Hash(root), key.as_slice(), nodes),
+    )
 }

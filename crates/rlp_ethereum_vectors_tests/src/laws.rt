@@ -3,7 +3,7 @@
 
 use rlp::StrictRead;
 use rlp_blocks::Block;
-use rlp_blocks::laws::no_content_is_signed_for_two_meanings;
+use rlp_blocks::laws::{blocks_are_told, no_content_is_signed_for_two_meanings};
 use rlp_headers::laws::bytes_tell_receipts;
 use rlp_headers::{Account, AnyReceipt, Header, Withdrawal};
 use rlp_messages::{Eth68Message, Eth69Message};
@@ -26,12 +26,17 @@ use rlp_show::laws::{
     only_nodes_are_shown, only_receipts_are_shown, only_transactions_are_shown, receipts_are_shown,
     shown_values_are_told_apart, transactions_are_shown, unsigned_transactions_are_shown,
 };
+use rlp_state::laws::{slots_agree, states_agree, values_have_own_faults};
+use rlp_stream::laws::{faults_go_by_framing, items_are_read};
 use rlp_transactions::laws::{
     bytes_tell_transactions, no_bytes_are_signed_for_two_meanings,
     signed_transactions_are_no_signing_payloads,
 };
 use rlp_transactions::{AccessList, AnyTransaction};
-use rlp_trie::laws::paths_have_one_value;
+use rlp_trie::laws::{
+    paths_have_one_value, places_have_proofs, proofs_agree, roots_tell_lists, slices_are_listed,
+    trie_has_its_values,
+};
 use rlp_vectors::rows::bytes_of;
 use std::alloc::Global;
 use std::test::Fail;
@@ -108,6 +113,7 @@ fn laws_hold_of_records(rt: HostRuntime) -> Result<(), Fail> {
     assert!(rt; sent == consensus);
     no_bytes_are_signed_for_two_meanings();
     no_content_is_signed_for_two_meanings();
+    blocks_are_told();
     signed_transactions_are_no_signing_payloads();
     Ok(())
 }
@@ -116,6 +122,16 @@ fn laws_hold_of_records(rt: HostRuntime) -> Result<(), Fail> {
 fn laws_hold_of_nodes(rt: HostRuntime) -> Result<(), Fail> {
     let alloc = rt.alloc();
     paths_have_one_value();
+    trie_has_its_values();
+    places_have_proofs();
+    roots_tell_lists();
+    proofs_agree();
+    states_agree();
+    values_have_own_faults();
+    slots_agree();
+    items_are_read();
+    faults_go_by_framing();
+    slices_are_listed(&[b"cat".as_slice(), b"dog".as_slice()]);
     let node = NodeRecord::from_text(alloc, NODE)?;
     let back = node_text_round_trips(alloc, &node)?;
     assert!(rt; back.fields() == node.fields());

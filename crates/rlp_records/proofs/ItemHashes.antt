@@ -6,7 +6,7 @@ use Rattle.rlp_reading.specs.{Form.{Fault, and_then, here, map_value, read_each,
 use Rattle.rlp_reading.proofs.{Lemmas.StringsHeld.{held_begins, held_only}, Lemmas.Views.front_kind, ListLaws.{held_itself, held_sized, items_sized, list_held}}
 use Rattle.rlp_reading.proofs.RawLaws.{view_frame-held}
 use Rattle.rlp_keccak.specs.Keccak.{keccak256}
-use Rattle.rlp_records.specs.{Alone.bytes_alone, Hashing.{IsHashOf, alone_of, hash_of, hashes_of}, declared.hash.Hash.Hash}
+use Rattle.rlp_records.specs.{Alone.bytes_alone, Hashing.{IsHashOf, alone_of, hash_of, hashes_of, values_of}, declared.hash.Hash.Hash}
 
 kind_held : (v : View) (x : Item) → length v.bytes < 2 ^ 64 → HoldsItem v x → begins_as_list v.bytes ≡ is_list x
 kind_held v x short holds = front_kind x v.bytes (held_sized v.is_strict v.bytes x short holds) (held_begins v x holds)
@@ -51,3 +51,17 @@ pub hashes_held : (v : View) (xs : List Item) → length v.bytes < 2 ^ 64 → Ho
 hashes_held v xs short holds =
     ap (λ r. and_then r (λ vs. (read_each (λ item. here (hash_of item)) (length vs) vs).result)) (list_held v.is_strict v.bytes xs short holds)
     ∙ each_hashed v.is_strict (length (views_of v.is_strict xs)) xs (items_sized v.is_strict v.bytes xs short holds)
+
+each_alone : (is_strict : Bool) (n : ℕ) (xs : List Item) → AllByRecursion IsSized xs
+    → (read_each (λ item. here (alone_of item)) n (views_of is_strict xs)).result ≡ Ok (map bytes_alone xs)
+each_alone is_strict n [] sized = refl
+each_alone is_strict n (x ∷ xs) (one, sized) =
+    let first = alone_held (viewed is_strict (encoding x)) x one (held_itself is_strict (encoding x)) in
+    let others = each_alone is_strict n xs sized in
+    grind arith
+
+-- a view of a list has the bytes of the items of the list
+pub values_held : (v : View) (xs : List Item) → length v.bytes < 2 ^ 64 → HoldsItem v (list_of xs) → values_of v ≡ Ok (map bytes_alone xs)
+values_held v xs short holds =
+    ap (λ r. and_then r (λ vs. (read_each (λ item. here (alone_of item)) (length vs) vs).result)) (list_held v.is_strict v.bytes xs short holds)
+    ∙ each_alone v.is_strict (length (views_of v.is_strict xs)) xs (items_sized v.is_strict v.bytes xs short holds)

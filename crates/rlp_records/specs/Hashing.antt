@@ -24,3 +24,7 @@ hash_of v = map_value keccak256 (alone_of v)
 -- the hashes of the items of a view that is read as a list, in order, or the fault of the first item that has none
 abbrev pub hashes_of : View → Result (List (List ℕ)) Fault
 hashes_of v = and_then (list_of_views v) (λ vs. (read_each (λ item. here (hash_of item)) (length vs) vs).result)
+
+-- the bytes of the items of a view that is read as a list, in order, each by itself, or the fault of the first item that has none
+abbrev pub values_of : View → Result (List (List ℕ)) Fault
+values_of v = and_then (list_of_views v) (λ vs. (read_each (λ item. here (alone_of item)) (length vs) vs).result)

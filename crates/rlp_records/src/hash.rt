@@ -1,9 +1,9 @@
 //! Hashes: strings of 32 bytes.
 
-ghost use Rattle.std.specs.Prelude.{◌≡◌, ◌⊎◌, Err, IfErr, IfOk, IsTrue, Ok, OnOk, map};
+ghost use Rattle.std.specs.{Prelude.{◌≡◌, ◌⊎◌, ℕ, Err, IfErr, IfOk, IsTrue, List, Ok, OnOk, map}, Borrow.Bor};
 ghost use Rattle.rlp.specs.{DecoderError.TheVariants.OutOfMemory, Format.Encoding.encoding, Views.View.strict_view_of};
 ghost use Rattle.rlp_reading.specs.Form.{Faults, fault_of};
-ghost use Rattle.rlp_records.specs.{Alone.bytes_alone, Hash.hash, Hashing.{IsHashOf, hash_of, hashes_of}};
+ghost use Rattle.rlp_records.specs.{Alone.bytes_alone, Hash.hash, Hashing.{IsHashOf, alone_of, hash_of, hashes_of, values_of}};
 
 use crate::keccak256;
 use rlp::{DecoderError, Encodable, Fields, Record, Rlp, RlpStream, StrictRead};
@@ -85,13 +85,20 @@ pub fn item_hash(rlp: &Rlp<'_>) -> Result<Hash, DecoderError>
     ensures hash { IfOk result (λ h. hash_of rlp.now ≡ Ok h.0) }
     ensures fault { IfErr result (λ e. hash_of rlp.now ≡ Err (fault_of e)) }
 {
-    let bytes = if rlp.is_list() {
-        let (item, _) = rlp.split_first()?;
-        item.as_raw()
-    } else {
-        rlp.decoder().string()?
-    };
+    let bytes = alone(rlp)?;
     Ok(Hash(keccak256(bytes)))
+}
+
+/// The bytes of the item that a view begins with, as it stands alone.
+fn alone<'a>(rlp: &Rlp<'a>) -> Result<&'a [u8], DecoderError>
+    ensures bytes { IfOk result (λ bytes. alone_of rlp.now ≡ Ok bytes.now) }
+    ensures fault { IfErr result (λ e. alone_of rlp.now ≡ Err (fault_of e)) }
+{
+    if rlp.is_list() {
+        let (item, _) = rlp.split_first()?;
+        return Ok(item.as_raw());
+    }
+    rlp.decoder().string()
 }
 
 /// Returns the hash of each item of a view that is read as a list, in order, as [`item_hash`]
@@ -111,4 +118,24 @@ pub fn item_hashes(alloc: Global, rlp: &Rlp<'_>) -> Result<Vec<Hash>, DecoderErr
         hashes.push(hash)?;
     }
     Ok(hashes)
+}
+
+/// Returns the bytes of each item of a view that is read as a list, in order, as the item stands
+/// alone: of a list with its header, or of a string without one. [`item_hashes`] returns the hashes
+/// of these bytes. Nothing is copied.
+///
+/// Fails as [`item_hashes`] does.
+#[tactic(auto, using(rlp_reading::proofs::ListLaws::pushed, rlp_reading::proofs::ListLaws::all_pushed))]
+pub fn item_values<'a>(alloc: Global, rlp: &Rlp<'a>) -> Result<Vec<&'a [u8]>, DecoderError>
+    ensures values { IfOk result
+        (λ values. values_of rlp.now ≡ Ok (map (λ (s : Bor (List ℕ)). s.now) values.items)) }
+    ensures fault { IfErr result (λ e. (values_of rlp.now ≡ Err (fault_of e)) ⊎ (e ≡ OutOfMemory)) }
+{
+    let mut items = Fields::of_list(rlp)?;
+    let mut values = Vec::new(alloc);
+    while let Some(item) = items.next() {
+        let value = alone(&item)?;
+        values.push(value)?;
+    }
+    Ok(values)
 }

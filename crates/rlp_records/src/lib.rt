@@ -21,7 +21,7 @@ pub use envelope::{
     from_envelope, to_envelope, typed_list,
 };
 pub use enveloped::Enveloped;
-pub use hash::{Hash, decode_with_hash, encoding_hash, item_hash, item_hashes};
+pub use hash::{Hash, decode_with_hash, encoding_hash, item_hash, item_hashes, item_values};
 pub use known_or_other::KnownOrOther;
 pub use other_envelope::OtherEnvelope;
 pub use rlp_keccak::keccak256;

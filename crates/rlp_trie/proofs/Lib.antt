@@ -1,4 +1,13 @@
+pub mod Collisions
+pub mod EmptyRoot
+pub mod Keys
+pub mod Made
+pub mod NodeSizes
+pub mod NodeValues
 pub mod OneValue
+pub mod OrderedLemmas
+pub mod PairLemmas
 pub mod PathLemmas
 pub mod StepLemmas
 pub mod WalkLemmas
+pub mod OrderedBodies

@@ -31,7 +31,7 @@ module _ {A P : Type 0} (value : ℕ → P → A) (c : Codec A) (more : Fields P
       subst (λ i. c.Fits (value i p)) (let same : suc k + j ≡ k + suc j = omega arith in same) (each_fit_at n (suc k) j (omega (arith, few)) fit.1)
 
 -- what comes after the sixteen places
-abbrev last_field : Fields Branch
+abbrev pub last_field : Fields Branch
 last_field = field (λ (b : Branch). b.value) (byte_string vec_items) end
 
 child_of_place : (b : Branch) (nibble : ℕ) → nibble < 16 → get_or (branch_fields.items b) nibble (string []) ≡ place_item (child_at nibble b).0

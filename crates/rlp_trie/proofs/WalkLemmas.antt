@@ -9,7 +9,7 @@ use Rattle.rlp_records.specs.Keccak.{keccak256}
 use Rattle.rlp_trie.proofs.StepLemmas.{same_step, step_rest}
 use Rattle.rlp_trie.specs.{Child.child_item, EmptyStringLaws.empty_string, HexPrefix.AreNibbles, declared.trie_node.TrieNode.{TrieNode}}
 use Rattle.rlp_trie.specs.{Lookup.{Encodes, HasValue, StandsFor, by_hash, ends, ends_here, goes, in_parent, leads_on, step}, Next.{Agrees, IsEnd, read_fault}}
-use Rattle.rlp_trie.specs.ProofWalk.{IsKnown, IsNoNode, IsSameKind, IsUnread, TakesNode, Walk, ends_at_last, ends_early, next_node, next_unread, no_next, stops, unread, walks_on}
+use Rattle.rlp_trie.specs.ProofWalk.{IsKnown, IsNoNode, IsSameKind, IsUnread, TakesNode, Walk, ends_at_last, ends_early, next_node, next_unread, no_next, stops, unless_repeated, unread, walks_on}
 use Rattle.rlp_trie.specs.{TrieNode.node_item, TrieNodeLaws.trie_node, declared.child.Child.Child, declared.inline_node.InlineNode.InlineNode}
 use Rattle.rlp_trie.specs.{declared.proof.ProofFault.{ProofFault}, declared.proof.ProofFault.TheVariants.{FaultyNode, MissingNode, NodesLeft, OtherHash, OutOfMemory}}
 use Rattle.rlp.specs.DecoderError.TheVariants as decoder
@@ -45,17 +45,17 @@ taken_if t b left e = if t then Ok (b, left) else Err e
 -- ---- the next node
 
 next_kept : (x : Item) (b : List ℕ) (nodes : List (List ℕ)) → length b < 2 ^ 64 → begins_as_list b ≡ true → encoding x ≡ b
-    → next_node x nodes ≡ Ok (b, nodes)
+    → next_node x nodes ≡ Ok (b, unless_repeated b nodes)
 next_kept (string d) b nodes fits kind same = let other = string_kind b d fits (sym same) in cc
-next_kept (list xs) b nodes fits kind same = ap (λ (c : List ℕ). Ok (c, nodes)) same
+next_kept (list xs) b nodes fits kind same = ap (λ (c : List ℕ). Ok (c, unless_repeated c nodes)) same
 
 -- a node that is kept in its parent is its own encoding
 pub inline_next : (c : Child) (inline : InlineNode) (b : List ℕ) (nodes : List (List ℕ)) → c ≡ child.Inline inline → b ≡ inline.item
-    → encoding (raw_item_of inline.item) ≡ inline.item → next_node (child_item c) nodes ≡ Ok (b, nodes)
+    → encoding (raw_item_of inline.item) ≡ inline.item → next_node (child_item c) nodes ≡ Ok (b, unless_repeated b nodes)
 inline_next c inline b nodes is same written =
     ap (λ (c : Child). next_node (child_item c) nodes) is
     ∙ next_kept (raw_item_of inline.item) inline.item nodes (let fits : length inline.item < 2 ^ 64 = omega (arith, inline.is_short) in fits) inline.is_list written
-    ∙ ap (λ (c : List ℕ). Ok (c, nodes)) (sym same)
+    ∙ ap (λ (c : List ℕ). Ok (c, unless_repeated c nodes)) (sym same)
 
 -- with no node left, only the hash of the empty trie stands for one
 pub no_next_of : (h : List ℕ) (nodes : List (Vec ℕ)) → length nodes < 1 → bytes_eq h (keccak256 (0x80 ∷ [])) ≡ false
@@ -251,11 +251,20 @@ named_stands all left others h b c e true known tested is =
     let (same, lefts) = one_ok (Ok (c, others)) c b others left refl is in
     (subst (λ d. StandsFor (IsKnown all) (string h) d) same (by_hash h c known ((bytes_eq-Decides h (keccak256 c)).0 tested)), lefts)
 
+among_left : (all nodes : List (List ℕ)) (kept : List ℕ) → AreAmong nodes all → AreAmong (unless_repeated kept nodes) all
+among_left all [] kept among = among
+among_left all (c ∷ more) kept among = by (bytes_eq c kept)
+  where
+    by : (t : Bool) → AreAmong (if t then more else c ∷ more) all
+    by true = λ x held. among x (Contains-append_right (c ∷ []) more x held)
+    by false = among
+
 next_stands : (all nodes left : List (List ℕ)) (reference : Item) (b : List ℕ) → AreAmong nodes all → next_node reference nodes ≡ Ok (b, left)
     → StandsFor (IsKnown all) reference b × AreAmong left all
 next_stands all nodes left (list xs) b among is =
-    let (same, lefts) = one_ok (Ok (encoding (list xs), nodes)) (encoding (list xs)) b nodes left refl is in
-    (subst (λ c. StandsFor (IsKnown all) (list xs) c) same (in_parent xs), subst (λ xs. AreAmong xs all) lefts among)
+    let kept = encoding (list xs) in
+    let (same, lefts) = one_ok (Ok (kept, unless_repeated kept nodes)) kept b (unless_repeated kept nodes) left refl is in
+    (subst (λ c. StandsFor (IsKnown all) (list xs) c) same (in_parent xs), subst (λ xs. AreAmong xs all) lefts (among_left all nodes kept among))
 next_stands all [] left (string h) b among is =
     let (stands, lefts) =
     named_stands all left [] h b (encoding (string [])) MissingNode (bytes_eq h (keccak256 (encoding (string [])))) (inr refl) refl is in

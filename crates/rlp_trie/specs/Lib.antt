@@ -1,12 +1,16 @@
 pub mod BranchChild
 pub mod BranchChildLaws
+pub mod BufferValues
 pub mod Child
 pub mod ChildLaws
 pub mod EmptyStringLaws
 pub mod HexPrefix
 pub mod Inline
+pub mod Listed
 pub mod Lookup
 pub mod Next
+pub mod Ordered
+pub mod OrderedPairs
 pub mod PathLaws
 pub mod Possible
 pub mod ProofWalk

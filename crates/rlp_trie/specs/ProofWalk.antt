@@ -21,10 +21,15 @@ IsKnown nodes b = Contains nodes b ⊎ (b ≡ encoding (string []))
 abbrev pub TellApart : (List ℕ → Type 0) → (List ℕ → Type 0) → Type 0
 TellApart Known Other = (b c : List ℕ) → Known b → Other c → keccak256 b ≡ keccak256 c → b ≡ c
 
--- The encoding of the node that a reference stands for, and the nodes of a proof that are left, or why the proof has no such encoding. A list is the node itself. A
--- string is the hash of the next node of the proof, except for the hash of the empty trie, which needs no node.
+-- the nodes of a proof, without the first if it repeats a node that is kept in its parent
+abbrev pub unless_repeated : List ℕ → List (List ℕ) → List (List ℕ)
+unless_repeated kept [] = []
+unless_repeated kept (b ∷ left) = if bytes_eq b kept then left else b ∷ left
+
+-- The encoding of the node that a reference stands for, and the nodes of a proof that are left, or why the proof has no such encoding. A list is the node itself,
+-- which the next node of the proof may repeat. A string is the hash of the next node of the proof, except for the hash of the empty trie, which needs no node.
 abbrev pub next_node : Item → List (List ℕ) → Result (List ℕ × List (List ℕ)) ProofFault
-next_node (list xs) nodes = Ok (encoding (list xs), nodes)
+next_node (list xs) nodes = Ok (encoding (list xs), unless_repeated (encoding (list xs)) nodes)
 next_node (string h) [] = if bytes_eq h (keccak256 (encoding (string []))) then Ok (encoding (string []), []) else Err MissingNode
 next_node (string h) (b ∷ left) = if bytes_eq h (keccak256 b) then Ok (b, left) else Err OtherHash
 

@@ -4,7 +4,7 @@ ghost use Rattle.std.specs.{Prelude.{ℕ, ◌<◌, ◌≡◌, ◌⊎◌, Err, If
 ghost use Rattle.rlp.specs.Format.Encoding.{string};
 ghost use Rattle.rlp_records.specs.Keccak.{keccak256};
 ghost use Rattle.rlp_trie.specs.{Child.child_item, HexPrefix.{AreNibbles, path_nibbles}, Lookup.{Encodes, extension_step, place_step, step}, Next.{Agrees, IsEnd, next_step, read_fault}};
-ghost use Rattle.rlp_trie.specs.{ProofWalk.{IsNoNode, IsUnread, TakesNode, Walk, next_node}, Trie.child_at, declared.proof.ProofFault.TheVariants.OutOfMemory};
+ghost use Rattle.rlp_trie.specs.{ProofWalk.{IsNoNode, IsUnread, TakesNode, Walk, next_node, unless_repeated}, Trie.child_at, declared.proof.ProofFault.TheVariants.OutOfMemory};
 
 use crate::{Branch, BranchChild, Child, Extension, Leaf, ProofFault, TrieNode};
 use rlp::{DecoderError, NULL_RLP};
@@ -62,7 +62,20 @@ fn take_node<'a>(
             let (bytes, left) = next_named(hash, nodes)?;
             Ok((read_node(alloc, bytes)?, left))
         }
-        Child::Inline(inline) => Ok((read_node(alloc, inline.item.as_bytes())?, nodes)),
+        Child::Inline(inline) => {
+            let bytes = inline.item.as_bytes();
+            Ok((read_node(alloc, bytes)?, unless_repeated(bytes, nodes)))
+        }
+    }
+}
+
+/// Returns the nodes of a proof, without the first if it repeats a node that is kept in its parent.
+fn unless_repeated<'a>(kept: &[u8], nodes: &'a [Vec<u8>]) -> &'a [Vec<u8>]
+    ensures { map vec_items result.now ≡ unless_repeated kept.now (map vec_items nodes.now) }
+{
+    match nodes {
+        [next, left @ ..] if next.as_slice() == kept => left,
+        _ => nodes,
     }
 }
 

@@ -1,0 +1,24 @@
+-- The hashes of no bytes, of the encoding of the empty list, and of the encoding of the empty trie.
+use Rattle.std.proofs.Common.{◌≡◌, ◌∙◌, ℕ, List, [], ◌∷◌, ap, refl, sym}
+use Rattle.rlp.specs.Format.Encoding.{big_endian, encoding, join_items, list_of, string, written_header}
+use Rattle.rlp_records.specs.Keccak.{theta, rho, pi, chi, register, round_constant, iota, round, rounds, bytes_of_lanes, padding, absorb, absorbed, keccak256}
+use Rattle.rlp_trie.specs.Ordered.{ordered_root}
+use Rattle.rlp_trie.proofs.NodeValues.{node_none}
+
+pub code_is : 0xc5 ∷ 0xd2 ∷ 0x46 ∷ 0x01 ∷ 0x86 ∷ 0xf7 ∷ 0x23 ∷ 0x3c ∷ 0x92 ∷ 0x7e ∷ 0x7d ∷ 0xb2 ∷ 0xdc ∷ 0xc7 ∷ 0x03 ∷ 0xc0 ∷ 0xe5 ∷ 0x00 ∷ 0xb6 ∷ 0x53 ∷ 0xca ∷ 0x82 ∷ 0x27 ∷ 0x3b ∷ 0x7b ∷ 0xfa ∷ 0xd8 ∷ 0x04 ∷ 0x5d ∷ 0x85 ∷ 0xa4 ∷ 0x70 ∷ [] ≡ keccak256 []
+unfolding theta rho pi chi register round_constant iota round rounds bytes_of_lanes padding absorb absorbed keccak256
+code_is = refl
+
+list_hash : 0x1d ∷ 0xcc ∷ 0x4d ∷ 0xe8 ∷ 0xde ∷ 0xc7 ∷ 0x5d ∷ 0x7a ∷ 0xab ∷ 0x85 ∷ 0xb5 ∷ 0x67 ∷ 0xb6 ∷ 0xcc ∷ 0xd4 ∷ 0x1a ∷ 0xd3 ∷ 0x12 ∷ 0x45 ∷ 0x1b ∷ 0x94 ∷ 0x8a ∷ 0x74 ∷ 0x13 ∷ 0xf0 ∷ 0xa1 ∷ 0x42 ∷ 0xfd ∷ 0x40 ∷ 0xd4 ∷ 0x93 ∷ 0x47 ∷ [] ≡ keccak256 (0xc0 ∷ [])
+unfolding theta rho pi chi register round_constant iota round rounds bytes_of_lanes padding absorb absorbed keccak256
+list_hash = refl
+
+empty_list : encoding (list_of []) ≡ 0xc0 ∷ []
+unfolding encoding written_header big_endian join_items
+empty_list = refl
+
+pub ommers_is : 0x1d ∷ 0xcc ∷ 0x4d ∷ 0xe8 ∷ 0xde ∷ 0xc7 ∷ 0x5d ∷ 0x7a ∷ 0xab ∷ 0x85 ∷ 0xb5 ∷ 0x67 ∷ 0xb6 ∷ 0xcc ∷ 0xd4 ∷ 0x1a ∷ 0xd3 ∷ 0x12 ∷ 0x45 ∷ 0x1b ∷ 0x94 ∷ 0x8a ∷ 0x74 ∷ 0x13 ∷ 0xf0 ∷ 0xa1 ∷ 0x42 ∷ 0xfd ∷ 0x40 ∷ 0xd4 ∷ 0x93 ∷ 0x47 ∷ [] ≡ keccak256 (encoding (list_of []))
+ommers_is = list_hash ∙ ap keccak256 (sym empty_list)
+
+pub storage_is : (h : List ℕ) → h ≡ ordered_root [] → h ≡ keccak256 (encoding (string []))
+storage_is h is = is ∙ ap (λ x. keccak256 (encoding x)) (node_none 19)

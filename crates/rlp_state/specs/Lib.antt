@@ -1,0 +1,4 @@
+pub mod Agreement
+pub mod Faults
+pub mod State
+pub mod StateProofs
