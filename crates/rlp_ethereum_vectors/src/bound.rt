@@ -6,8 +6,8 @@ use rlp_records::Hash;
 use rlp_vectors::rows::Hex;
 use std::alloc::Global;
 
-/// Returns what is said of a block: the digits of its hash and of the hashes of its transactions,
-/// or the fault. The bytes are the encoding of the block, and `by hash` the hash before it.
+/// Returns the digits of the hash of a block and of the hashes of its transactions, or the fault.
+/// The bytes are the encoding of the block; for `by hash` the hash stands before it.
 pub(crate) fn answer(alloc: Global, name: &str, bytes: &[u8]) -> Result<String, DecoderError> {
     match name {
         "made" => made(alloc, rlp::decode_strict(alloc, bytes)?),
@@ -16,7 +16,7 @@ pub(crate) fn answer(alloc: Global, name: &str, bytes: &[u8]) -> Result<String, 
     }
 }
 
-/// Returns what is said of a block of a header and a body.
+/// Makes a block of a header and a body, and returns its hashes, or the fault.
 fn made(alloc: Global, block: Block) -> Result<String, DecoderError> {
     let (header, body) = block.into_parts();
     match BoundBlock::new(alloc, header, body) {
@@ -26,7 +26,7 @@ fn made(alloc: Global, block: Block) -> Result<String, DecoderError> {
     }
 }
 
-/// Returns what is said of the block with a hash.
+/// Reads the block with the hash that stands before it, and returns its hashes, or the fault.
 fn by_hash(alloc: Global, bytes: &[u8]) -> Result<String, DecoderError> {
     if bytes.len() < 32 {
         return Err(DecoderError::RlpIsTooShort);
@@ -38,7 +38,7 @@ fn by_hash(alloc: Global, bytes: &[u8]) -> Result<String, DecoderError> {
     }
 }
 
-/// Returns what is said of a block, or of its fault.
+/// Returns the hashes of a block that was read, or the fault.
 fn told(alloc: Global, given: Result<BoundBlock, BlockFault>) -> Result<String, DecoderError> {
     match given {
         Ok(block) => hashes(alloc, &block),

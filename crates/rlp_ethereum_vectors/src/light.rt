@@ -106,7 +106,7 @@ fn array<const N: usize>(bytes: &[u8]) -> Result<[u8; N], DecoderError> {
     }
 }
 
-/// Returns what is said of the balance of an account, for a hash, a block, an address and nodes.
+/// Returns the balance of an account, or the fault, for a hash, a block, an address and nodes.
 pub(crate) fn tell_balance(alloc: Global, given: &str) -> Result<String, DecoderError> {
     let parts = parts_of(alloc, given)?;
     let [hash, block, address, nodes @ ..] = parts.as_slice() else {
@@ -121,7 +121,7 @@ pub(crate) fn tell_balance(alloc: Global, given: &str) -> Result<String, Decoder
     }
 }
 
-/// Returns what is said of an account, for a root, an address and nodes.
+/// Returns an account, or the fault, for a root, an address and nodes.
 pub(crate) fn tell_proved(alloc: Global, given: &str) -> Result<String, DecoderError> {
     let parts = parts_of(alloc, given)?;
     let [root, address, nodes @ ..] = parts.as_slice() else {
@@ -146,7 +146,7 @@ fn account_text(alloc: Global, account: &Option<Account>) -> Result<String, Deco
     }
 }
 
-/// Returns what is said of a slot, for a root, the slot and nodes.
+/// Returns the number in a slot, or the fault, for a root, the slot and nodes.
 pub(crate) fn tell_slot(alloc: Global, given: &str) -> Result<String, DecoderError> {
     let parts = parts_of(alloc, given)?;
     let [root, slot, nodes @ ..] = parts.as_slice() else {
@@ -159,8 +159,8 @@ pub(crate) fn tell_slot(alloc: Global, given: &str) -> Result<String, DecoderErr
     }
 }
 
-/// Returns what is said of an account and of slots of its storage, for a root, an address and
-/// nodes, and behind each ` / ` a slot and nodes.
+/// Returns an account and the numbers in slots of its storage, or the fault, for a root, an address
+/// and nodes, and behind each ` / ` a slot and nodes.
 pub(crate) fn tell_state(alloc: Global, given: &str) -> Result<String, DecoderError> {
     let mut groups = Vec::new(alloc);
     for group in given.split(" / ") {
